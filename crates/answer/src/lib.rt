@@ -1,0 +1,1 @@
+// Answers and orders of refusals: definitions in specs/, laws in proofs/.

@@ -1,0 +1,64 @@
+-- The field law, over the width, the offset and the layout: what is put is read back, and what is read and put again are the same bits.
+-- Assumes nothing.
+use mathlib.Core.Path.{_≡_, refl, sym, ap, ap₂, _∙_}
+use mathlib.Core.Bool.{Bool}
+use mathlib.Core.List.{List, [], _∷_, _++_, append-assoc}
+use Prim.Native.Nat.{ℕ, _+_, _^_, _≤_, _<_}
+use native.Mathlib.Nat.{mod-eq-of-lt}
+use native.Mathlib.Omega.{arith}
+use lib.ListN.{length, take, drop, length-append, length-take, length-drop}
+use lib.Seq.{take-append-le, drop-append-le, take-at, drop-at, drop-drop, take-add}
+use lib.Pow.{pow-mono}
+use Rattle.bits.specs.Bits.{bits, number}
+use Rattle.bits.specs.Fields.{fieldAt, fieldsAt, packed, span, Fit}
+use Rattle.bits.proofs.Numbers.{length-bits, number-bits, number-lt, bits-number}
+
+-- ONE FIELD
+pub fits-field : (o w : ℕ) (bs : List Bool) → fieldAt o w bs < 2 ^ w
+fits-field o w bs = bound (number-lt (take w (drop o bs))) (pow-mono {i = length (take w (drop o bs))} {j = w} (omega (arith, length-take w (drop o bs))))
+  where
+    bound : {a b c : ℕ} → a < b → b ≤ c → a < c
+    bound p q = omega arith
+
+-- a field depends on the bits up to its end alone
+pub field-front : (o w : ℕ) (p q : List Bool) → o + w ≤ length p → fieldAt o w (p ++ q) ≡ fieldAt o w p
+field-front o w p q h =
+    let u : o ≤ length p = omega arith in
+    let v : w ≤ length (drop o p) = omega (arith, length-drop o p) in
+    rw (drop-append-le o p q, take-append-le w (drop o p) q)
+
+pub field-put : (a : List Bool) (w v : ℕ) (b : List Bool) → v < 2 ^ w → fieldAt (length a) w (a ++ (bits w v ++ b)) ≡ v
+field-put a w v b h =
+    rw (drop-at a (bits w v ++ b) (length a) refl, take-at (bits w v) b w (length-bits w v), number-bits w v) (mod-eq-of-lt h)
+
+pub put-field : (o w : ℕ) (bs : List Bool) → o + w ≤ length bs → bits w (fieldAt o w bs) ≡ take w (drop o bs)
+put-field o w bs h = bits-number w (take w (drop o bs)) (omega (arith, length-take w (drop o bs), length-drop o bs))
+
+-- FIELDS OF A LAYOUT
+pub fits-fields : (ws : List ℕ) (o : ℕ) (bs : List Bool) → Fit ws (fieldsAt ws o bs)
+fits-fields [] o bs = tt
+fits-fields (w ∷ ws) o bs = (fits-field o w bs, fits-fields ws (o + w) bs)
+
+pub length-packed : (ws vs : List ℕ) → length (packed ws vs) ≡ span ws
+length-packed [] vs = refl
+length-packed (w ∷ ws) [] = length-append (bits w 0) (packed ws []) ∙ ap₂ _+_ (length-bits w 0) (length-packed ws [])
+length-packed (w ∷ ws) (v ∷ vs) = length-append (bits w v) (packed ws vs) ∙ ap₂ _+_ (length-bits w v) (length-packed ws vs)
+
+pub fields-put : (ws vs : List ℕ) (a b : List Bool) → Fit ws vs → fieldsAt ws (length a) (a ++ (packed ws vs ++ b)) ≡ vs
+fields-put [] [] a b f = refl
+fields-put [] (v ∷ vs) a b f = absurd f
+fields-put (w ∷ ws) [] a b f = absurd f
+fields-put (w ∷ ws) (v ∷ vs) a b f =
+    rw (append-assoc (bits w v) (packed ws vs) b)
+    (ap₂ _∷_ (field-put a w v (packed ws vs ++ b) (f .0))
+    (ap₂ (λ n l. fieldsAt ws n l) far (sym (append-assoc a (bits w v) (packed ws vs ++ b)))
+    ∙ fields-put ws vs (a ++ bits w v) b (f .1)))
+  where
+    far : length a + w ≡ length (a ++ bits w v)
+    far = sym (length-append a (bits w v) ∙ ap (λ n. length a + n) (length-bits w v))
+
+pub put-fields : (ws : List ℕ) (o : ℕ) (bs : List Bool) → o + span ws ≤ length bs → packed ws (fieldsAt ws o bs) ≡ take (span ws) (drop o bs)
+put-fields [] o bs h = refl
+put-fields (w ∷ ws) o bs h =
+    ap₂ _++_ (put-field o w bs (omega arith)) (put-fields ws (o + w) bs (omega arith) ∙ ap (take (span ws)) (sym (drop-drop w o bs)))
+    ∙ sym (take-add w (span ws) (drop o bs))

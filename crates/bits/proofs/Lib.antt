@@ -1,0 +1,4 @@
+pub mod Xor
+pub mod Numbers
+pub mod Linear
+pub mod FieldLaws

@@ -1,0 +1,1 @@
+// Lists of bits and the numbers that they write: definitions in specs/, laws in proofs/.

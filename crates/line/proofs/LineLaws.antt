@@ -1,0 +1,69 @@
+-- Byte and line bits are inverse, and what a byte turned over carries. Assumes nothing.
+use mathlib.Core.Path.{_≡_, refl, sym, ap, ap₂, _∙_}
+use mathlib.Core.Bool.{Bool, true, false, not, cond}
+use mathlib.Core.List.{List, [], _∷_, _++_, map, reverse, reverse-reverse, append-assoc}
+use Prim.Native.Nat.{ℕ, _+_, _*_, _/_, _%_, _^_, _≤_, _<_}
+use native.Mathlib.Nat.{div-one}
+use native.Mathlib.Omega.{arith}
+use lib.ListN.{length, length-reverse}
+use lib.Dec.{eqb}
+use lib.Bits.{bitXor}
+use borrow.Author.Tests.{eq-eqb, eqb-true}
+use Rattle.answer.specs.Order.{Says, answers}
+use Rattle.bits.specs.Bits.{_⊕_, val, isOdd, bits, number}
+use Rattle.bits.proofs.Xor.{val-odd}
+use Rattle.bits.proofs.Numbers.{length-bits, number-bits, number-lt, bits-number, bits-mod}
+use Rattle.line.specs.Line.{isData, six, lineBits, byteOf}
+use Rattle.line.specs.Answer.{sixOf, saysSix}
+
+-- ---- what the code computes
+
+pub mirrored-law : (x : ℕ) → x % 2 * 32 + x / 2 % 2 * 16 + x / 4 % 2 * 8 + x / 8 % 2 * 4 + x / 16 % 2 * 2 + x / 32 % 2 ≡ number (reverse (bits 6 x))
+unfolding bits number
+mirrored-law x = simp (val-odd, div-one) (omega arith)
+
+pub mirrored-lt : (x : ℕ) → number (reverse (bits 6 x)) < 64
+mirrored-lt x = rw (length-reverse (bits 6 x), length-bits 6 x) at (number-lt (reverse (bits 6 x)))
+
+-- ---- six bits and their byte
+
+pub length-six : (b : ℕ) → length (six b) ≡ 6
+unfolding six
+length-six b = length-reverse (bits 6 b) ∙ length-bits 6 b
+
+pub six-lt : (b : ℕ) → number (six b) < 64
+unfolding six
+six-lt b = mirrored-lt b
+
+-- a data byte is the byte of its six bits
+pub byte-six : (b : ℕ) → isData b ≡ true → byteOf (six b) ≡ b
+unfolding byteOf six
+byte-six b d = rw (reverse-reverse (bits 6 b), number-bits 6 b) (omega (arith, eqb-true (b / 64) 1 d))
+
+-- six bits are those of their byte, which is a data byte
+pub six-byte : (ds : List Bool) → length ds ≡ 6 → six (byteOf ds) ≡ ds
+unfolding byteOf six
+six-byte ds l = ap reverse back ∙ reverse-reverse ds
+  where
+    long : length (reverse ds) ≡ 6
+    long = length-reverse ds ∙ l
+
+    back : bits 6 (64 + number (reverse ds)) ≡ reverse ds
+    back =
+        sym (bits-mod 6 (64 + number (reverse ds)))
+        ∙ ap (bits 6) low
+        ∙ bits-number 6 (reverse ds) long
+      where
+        low : (64 + number (reverse ds)) % 2 ^ 6 ≡ number (reverse ds)
+        low = omega (arith, rw long at (number-lt (reverse ds)))
+
+pub byte-data : (ds : List Bool) → length ds ≡ 6 → isData (byteOf ds) ≡ true
+unfolding byteOf
+byte-data ds l = eq-eqb ((64 + number (reverse ds)) / 64) 1 (omega (arith, low))
+  where
+    low : number (reverse ds) < 2 ^ 6
+    low = rw (length-reverse ds ∙ l) at (number-lt (reverse ds))
+
+-- the answer says the six bits
+pub six-says : (b : ℕ) → isData b ≡ true → saysSix (sixOf b) ≡ answers (six b)
+six-says b d = rw d (ap answers (bits-number 6 (six b) (length-six b)))

@@ -1,0 +1,1 @@
+// The demands, sentence by sentence, and the worked values: statements in specs/, proofs in proofs/.

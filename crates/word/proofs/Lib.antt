@@ -1,0 +1,4 @@
+pub mod Linearity
+pub mod Distance
+pub mod Sending
+pub mod Computes

@@ -1,0 +1,30 @@
+-- The encoder and the test are inverse: what is sent passes and gives its data back, and a window that passes is what its data are sent as.
+-- Assumes nothing.
+use mathlib.Core.Path.{_≡_, refl, sym, ap, _∙_}
+use mathlib.Core.Bool.{Bool, true}
+use mathlib.Core.List.{List, _∷_, _++_, map}
+use Prim.Native.Nat.{ℕ}
+use lib.ListN.{length}
+use Rattle.bits.specs.Bits.{_⊻_}
+use Rattle.bits.proofs.Xor.{xor-cancel}
+use Rattle.bits.proofs.Numbers.{tab-id}
+use Rattle.word.specs.Word.{nth, D, d29*, d30*, places, turnedBy, parity, dataOf, received, computed, passes, sent}
+use Rattle.word.proofs.Linearity.{passes-equal}
+
+pub data-sent : (a b : Bool) (ds : List Bool) → length ds ≡ 24 → dataOf (a ∷ b ∷ sent a b ds) ≡ ds
+unfolding dataOf sent turnedBy
+data-sent a b ds h = simp xor-cancel (rw h at (tab-id ds))
+
+pub passes-sent : (a b : Bool) (ds : List Bool) → length ds ≡ 24 → passes (a ∷ b ∷ sent a b ds) ≡ true
+unfolding received computed sent turnedBy
+passes-sent a b ds h = passes-equal (a ∷ b ∷ sent a b ds) .1 (ap (parity a b) (sym (data-sent a b ds h)))
+
+pub only-sent : (w : List Bool) → length w ≡ 32 → passes w ≡ true → w ≡ d29* w ∷ d30* w ∷ sent (d29* w) (d30* w) (dataOf w)
+unfolding received computed sent turnedBy dataOf
+only-sent w h p =
+    sym (rw h at (tab-id w))
+    ∙ ap (λ l. d29* w ∷ d30* w ∷ map (D w) places ++ l) (passes-equal w .0 p)
+    ∙ ap (λ l. d29* w ∷ d30* w ∷ l ++ computed w) (again w)
+  where
+    again : (v : List Bool) → map (D v) places ≡ map (λ i. nth (dataOf v) i ⊻ d30* v) places
+    again v = simp xor-cancel
