@@ -1,7 +1,7 @@
 -- An order refuses exactly when one of its checks applies, and with the first that does: the two cases below are all there are.
 -- Assumes nothing.
-use mathlib.Core.Path.{_≡_, refl, _∙_}
-use mathlib.Core.Bool.{Bool, true, false}
+use mathlib.Core.Path.{_≡_, refl, ap, _∙_}
+use mathlib.Core.Bool.{Bool, true, false, cond}
 use mathlib.Core.Logic.{_⊎_, inl, inr}
 use mathlib.Core.List.{List, [], _∷_, _++_}
 use Prim.Native.Nat.{ℕ}
@@ -40,3 +40,20 @@ first-or-none (c ∷ cs) = go c (first-or-none cs)
     go (true, n) later = inr (n, record { front = []; back = cs; split = refl; none = tt })
     go (false, n) (inl h) = inl (refl, h)
     go (false, n) (inr (m, f)) = inr (m, record { front = (false, n) ∷ f .front; back = f .back; split = rw (f .split); none = (refl, f .none) })
+
+-- one order after another
+pub order-append : {A : Type 0} (cs ds : List Check) (refuse : ℕ → A) (answer : A)
+    → inOrder (cs ++ ds) refuse answer ≡ inOrder cs refuse (inOrder ds refuse answer)
+order-append [] ds refuse answer = refl
+order-append (c ∷ cs) ds refuse answer = ap (cond (c .0) (refuse (c .1))) (order-append cs ds refuse answer)
+
+-- what is made of an answer
+pub order-map : {A B : Type 0} (f : A → B) (cs : List Check) (refuse : ℕ → A) (answer : A)
+    → f (inOrder cs refuse answer) ≡ inOrder cs (λ n. f (refuse n)) (f answer)
+order-map f [] refuse answer = refl
+order-map f (c ∷ cs) refuse answer = go (c .0) (order-map f cs refuse answer)
+  where
+    go : (t : Bool) → f (inOrder cs refuse answer) ≡ inOrder cs (λ n. f (refuse n)) (f answer)
+        → f (cond t (refuse (c .1)) (inOrder cs refuse answer)) ≡ cond t (f (refuse (c .1))) (inOrder cs (λ n. f (refuse n)) (f answer))
+    go true h = refl
+    go false h = h

@@ -2,16 +2,16 @@
 -- Assumes nothing.
 use mathlib.Core.Path.{_≡_, refl, sym, ap, ap₂, _∙_}
 use mathlib.Core.Bool.{Bool}
-use mathlib.Core.List.{List, [], _∷_, _++_, append-assoc}
-use Prim.Native.Nat.{ℕ, _+_, _^_, _≤_, _<_}
-use native.Mathlib.Nat.{mod-eq-of-lt}
+use mathlib.Core.List.{List, [], _∷_, _++_, append-nil, append-assoc}
+use Prim.Native.Nat.{ℕ, _+_, _*_, _/_, _%_, _^_, _≤_, _<_}
+use native.Mathlib.Nat.{add-assoc, mod-eq-of-lt}
 use native.Mathlib.Omega.{arith}
 use lib.ListN.{length, take, drop, length-append, length-take, length-drop}
-use lib.Seq.{take-append-le, drop-append-le, take-at, drop-at, drop-drop, take-add}
+use lib.Seq.{take-all, take-append-le, drop-append-le, take-at, drop-at, drop-drop, take-add}
 use lib.Pow.{pow-mono}
 use Rattle.bits.specs.Bits.{bits, number}
 use Rattle.bits.specs.Fields.{fieldAt, fieldsAt, packed, span, Fit}
-use Rattle.bits.proofs.Numbers.{length-bits, number-bits, number-lt, bits-number}
+use Rattle.bits.proofs.Numbers.{length-bits, number-bits, number-lt, bits-number, bits-split, number-append}
 
 -- ONE FIELD
 pub fits-field : (o w : ℕ) (bs : List Bool) → fieldAt o w bs < 2 ^ w
@@ -62,3 +62,47 @@ put-fields [] o bs h = refl
 put-fields (w ∷ ws) o bs h =
     ap₂ _++_ (put-field o w bs (omega arith)) (put-fields ws (o + w) bs (omega arith) ∙ ap (take (span ws)) (sym (drop-drop w o bs)))
     ∙ sym (take-add w (span ws) (drop o bs))
+
+-- the same for a list that the layout fills
+pub fields-packed : (ws vs : List ℕ) → Fit ws vs → fieldsAt ws 0 (packed ws vs) ≡ vs
+fields-packed ws vs f = ap (fieldsAt ws 0) (sym (append-nil (packed ws vs))) ∙ fields-put ws vs [] [] f
+
+pub packed-fields : (ws : List ℕ) (bs : List Bool) → length bs ≡ span ws → packed ws (fieldsAt ws 0 bs) ≡ bs
+packed-fields ws bs l = put-fields ws 0 bs (omega arith) ∙ take-all (span ws) bs (omega arith)
+
+-- A LAYOUT IN ONE NUMBER
+-- the values that a number holds: the last field is lowest
+abbrev pub valuesOf : List ℕ → ℕ → List ℕ
+valuesOf [] n = []
+valuesOf (w ∷ ws) n = n / 2 ^ span ws % 2 ^ w ∷ valuesOf ws n
+
+-- the number that holds these values
+abbrev pub numberOf : List ℕ → List ℕ → ℕ
+numberOf [] vs = 0
+numberOf (w ∷ ws) [] = 0
+numberOf (w ∷ ws) (v ∷ vs) = v * 2 ^ span ws + numberOf ws vs
+
+pub field-bits : (o w k n : ℕ) → fieldAt o w (bits (o + (w + k)) n) ≡ n / 2 ^ k % 2 ^ w
+field-bits o w k n =
+    rw (bits-split o (w + k) n, drop-at (bits o (n / 2 ^ (w + k))) (bits (w + k) n) o (length-bits o (n / 2 ^ (w + k))))
+    (rw (bits-split w k n, take-at (bits w (n / 2 ^ k)) (bits k n) w (length-bits w (n / 2 ^ k)))
+    (number-bits w (n / 2 ^ k)))
+
+-- a part of a list is a part of its number
+pub number-part : (a b c : ℕ) (l : List Bool) → length l ≡ a + b + c → number l / 2 ^ c % 2 ^ b ≡ fieldAt a b l
+number-part a b c l e =
+    sym (field-bits a b c (number l)) ∙ ap (fieldAt a b) (bits-number (a + (b + c)) l (e ∙ add-assoc a b c))
+
+pub fields-bits : (ws : List ℕ) (o n : ℕ) → fieldsAt ws o (bits (o + span ws) n) ≡ valuesOf ws n
+fields-bits [] o n = refl
+fields-bits (w ∷ ws) o n =
+    ap₂ _∷_ (field-bits o w (span ws) n) (ap (λ k. fieldsAt ws (o + w) (bits k n)) (sym (add-assoc o w (span ws))) ∙ fields-bits ws (o + w) n)
+
+pub number-packed : (ws vs : List ℕ) → Fit ws vs → number (packed ws vs) ≡ numberOf ws vs
+unfolding number
+number-packed [] [] f = refl
+number-packed [] (v ∷ vs) f = absurd f
+number-packed (w ∷ ws) [] f = absurd f
+number-packed (w ∷ ws) (v ∷ vs) f =
+    number-append (bits w v) (packed ws vs)
+    ∙ rw (number-bits w v, mod-eq-of-lt (f .0), length-packed ws vs, number-packed ws vs (f .1))

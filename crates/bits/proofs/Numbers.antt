@@ -6,7 +6,8 @@ use Prim.Native.Nat.{ℕ, zero, suc, _+_, _*_, _/_, _%_, _^_, _<_}
 use native.Mathlib.Nat.{zero-add, suc-add, add-comm, mod-lt, mod-one, mod-eq-of-lt, pow-suc}
 use native.Mathlib.Omega.{arith}
 use native.Mathlib.Numerals.{one-add}
-use lib.ListN.{length, getD, length-append}
+use lib.ListN.{length, take, getD, length-append}
+use lib.Seq.{take-at}
 use lib.Pow.{pow-pos, pow-add, shr-shr, mod-pow-add, high, low}
 use lib.Bits.{bitXor, xor-shr, xor-lt}
 use lib.Count.{ones, ones-cat}
@@ -68,6 +69,15 @@ pub number-append : (a b : List Bool) → number (a ++ b) ≡ number a * 2 ^ len
 unfolding number
 number-append [] b = omega arith
 number-append (x ∷ a) b = rw (length-append a b, pow-add 2 (length a) (length b)) (omega (arith, number-append a b))
+
+-- a after b's width
+pub bits-append : (n m a b : ℕ) → b < 2 ^ m → bits (n + m) (a * 2 ^ m + b) ≡ bits n a ++ bits m b
+bits-append n m a b h =
+    bits-split n m (a * 2 ^ m + b) ∙ ap₂ _++_ (ap (bits n) (high a m h)) (sym (bits-mod m (a * 2 ^ m + b)) ∙ ap (bits m) (low a m h))
+
+-- the n highest of n + m bits
+pub bits-take : (n m v : ℕ) → take n (bits (n + m) v) ≡ bits n (v / 2 ^ m)
+bits-take n m v = ap (take n) (bits-split n m v) ∙ take-at (bits n (v / 2 ^ m)) (bits m v) n (length-bits n (v / 2 ^ m))
 
 -- n in front of what s writes
 pub bits-cat : (j k n : ℕ) (s : List Bool) → length s ≡ k → n < 2 ^ j → bits (j + k) (n * 2 ^ k + number s) ≡ bits j n ++ s

@@ -15,6 +15,7 @@ use Rattle.bits.proofs.Xor.{val-odd}
 use Rattle.bits.proofs.Numbers.{length-bits, number-bits, number-lt, bits-number, bits-mod}
 use Rattle.line.specs.Line.{isData, six, lineBits, byteOf}
 use Rattle.line.specs.Answer.{sixOf, saysSix}
+use Rattle.line.specs.declared.Six.the-variants.{Bits, Refused}
 
 -- ---- what the code computes
 
@@ -67,3 +68,18 @@ byte-data ds l = eq-eqb ((64 + number (reverse ds)) / 64) 1 (omega (arith, low))
 -- the answer says the six bits
 pub six-says : (b : ℕ) → isData b ≡ true → saysSix (sixOf b) ≡ answers (six b)
 six-says b d = rw d (ap answers (bits-number 6 (six b) (length-six b)))
+
+-- what an answer tells of the byte
+pub six-bits : (b n : ℕ) → sixOf b ≡ Bits n → (isData b ≡ true) × (n ≡ number (six b))
+six-bits b n e = go (isData b) refl
+  where
+    go : (t : Bool) → isData b ≡ t → (t ≡ true) × (n ≡ number (six b))
+    go true d = (refl, (let f : Bits (number (six b)) ≡ Bits n = rw d at e in cc))
+    go false d = absurd (let f : Refused 1 ≡ Bits n = rw d at e in let z : _≡_ {A = ℕ} 0 1 = cc in omega arith)
+
+pub six-refused : (b n : ℕ) → sixOf b ≡ Refused n → isData b ≡ false
+six-refused b n e = go (isData b) refl
+  where
+    go : (t : Bool) → isData b ≡ t → t ≡ false
+    go true d = absurd (let f : Bits (number (six b)) ≡ Refused n = rw d at e in let z : _≡_ {A = ℕ} 0 1 = cc in omega arith)
+    go false d = refl

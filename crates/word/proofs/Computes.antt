@@ -16,7 +16,7 @@ use Rattle.bits.proofs.Numbers.{odd-ones, bits-xor, bits-mod, bits-split, bits-
 use Rattle.bits.proofs.Linear.{columns, sum, spanned, odd-mask}
 use Rattle.word.specs.Word.{nth, d29*, d30*, rows, turnedBy, parity, dataOf, received, computed, remainderOf, passes, sent}
 use Rattle.word.specs.Answer.{sentAt}
-use Rattle.word.proofs.Sending.{passes-sent, data-sent}
+use Rattle.word.proofs.Sending.{data-number, passes-sent, data-sent}
 
 -- the data bits of row i of the table, and the odd parity of those of a list
 abbrev terms : ℕ → List ℕ
@@ -111,15 +111,11 @@ parts : (w : ℕ) → number (remainderOf (bits 32 w)) ≡ bitXor (number (recei
 unfolding remainderOf received computed parity
 parts w = number-xor 6 (received (bits 32 w)) (computed (bits 32 w)) refl refl
 
-long-data : (w : ℕ) → bits 24 (number (dataOf (bits 32 w))) ≡ dataOf (bits 32 w)
-unfolding dataOf
-long-data w = bits-number 24 (dataOf (bits 32 w)) refl
-
 pub remainder-law : (w : ℕ)
     → bitXor (w % 64) (number (parity (d29* (bits 2 (w / 2 ^ 30))) (d30* (bits 2 (w / 2 ^ 30))) (bits 24 (number (dataOf (bits 32 w))))))
     ≡ number (remainderOf (bits 32 w))
 remainder-law w =
-    ap₂ (λ a b. bitXor a (number b)) (sym (ap number (ends w) ∙ number-bits 6 w)) (ap (parity (d29* (bits 2 (w / 2 ^ 30))) (d30* (bits 2 (w / 2 ^ 30)))) (long-data w) ∙ sym (asked w))
+    ap₂ (λ a b. bitXor a (number b)) (sym (ap number (ends w) ∙ number-bits 6 w)) (ap (parity (d29* (bits 2 (w / 2 ^ 30))) (d30* (bits 2 (w / 2 ^ 30)))) (data-number (bits 32 w)) ∙ sym (asked w))
     ∙ sym (parts w)
 
 pub sent-law : (a b : Bool) (ds : List Bool) → number (turnedBy b ds) * 64 + number (parity a b ds) ≡ number (sent a b ds)

@@ -5,11 +5,16 @@ use mathlib.Core.Bool.{Bool, true}
 use mathlib.Core.List.{List, _∷_, _++_, map}
 use Prim.Native.Nat.{ℕ}
 use lib.ListN.{length}
-use Rattle.bits.specs.Bits.{_⊻_}
+use Rattle.bits.specs.Bits.{_⊻_, bits, number}
 use Rattle.bits.proofs.Xor.{xor-cancel}
-use Rattle.bits.proofs.Numbers.{tab-id}
+use Rattle.bits.proofs.Numbers.{tab-id, bits-number}
 use Rattle.word.specs.Word.{nth, D, d29*, d30*, places, turnedBy, parity, dataOf, received, computed, passes, sent}
 use Rattle.word.proofs.Linearity.{passes-equal}
+
+-- the data bits of a window are those of their number
+pub data-number : (w : List Bool) → bits 24 (number (dataOf w)) ≡ dataOf w
+unfolding dataOf
+data-number w = bits-number 24 (dataOf w) refl
 
 pub data-sent : (a b : Bool) (ds : List Bool) → length ds ≡ 24 → dataOf (a ∷ b ∷ sent a b ds) ≡ ds
 unfolding dataOf sent turnedBy

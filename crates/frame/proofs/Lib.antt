@@ -1,0 +1,4 @@
+pub mod StateLaws
+pub mod HeaderLaws
+pub mod WidthLaws
+pub mod FrameLaws

@@ -1,0 +1,29 @@
+-- A frame value and the data of its N + 2 words, as numbers of 24 bits, word 1 first. Assumes nothing.
+use mathlib.Core.List.{List, [], _∷_, _++_}
+use Prim.Native.Nat.{ℕ, _-_, _^_, _<_}
+use lib.ListN.{length, take, drop, getD, replicate}
+use Rattle.bits.specs.Bits.{bits, number}
+use Rattle.frame.specs.Header.{headerOf, firstWord, secondWord}
+use Rattle.frame.specs.declared.Header.{Header}
+use Rattle.frame.specs.declared.Frame.{Frame}
+
+-- the frame with this header and these data words: words past N are zero
+unfoldable pub framed : Header → List ℕ → Frame
+framed h ws = record { header = h; n = length ws; words = ws ++ replicate (31 - length ws) 0 }
+
+-- the data words of a frame
+abbrev pub dataWords : Frame → List ℕ
+dataWords f = take (f .n) (f .words)
+
+-- all its words: word 1, word 2, the data words
+unfoldable pub wordsOf : Frame → List ℕ
+wordsOf f = number (firstWord (f .header)) ∷ number (secondWord (f .header) (f .n)) ∷ dataWords f
+
+-- the frame of such words: the header's two, then the data words
+unfoldable pub frameOf : List ℕ → Frame
+frameOf ws = framed (headerOf (bits 24 (getD ws 0 0)) (bits 24 (getD ws 1 0))) (drop 2 ws)
+
+-- each of these words has at most 24 bits
+abbrev pub Below : List ℕ → Type 0
+Below [] = Unit {0}
+Below (w ∷ ws) = (w < 2 ^ 24) × Below ws

@@ -1,0 +1,215 @@
+// Frames by value: the station's state, the header, the data words, and the checks that every call on a frame shares.
+mod code;
+mod outside;
+
+ghost use mathlib.Core.Path.{_≡_};
+ghost use Prim.Native.Nat.{_%_, _<_};
+ghost use Rattle.bits.specs.Bits.{bits};
+ghost use Rattle.frame.specs.Header.{stateOf, kindOf, headerOf, nOf, preambled};
+ghost use Rattle.frame.specs.Answer.{healthOf, headerWords, headerWidths, frameWidths, clockOf};
+ghost use Rattle.frame.specs.Layout.{layoutOf};
+use crate::code::FACTORS;
+use crate::code::code_of;
+use crate::outside::any_from;
+use crate::outside::header_outside;
+use crate::outside::state_outside;
+
+// The station's state: its UDRE factor in whole hundredths, not monitored, or not working.
+pub enum State {
+    Factor(u8),
+    Unmonitored,
+    Down,
+}
+
+// The header without N, which follows from the data words.
+pub struct Header {
+    pub kind: u8,
+    pub station: u16,
+    pub z: u16,
+    pub sequence: u8,
+    pub state: State,
+}
+
+// A frame: N data words, d1 of each in bit 23; the words past N are 0.
+pub struct Frame {
+    pub header: Header,
+    pub n: usize,
+    pub words: [u32; 31],
+}
+
+// A health code, or the refusal's number.
+pub enum Health {
+    Code(u8),
+    Refused(u8),
+}
+
+// The data of words 1 and 2, or the refusal's number.
+pub enum HeaderWords {
+    Words(u32, u32),
+    Refused(u8),
+}
+
+// Whether a value is within its widths; outside them is refusal 5.
+pub enum Widths {
+    Within,
+    Outside,
+}
+
+// Whether a Z count is within the hour; past it is refusal 7.
+pub enum Clock {
+    Hour,
+    Late,
+}
+
+// What a type number says about the data words.
+pub enum Layout {
+    Correction,
+    Position,
+    Health,
+    Null,
+    Text,
+    Plain,
+}
+
+// The preamble of word 1.
+const PREAMBLE: u32 = 0b01100110;
+
+// A health code, three bits, to the state.
+pub fn state_of(health: u32) -> State
+    ensures { λ r. ⌜ r ≡ stateOf (health % 8) ⌝ }
+{
+    let code = (health % 8) as usize;
+    if code < 6 {
+        return State::Factor(FACTORS[code]);
+    }
+    if code == 6 {
+        return State::Unmonitored;
+    }
+    State::Down
+}
+
+// A state's health code; 5 for a factor other than the six.
+pub fn health_of(state: State) -> Health
+    ensures { λ r. ⌜ r ≡ healthOf state ⌝ }
+{
+    if state_outside(state) {
+        return Health::Refused(5);
+    }
+    Health::Code(code_of(state))
+}
+
+// A type code, six bits, to the type number: 0 means 64.
+fn kind_of(code: u32) -> u8
+    requires { ⌜ code < 64 ⌝ }
+    ensures { λ r. ⌜ r ≡ kindOf code ⌝ }
+{
+    if code == 0 {
+        return 64;
+    }
+    code as u8
+}
+
+// The header that the data of words 1 and 2 holds.
+pub fn header_of(first: u32, second: u32) -> Header
+    ensures { λ r. ⌜ r ≡ headerOf (bits 24 first) (bits 24 second) ⌝ }
+{
+    let state = state_of(second);
+    Header {
+        kind: kind_of(first / 1024 % 64),
+        station: (first % 1024) as u16,
+        z: (second / 2048 % 8192) as u16,
+        sequence: (second / 256 % 8) as u8,
+        state,
+    }
+}
+
+// N, in word 2.
+pub fn n_of(second: u32) -> usize
+    ensures { λ r. ⌜ r ≡ nOf (bits 24 second) ⌝ }
+{
+    (second / 8 % 32) as usize
+}
+
+// Word 1 begins with the preamble.
+pub fn has_preamble(first: u32) -> bool
+    ensures { λ r. ⌜ r ≡ preambled (bits 24 first) ⌝ }
+{
+    first / 65536 % 256 == PREAMBLE
+}
+
+// Whether a header is within its widths.
+pub fn header_widths(header: Header) -> Widths
+    ensures { λ r. ⌜ r ≡ headerWidths header ⌝ }
+{
+    if header_outside(header) {
+        return Widths::Outside;
+    }
+    Widths::Within
+}
+
+// The data of words 1 and 2; 5 for a header outside its widths or N over 31.
+pub fn header_words(header: Header, n: usize) -> HeaderWords
+    ensures { λ r. ⌜ r ≡ headerWords header n ⌝ }
+{
+    if header_outside(header) {
+        return HeaderWords::Refused(5);
+    }
+    if n > 31 {
+        return HeaderWords::Refused(5);
+    }
+    let state = header.state;
+    let first = PREAMBLE * 65536 + header.kind as u32 % 64 * 1024 + header.station as u32;
+    let second = header.z as u32 * 2048
+        + header.sequence as u32 * 256
+        + n as u32 * 8
+        + code_of(state) as u32;
+    HeaderWords::Words(first, second)
+}
+
+// Whether a frame is within its widths.
+pub fn frame_widths(frame: Frame) -> Widths
+    ensures { λ r. ⌜ r ≡ frameWidths frame ⌝ }
+{
+    let header = frame.header;
+    if header_outside(header) {
+        return Widths::Outside;
+    }
+    let n = frame.n;
+    if n > 31 {
+        return Widths::Outside;
+    }
+    let words = frame.words;
+    // more than 24 bits
+    if any_from(&words, 0, 16777216) {
+        return Widths::Outside;
+    }
+    // past N, and not zero
+    if any_from(&words, n, 1) {
+        return Widths::Outside;
+    }
+    Widths::Within
+}
+
+// Whether a Z count is within the hour.
+pub fn clock_of(z: u16) -> Clock
+    ensures { λ r. ⌜ r ≡ clockOf z ⌝ }
+{
+    if z >= 6000 {
+        return Clock::Late;
+    }
+    Clock::Hour
+}
+
+// What a type number says about the data words.
+pub fn layout_of(kind: u8) -> Layout
+    ensures { λ r. ⌜ r ≡ layoutOf kind ⌝ }
+{
+    match kind {
+        1 | 9 => Layout::Correction,
+        3 => Layout::Position,
+        5 => Layout::Health,
+        6 => Layout::Null,
+        16 => Layout::Text,
+        _ => Layout::Plain,
+    }
+}

@@ -1,0 +1,9 @@
+pub mod Words
+pub mod Stand
+pub mod Scanning
+pub mod Verdicts
+pub mod Turning
+pub mod Damage
+pub mod Prefix
+pub mod Hunting
+pub mod HuntSteps

@@ -1,0 +1,134 @@
+-- The verdict by words in order is right: it says that a frame stands exactly when one does, and that a position is ruled out exactly when a
+-- word that has come fails; and no position waits once 990 bits from it have come. Assumes nothing.
+use mathlib.Core.Path.{_≡_, refl, sym, ap, subst, _∙_}
+use mathlib.Core.Logic.{_↔_}
+use mathlib.Core.Bool.{Bool, true, false}
+use mathlib.Core.List.{List, [], _∷_, _++_, append-nil}
+use Prim.Native.Nat.{ℕ, zero, suc, _+_, _*_, _≤_, _<_}
+use native.Mathlib.Nat.{zero-add, add-suc, suc-add, not-suc-le-zero}
+use native.Mathlib.Omega.{arith}
+use lib.Dec.{leb}
+use lib.ListN.{length, length-append}
+use borrow.Author.Count.{below-more}
+use borrow.Author.Tests.{leb-true, leb-false}
+use Rattle.stream.specs.Standing.{wordAt, right, nAt, size, Stands}
+use Rattle.stream.specs.Verdict.{RuledOut, RightSoFar, Verdict, out, standing, waiting, judged, verdictFrom, verdict}
+use Rattle.stream.proofs.Words.{unlike, n-lt, word-append, n-append}
+
+-- ---- the words so far
+
+pub none-so-far : (d : List Bool) → RightSoFar 0 d
+none-so-far d = record { come = λ j h. absurd (not-suc-le-zero h); good = λ j h. absurd (not-suc-le-zero h); inside = omega arith }
+
+below-suc : (P : ℕ → Type 0) (k : ℕ) → ((j : ℕ) → j < k → P j) → P k → (j : ℕ) → j < suc k → P j
+below-suc P k f h j l = below-more P k f h j (omega arith)
+
+one-more : (k : ℕ) (d : List Bool) → RightSoFar k d → 32 + 30 * k ≤ length d → right k (wordAt k d) ≡ true → suc k < size d → RightSoFar (suc k) d
+one-more k d p a b c = record {
+  come = below-suc (λ (j : ℕ). 32 + 30 * j ≤ length d) k (p .come) a;
+  good = below-suc (λ (j : ℕ). right j (wordAt j d) ≡ true) k (p .good) b;
+  inside = c;
+}
+
+-- a frame that has word k has it in every longer stream, if the words before have come
+inside-append : (k : ℕ) (d e : List Bool) → ((j : ℕ) → j < k → 32 + 30 * j ≤ length d) → k < size d → k < size (d ++ e)
+inside-append zero d e c h = omega arith
+inside-append (suc zero) d e c h = omega arith
+inside-append (suc (suc k)) d e c h = omega (arith, n-append d e (c 1 (omega arith)))
+
+pub so-far-append : (k : ℕ) (d e : List Bool) → RightSoFar k d → RightSoFar k (d ++ e)
+so-far-append k d e p = record {
+  come = λ j h. omega (arith, p .come j h, length-append d e);
+  good = λ j h. ap (right j) (word-append j d e (p .come j h)) ∙ p .good j h;
+  inside = inside-append k d e (p .come) (p .inside);
+}
+
+-- ---- ruled out
+
+-- for good ..
+pub out-append : (d e : List Bool) → RuledOut d → RuledOut (d ++ e)
+out-append d e r = record {
+  k = r .k;
+  come = omega (arith, r .come, length-append d e);
+  inside = inside-append (r .k) d e (λ j h. omega (arith, r .come)) (r .inside);
+  fails = ap (right (r .k)) (word-append (r .k) d e (r .come)) ∙ r .fails;
+}
+
+-- .. so nothing stands there, whatever comes later
+pub out-falls : (d : List Bool) → RuledOut d → Stands d → ⊥
+out-falls d r s = unlike (right (r .k) (wordAt (r .k) d)) (s .each (r .k) (r .inside)) (r .fails)
+
+pub out-stays : (d e : List Bool) → RuledOut d → Stands (d ++ e) → ⊥
+out-stays d e r = out-falls (d ++ e) (out-append d e r)
+
+-- a position whose next word has not come does not stand
+pub waiting-falls : (k : ℕ) (d : List Bool) → RightSoFar k d → length d < 32 + 30 * k → Stands d → ⊥
+waiting-falls k d p l s = omega (arith, p .inside, s .taken)
+
+-- ---- the verdict
+
+pub data Judged (d : List Bool) : Verdict → Type 0 where
+  is-out : RuledOut d → Judged d out
+  is-standing : Stands d → Judged d standing
+  is-waiting : (k : ℕ) → RightSoFar k d → length d < 32 + 30 * k → k ≤ 32 → Judged d (waiting k)
+
+pub judge : (n k : ℕ) (d : List Bool) → n + k ≡ 33 → RightSoFar k d → Judged d (verdictFrom n k d)
+unfolding verdictFrom
+judge zero k d e p = absurd (omega (arith, p .inside, n-lt d, zero-add k))
+judge (suc n) k d e p =
+    go (leb (32 + 30 * k) (length d)) refl (right k (wordAt k d)) refl (leb (size d) (suc k)) refl
+    (judge n (suc k) d (omega (arith, e, suc-add n k, add-suc n k)))
+  where
+    go : (a : Bool) → leb (32 + 30 * k) (length d) ≡ a → (b : Bool) → right k (wordAt k d) ≡ b → (c : Bool) → leb (size d) (suc k) ≡ c
+        → (RightSoFar (suc k) d → Judged d (verdictFrom n (suc k) d)) → Judged d (judged a b c k (verdictFrom n (suc k) d))
+    go false ea b eb c ec next = is-waiting k p (leb-false (32 + 30 * k) (length d) ea) (omega (arith, p .inside, n-lt d))
+    go true ea false eb c ec next = is-out record { k = k; come = leb-true (32 + 30 * k) (length d) ea; inside = p .inside; fails = eb }
+    go true ea true eb true ec next = is-standing record {
+      taken = omega (arith, leb-true (32 + 30 * k) (length d) ea, leb-true (size d) (suc k) ec);
+      each = λ j h. below-suc (λ (i : ℕ). right i (wordAt i d) ≡ true) k (p .good) eb j (omega (arith, leb-true (size d) (suc k) ec));
+    }
+    go true ea true eb false ec next = next (one-more k d p (leb-true (32 + 30 * k) (length d) ea) eb (leb-false (size d) (suc k) ec))
+
+pub judge-all : (d : List Bool) → Judged d (verdict d)
+judge-all d = judge 33 0 d refl (none-so-far d)
+
+-- A FRAME STANDS exactly when the verdict says so
+pub verdict-standing : (d : List Bool) → (verdict d ≡ standing) ↔ Stands d
+verdict-standing d = (λ e. there (verdict d) (judge-all d) e, λ s. back (verdict d) (judge-all d) s)
+  where
+    there : (v : Verdict) → Judged d v → v ≡ standing → Stands d
+    there v (is-out r) e = absurd (let z : _≡_ {A = ℕ} 0 1 = cc in omega arith)
+    there v (is-standing s) e = s
+    there v (is-waiting k p l h) e = absurd (let z : _≡_ {A = ℕ} 0 1 = cc in omega arith)
+
+    back : (v : Verdict) → Judged d v → Stands d → v ≡ standing
+    back v (is-out r) s = absurd (out-falls d r s)
+    back v (is-standing t) s = refl
+    back v (is-waiting k p l h) s = absurd (waiting-falls k d p l s)
+
+-- RULED OUT exactly when the verdict says so
+pub verdict-out : (d : List Bool) → (verdict d ≡ out) ↔ RuledOut d
+verdict-out d = (λ e. there (verdict d) (judge-all d) e, λ r. back (verdict d) (judge-all d) r)
+  where
+    there : (v : Verdict) → Judged d v → v ≡ out → RuledOut d
+    there v (is-out r) e = r
+    there v (is-standing s) e = absurd (let z : _≡_ {A = ℕ} 0 1 = cc in omega arith)
+    there v (is-waiting k p l h) e = absurd (let z : _≡_ {A = ℕ} 0 1 = cc in omega arith)
+
+    back : (v : Verdict) → Judged d v → RuledOut d → v ≡ out
+    back v (is-out q) r = refl
+    back v (is-standing s) r = absurd (out-falls d r s)
+    back v (is-waiting k p l h) r = absurd (early k p l r)
+      where
+        -- the word that fails has come, so it is one of the k that are right
+        early : (k : ℕ) → RightSoFar k d → length d < 32 + 30 * k → RuledOut d → ⊥
+        early k p l r = unlike (right (r .k) (wordAt (r .k) d)) (p .good (r .k) (omega (arith, r .come))) (r .fails)
+
+-- DECIDED once 990 bits from the position, so 992 from two bits before it, have come
+pub decided-by-990 : (d : List Bool) → 992 ≤ length d → (k : ℕ) → verdict d ≡ waiting k → ⊥
+decided-by-990 d l k e = go (verdict d) (judge-all d) e
+  where
+    go : (v : Verdict) → Judged d v → v ≡ waiting k → ⊥
+    go v (is-out r) f = let z : _≡_ {A = ℕ} 0 1 = cc in omega arith
+    go v (is-standing s) f = let z : _≡_ {A = ℕ} 0 1 = cc in omega arith
+    go v (is-waiting j p h b) f = omega arith

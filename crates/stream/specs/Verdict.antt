@@ -1,0 +1,77 @@
+-- How far the bits that have come decide a position, and a stream that may go on. d is the stream from two bits before a position. Assumes nothing.
+use mathlib.Core.Path.{_≡_}
+use mathlib.Core.Bool.{Bool, true, false, cond}
+use mathlib.Core.List.{List, [], _∷_}
+use Prim.Native.Nat.{ℕ, zero, suc, _+_, _-_, _*_, _≤_, _<_}
+use lib.Dec.{leb}
+use lib.ListN.{length}
+use Rattle.stream.specs.Standing.{wordAt, right, size, Placed, placed}
+
+-- RULED OUT: a word of it that has fully come fails (for the first word, its preamble too)
+pub record RuledOut (d : List Bool) : Type 0 where
+  pub k : ℕ
+  pub come : 32 + 30 * k ≤ length d
+  pub inside : k < size d
+  pub fails : right k (wordAt k d) ≡ false
+
+-- the first k words have come and are right, and the frame has more
+pub record RightSoFar (k : ℕ) (d : List Bool) : Type 0 where
+  pub come : (j : ℕ) → j < k → 32 + 30 * j ≤ length d
+  pub good : (j : ℕ) → j < k → right j (wordAt j d) ≡ true
+  pub inside : k < size d
+
+-- THE VERDICT by words in order: ruled out; a frame stands; or k words are right and word k has not fully come
+pub data Verdict : Type 0 where
+  out : Verdict
+  standing : Verdict
+  waiting : ℕ → Verdict
+
+-- by: word k has come; it is right; it is the last
+abbrev pub judged : Bool → Bool → Bool → ℕ → Verdict → Verdict
+judged false r l k next = waiting k
+judged true false l k next = out
+judged true true true k next = standing
+judged true true false k next = next
+
+-- from word k on; a frame has at most 33 words, and n + k is 33
+unfoldable pub verdictFrom : ℕ → ℕ → List Bool → Verdict
+verdictFrom zero k d = waiting k
+verdictFrom (suc n) k d =
+    let next = verdictFrom n (suc k) d in
+    judged (leb (32 + 30 * k) (length d)) (right k (wordAt k d)) (leb (size d) (suc k)) k next
+
+abbrev pub verdict : List Bool → Verdict
+verdict d = verdictFrom 33 0 d
+
+-- THE FRAMES DECIDED SO FAR: the scan as far as each position is decided; at the first that is not, it waits for more bits
+abbrev pub decidedBy : Verdict → List Placed → List Placed → List Placed
+decidedBy out found next = next
+decidedBy standing found next = found
+decidedBy (waiting k) found next = []
+
+unfoldable pub decided : ℕ → ℕ → List Bool → List Placed
+decided skip p [] = []
+decided zero p (b ∷ d) =
+    let found = placed p (b ∷ d) ∷ decided (30 * size (b ∷ d) - 1) (suc p) d in
+    let next = decided zero (suc p) d in
+    decidedBy (verdict (b ∷ d)) found next
+decided (suc skip) p (b ∷ d) = decided skip (suc p) d
+
+-- THE HUNT from word k of a position on: what is left from two bits before the position where it stops, how many words of that position are
+-- known right, and whether a frame stands there. After the end a position whose next word has not come is ruled out.
+pub record Hunted : Type 0 where
+  pub rest : List Bool
+  pub words : ℕ
+  pub found : Bool
+
+abbrev pub huntBy : Verdict → Bool → List Bool → Hunted → Hunted
+huntBy out ended d next = next
+huntBy standing ended d next = record { rest = d; words = 0; found = true }
+huntBy (waiting j) true d next = next
+huntBy (waiting j) false d next = record { rest = d; words = j; found = false }
+
+unfoldable pub hunt : Bool → ℕ → List Bool → Hunted
+hunt ended k [] = record { rest = []; words = k; found = false }
+hunt ended k (b ∷ d) =
+    let next = hunt ended 0 d in
+    huntBy (verdictFrom (33 - k) k (b ∷ d)) ended (b ∷ d) next
