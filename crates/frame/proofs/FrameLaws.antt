@@ -5,7 +5,7 @@ use mathlib.Core.List.{List, [], _∷_, _++_}
 use Prim.Native.Nat.{ℕ, zero, suc, _+_, _-_, _^_, _≤_, _<_}
 use native.Mathlib.Nat.{mod-eq-of-lt}
 use native.Mathlib.Omega.{arith}
-use lib.ListN.{length, take, drop, replicate, length-drop, take-append-drop}
+use lib.ListN.{length, take, drop, replicate, length-append, length-replicate, length-drop, take-append-drop}
 use lib.Seq.{length-take-le, take-append-seam, drop-append-seam}
 use borrow.Author.Tests.{ltb-false, le-ltb}
 use Rattle.bits.specs.Bits.{bits, number}
@@ -100,6 +100,10 @@ module _ (f : Frame) (e : outside f ≡ false) where
 pub data-framed : (h : Header) (ws : List ℕ) → dataWords (framed h ws) ≡ ws
 unfolding framed
 data-framed h ws = take-append-seam ws (replicate (31 - length ws) 0)
+
+pub length-framed : (h : Header) (ws : List ℕ) → length ws ≤ 31 → length (framed h ws .words) ≡ 31
+unfolding framed
+length-framed h ws l = omega (arith, length-append ws (replicate (31 - length ws) 0), length-replicate {A = ℕ} (31 - length ws) 0)
 
 pub framed-inside : (h : Header) (ws : List ℕ) → headerOutside h ≡ false → Below ws → length ws ≤ 31 → outside (framed h ws) ≡ false
 unfolding framed outside

@@ -23,6 +23,11 @@ wordsOf f = number (firstWord (f .header)) ∷ number (secondWord (f .header) (f
 unfoldable pub frameOf : List ℕ → Frame
 frameOf ws = framed (headerOf (bits 24 (getD ws 0 0)) (bits 24 (getD ws 1 0))) (drop 2 ws)
 
+-- what stands for a frame where there is none: every bit of its words is zero
+unfoldable pub blank : Frame
+unfolding frameOf
+blank = frameOf []
+
 -- each of these words has at most 24 bits
 abbrev pub Below : List ℕ → Type 0
 Below [] = Unit {0}

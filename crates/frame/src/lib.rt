@@ -6,6 +6,7 @@ ghost use mathlib.Core.Path.{_≡_};
 ghost use Prim.Native.Nat.{_%_, _<_};
 ghost use Rattle.bits.specs.Bits.{bits};
 ghost use Rattle.frame.specs.Header.{stateOf, kindOf, headerOf, nOf, preambled};
+ghost use Rattle.frame.specs.Frames.{blank};
 ghost use Rattle.frame.specs.Answer.{healthOf, headerWords, headerWidths, frameWidths, clockOf};
 ghost use Rattle.frame.specs.Layout.{layoutOf};
 use crate::code::FACTORS;
@@ -120,6 +121,18 @@ pub fn header_of(first: u32, second: u32) -> Header
         z: (second / 2048 % 8192) as u16,
         sequence: (second / 256 % 8) as u8,
         state,
+    }
+}
+
+// What stands for a frame where there is none: every bit of its words is zero.
+pub fn no_frame() -> Frame
+    ensures { λ r. ⌜ r ≡ blank ⌝ }
+{
+    let header = header_of(0, 0);
+    Frame {
+        header,
+        n: 0,
+        words: [0u32; 31],
     }
 }
 

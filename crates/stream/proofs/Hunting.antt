@@ -10,7 +10,7 @@ use lib.ListN.{length, drop, length-map}
 use Rattle.stream.specs.Standing.{nAt, size, Stands, Placed, scan}
 use Rattle.stream.specs.Verdict.{RuledOut, RightSoFar, Verdict, out, standing, waiting, verdictFrom, decided, Hunted, huntBy, hunt}
 use Rattle.stream.proofs.Words.{unlike, n-lt}
-use Rattle.stream.proofs.Verdicts.{none-so-far, Judged, is-out, is-standing, is-waiting, judge, out-stays, waiting-falls}
+use Rattle.stream.proofs.Verdicts.{none-so-far, Judged, is-out, is-standing, is-waiting, judge, out-append, out-stays, waiting-falls}
 use Rattle.stream.proofs.Scanning.{scan-miss}
 use Rattle.stream.proofs.Prefix.{decided-out}
 use Rattle.stream.proofs.Turning.{verdict-turned}
@@ -32,7 +32,7 @@ pub record Hunts (ended : Bool) (d : List Bool) (h : Hunted) : Type 0 where
   pub rest : h .rest ≡ drop gone d
   pub long : gone + length (h .rest) ≡ length d
   pub scanned : (p : ℕ) (e : List Bool) → MayCome ended e → scan 0 p (d ++ e) ≡ scan 0 (p + gone) (h .rest ++ e)
-  pub decides : ended ≡ false → (p : ℕ) → decided 0 p d ≡ decided 0 (p + gone) (h .rest)
+  pub decides : ended ≡ false → (p : ℕ) (e : List Bool) → decided 0 p (d ++ e) ≡ decided 0 (p + gone) (h .rest ++ e)
   pub found : h .found ≡ true → Stands (h .rest)
   pub idle : h .found ≡ false → Idle ended (h .words) (h .rest)
   pub few : h .words ≤ 32
@@ -45,7 +45,7 @@ further ended b d h f r u = record {
   rest = u .rest;
   long = omega (arith, u .long, suc-add (u .gone) (length (h .rest)));
   scanned = λ p e x. scan-miss p b (d ++ e) (f e x) ∙ u .scanned (suc p) e x ∙ rw (add-suc p (u .gone), suc-add p (u .gone));
-  decides = λ e p. decided-out p b d (r e) ∙ u .decides e (suc p) ∙ rw (add-suc p (u .gone), suc-add p (u .gone));
+  decides = λ x p e. decided-out p b (d ++ e) (out-append (b ∷ d) e (r x)) ∙ u .decides x (suc p) e ∙ rw (add-suc p (u .gone), suc-add p (u .gone));
   found = u .found;
   idle = u .idle;
   few = u .few;
@@ -58,7 +58,7 @@ stays ended d k f s i w = record {
   rest = refl;
   long = zero-add (length d);
   scanned = λ p e x. rw (add-zero p);
-  decides = λ e p. rw (add-zero p);
+  decides = λ x p e. rw (add-zero p);
   found = s;
   idle = i;
   few = w;

@@ -7,3 +7,4 @@ pub mod Damage
 pub mod Prefix
 pub mod Hunting
 pub mod HuntSteps
+pub mod InTime

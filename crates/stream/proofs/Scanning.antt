@@ -56,7 +56,7 @@ only zero p (b ∷ d) h m = go (stands (b ∷ d)) refl m (only (30 * size (b ∷
         which (inr x) = shift p b d h (f x)
 
 -- EVERY FRAME THAT STANDS is found, unless a frame found before covers its first bit
-later : (h x : Placed) (l : List Placed) → FoundOrCovered h l → FoundOrCovered h (x ∷ l)
+pub later : (h x : Placed) (l : List Placed) → FoundOrCovered h l → FoundOrCovered h (x ∷ l)
 later h x l (inl m) = inl (List·Memᴰ·tail m)
 later h x l (inr c) = inr (record { by = c .by; there = List·Memᴰ·tail (c .there); before = c .before; beyond = c .beyond })
 

@@ -65,6 +65,10 @@ out-stays d e r = out-falls (d ++ e) (out-append d e r)
 pub waiting-falls : (k : ℕ) (d : List Bool) → RightSoFar k d → length d < 32 + 30 * k → Stands d → ⊥
 waiting-falls k d p l s = omega (arith, p .inside, s .taken)
 
+-- nor is it ruled out: a word that fails has come, so it would be one of the k that are right
+waiting-not-out : (k : ℕ) (d : List Bool) → RightSoFar k d → length d < 32 + 30 * k → RuledOut d → ⊥
+waiting-not-out k d p l r = unlike (right (r .k) (wordAt (r .k) d)) (p .good (r .k) (omega (arith, r .come))) (r .fails)
+
 -- ---- the verdict
 
 pub data Judged (d : List Bool) : Verdict → Type 0 where
@@ -118,11 +122,16 @@ verdict-out d = (λ e. there (verdict d) (judge-all d) e, λ r. back (verdict d)
     back : (v : Verdict) → Judged d v → RuledOut d → v ≡ out
     back v (is-out q) r = refl
     back v (is-standing s) r = absurd (out-falls d r s)
-    back v (is-waiting k p l h) r = absurd (early k p l r)
-      where
-        -- the word that fails has come, so it is one of the k that are right
-        early : (k : ℕ) → RightSoFar k d → length d < 32 + 30 * k → RuledOut d → ⊥
-        early k p l r = unlike (right (r .k) (wordAt (r .k) d)) (p .good (r .k) (omega (arith, r .come))) (r .fails)
+    back v (is-waiting k p l h) r = absurd (waiting-not-out k d p l r)
+
+-- WAITING: the words that have come are right, and the next has not
+pub verdict-waiting : (k : ℕ) (d : List Bool) → RightSoFar k d → length d < 32 + 30 * k → (j : ℕ) × (verdict d ≡ waiting j)
+verdict-waiting k d p l = go (verdict d) (judge-all d)
+  where
+    go : (v : Verdict) → Judged d v → (j : ℕ) × (v ≡ waiting j)
+    go v (is-out r) = absurd (waiting-not-out k d p l r)
+    go v (is-standing s) = absurd (waiting-falls k d p l s)
+    go v (is-waiting j q m h) = (j, refl)
 
 -- DECIDED once 990 bits from the position, so 992 from two bits before it, have come
 pub decided-by-990 : (d : List Bool) → 992 ≤ length d → (k : ℕ) → verdict d ≡ waiting k → ⊥

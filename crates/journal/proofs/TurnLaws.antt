@@ -1,0 +1,101 @@
+-- What one turn of each loop stores or reads. Assumes nothing.
+use mathlib.Core.Path.{_≡_, sym, ap, _∙_}
+use mathlib.Core.List.{List, [], _∷_, _++_}
+use Prim.Native.Nat.{ℕ, zero, suc, _+_, _-_, _*_, _/_, _%_, _^_, _≤_, _<_}
+use native.Mathlib.Nat.{lt-of-lt-of-le}
+use native.Mathlib.Numerals.{add-one}
+use native.Mathlib.Omega.{arith}
+use lib.ListN.{length, take, drop, getD, set, replicate, length-take, length-drop}
+use lib.Seq.{take-suc, drop-cons, getD-take, getD-drop, length-take-le, set-at, append-snoc, sets}
+use lib.Pow.{pow-mono}
+use Rattle.journal.specs.Bytes.{bytesOf, wordIn, written, wordsIn}
+use Rattle.journal.specs.Forms.{mark, recordWith}
+use Rattle.journal.proofs.ByteLaws.{bytes-first, length-bytes, word-lt, word-snoc}
+use Rattle.journal.proofs.WordLaws.{length-words, words-snoc}
+
+-- ---- stores
+
+-- a run of stores in two parts
+pub sets-append : (a b l : List ℕ) (i : ℕ) → sets l i (a ++ b) ≡ sets (sets l i a) (i + length a) b
+sets-append [] b l i = ap (λ j. sets l j b) at-first
+  where
+    at-first : i ≡ i + 0
+    at-first = omega arith
+sets-append (x ∷ a) b l i = sets-append a b (set l i x) (suc i) ∙ ap (λ j. sets (sets (set l i x) (suc i) a) j b) one-on
+  where
+    one-on : suc i + length a ≡ i + suc (length a)
+    one-on = omega arith
+
+-- the highest of the bytes that are left
+pub store-byte : (l : List ℕ) (next left w : ℕ) → 0 < left
+    → sets l next (bytesOf left w) ≡ sets (set l next (w / 2 ^ (8 * (left - 1)) % 256)) (next + 1) (bytesOf (left - 1) w)
+store-byte l next zero w h = absurd (omega arith)
+store-byte l next (suc k) w h =
+    ap (sets l next) (bytes-first k w)
+    ∙ ap (λ j. sets (set l next (w / 2 ^ (8 * k) % 256)) j (bytesOf k w)) (sym (add-one next))
+    ∙ ap (λ j. sets (set l next (w / 2 ^ (8 * j) % 256)) (next + 1) (bytesOf j w)) lower
+  where
+    lower : k ≡ suc k - 1
+    lower = omega arith
+
+-- the bytes of word i of the first n
+pub store-word : (k : ℕ) (l ws : List ℕ) (next i n : ℕ) → i < n → n ≤ length ws
+    → sets l next (written k (drop i (take n ws))) ≡ sets (sets l next (bytesOf k (getD ws i 0))) (next + k) (written k (drop (i + 1) (take n ws)))
+unfolding written
+store-word k l ws next i n h m =
+    ap (λ r. sets l next (written k r)) first
+    ∙ sets-append (bytesOf k (getD ws i 0)) (written k (drop (i + 1) (take n ws))) l next
+    ∙ ap (λ j. sets (sets l next (bytesOf k (getD ws i 0))) (next + j) (written k (drop (i + 1) (take n ws)))) (length-bytes k (getD ws i 0))
+  where
+    inside : i < length (take n ws)
+    inside = omega (arith, length-take-le n ws m)
+
+    first : drop i (take n ws) ≡ getD ws i 0 ∷ drop (i + 1) (take n ws)
+    first = drop-cons (take n ws) i 0 inside ∙ rw (getD-take n ws i 0 h, add-one i)
+
+-- a record: its mark and N, word 1, word 2 and the data words, each where the one before ends
+pub store-record : (l : List ℕ) (form n first second : ℕ) (ws : List ℕ)
+    → sets (sets (sets (sets l 0 (mark form ++ (n ∷ []))) 3 (bytesOf 3 first)) 6 (bytesOf 3 second)) 9 (written 3 ws)
+    ≡ sets l 0 (recordWith form 3 n (first ∷ second ∷ ws))
+unfolding written
+store-record l form n first second ws =
+    sym (after 3 first (bytesOf 3 second ++ written 3 ws) start ∙ after 6 second (written 3 ws) (sets start 3 (bytesOf 3 first)))
+  where
+    start : List ℕ
+    start = sets l 0 (mark form ++ (n ∷ []))
+
+    after : (i w : ℕ) (rest m : List ℕ) → sets m i (bytesOf 3 w ++ rest) ≡ sets (sets m i (bytesOf 3 w)) (i + 3) rest
+    after i w rest m = sets-append (bytesOf 3 w) rest m i ∙ ap (λ j. sets (sets m i (bytesOf 3 w)) (i + j) rest) (length-bytes 3 w)
+
+-- ---- reads
+
+-- the next byte of a word
+pub word-more : (bs : List ℕ) (from i : ℕ) → from + i < length bs → getD bs (from + i) 0 < 256
+    → wordIn (take i (drop from bs)) * 256 + getD bs (from + i) 0 ≡ wordIn (take (i + 1) (drop from bs))
+word-more bs from i h b =
+    sym (ap wordIn last ∙ word-snoc (take i (drop from bs)) (getD bs (from + i) 0) b)
+  where
+    inside : i < length (drop from bs)
+    inside = omega (arith, length-drop from bs)
+
+    last : take (i + 1) (drop from bs) ≡ take i (drop from bs) ++ (getD bs (from + i) 0 ∷ [])
+    last = rw (add-one i, sym (getD-drop from bs i 0)) (take-suc (drop from bs) i 0 inside)
+
+-- up to three bytes leave room for one more
+pub word-small : (i : ℕ) (bs : List ℕ) → i < 4 → wordIn (take i bs) < 2 ^ 24
+word-small i bs h = lt-of-lt-of-le (word-lt (take i bs)) (pow-mono short)
+  where
+    short : 8 * length (take i bs) ≤ 24
+    short = omega (arith, length-take i bs)
+
+-- the next word of an array that is 0 from there on
+pub word-filled : (k m i : ℕ) (bs : List ℕ) → i < m
+    → set (wordsIn k i bs ++ replicate (m - i) 0) i (wordIn (take k (drop (k * i) bs))) ≡ wordsIn k (i + 1) bs ++ replicate (m - (i + 1)) 0
+word-filled k m i bs h =
+    ap (λ j. set (wordsIn k i bs ++ replicate j 0) i (wordIn (take k (drop (k * i) bs)))) lower
+    ∙ set-at (wordsIn k i bs) 0 (replicate (m - (i + 1)) 0) (wordIn (take k (drop (k * i) bs))) i (length-words k i bs)
+    ∙ sym (append-snoc (wordsIn k i bs) (wordIn (take k (drop (k * i) bs))) (replicate (m - (i + 1)) 0))
+    ∙ ap (λ ws. ws ++ replicate (m - (i + 1)) 0) (sym (words-snoc k i bs) ∙ ap (λ j. wordsIn k j bs) (sym (add-one i)))
+  where
+    lower : m - i ≡ suc (m - (i + 1))
+    lower = omega arith

@@ -1,0 +1,198 @@
+-- "Turning over all bits from the start changes no frame handed out": calls that bring opposite bits are answered alike, at any time.
+-- Assumes nothing.
+use mathlib.Core.Path.{_≡_, refl, sym, ap, ap₂, subst, subst₂, _∙_}
+use mathlib.Core.Bool.{Bool, true, false, not}
+use mathlib.Core.List.{List, [], _∷_, map}
+use Prim.Native.Nat.{ℕ, _+_, _/_, _^_, _≤_, _<_}
+use native.Mathlib.Omega.{arith}
+use lib.Bits.{bitXor}
+use lib.ListN.{length, replicate}
+use Rattle.bits.specs.Bits.{number}
+use Rattle.line.specs.Line.{isData, six}
+use Rattle.stream.specs.Standing.{Stands, frameAt, Placed}
+use Rattle.stream.proofs.Turning.{stands-turned, stands-back, frame-turned}
+use Rattle.reader.specs.Reading.{candidateBits, bitsOf, started, past, stepCells, stepTo, pushed, fedBy, Run, runTo, ranBy, spent, fedAllBy, endTo, endedBy, takeTo, takenBy}
+use Rattle.reader.specs.declared.Candidate.{Candidate}
+use Rattle.reader.specs.declared.Reader.{Reader}
+use Rattle.reader.specs.declared.Answer.the-variants.{Done, Refused}
+use Rattle.reader.specs.declared.Next.{Next}
+use Rattle.reader.specs.declared.FedAll.{FedAll}
+use Rattle.reader.specs.declared.Taken.{Taken}
+use Rattle.reader.proofs.Buffer.{held-none}
+use Rattle.reader.proofs.Accepted.{Accepted, length-step, accepted-step}
+use Rattle.reader.proofs.Running.{stopped, run-waits, run-on, run-over}
+use Rattle.promises.specs.Calls.{Call, feeds, feedsAll, ends, takes, Reply, replied, used, took, replyTo, after, replies}
+use Rattle.promises.specs.Demand3.{OppositeByte, OppositeBytes, no-bytes, byte-and, OppositeCalls, no-calls, fed-and, all-and, end-and, take-and, TurnedIsSame}
+use Rattle.promises.proofs.Kept.{Kept, kept-started}
+use Rattle.promises.proofs.Runs.{given, fed-by, all-by, ended-by, taken-by, never-past, kept-call}
+use Rattle.promises.proofs.Opposed.{Opposed, step-opposed, end-opposed, take-opposed}
+
+-- ---- bytes fed
+
+record SameRun (x x′ : Run) : Type 0 where
+  used : x′ .used ≡ x .used
+  passed : x′ .passed ≡ x .passed
+  opposed : Opposed (x .cells) (x .candidate) (x′ .cells) (x′ .candidate)
+
+more : (u p : ℕ) (x x′ : Run) → SameRun x x′ → SameRun (spent u p x) (spent u p x′)
+more u p x x′ s = record { used = ap (λ n. u + n) (s .used); passed = ap (λ n. p + n) (s .passed); opposed = s .opposed }
+
+run-opposed : {bs ds : List ℕ} → OppositeBytes bs ds
+    → (cells : List ℕ) → length cells ≡ 40 → (c : Candidate) → Accepted cells c → (cells′ : List ℕ) → length cells′ ≡ 40 → (c′ : Candidate) → Accepted cells′ c′
+    → Opposed cells c cells′ c′ → SameRun (runTo cells c bs) (runTo cells′ c′ ds)
+run-opposed no-bytes cells l c a cells′ l′ c′ a′ o = unfold runTo in record { used = refl; passed = refl; opposed = o }
+run-opposed (byte-and {b = b} {c = d} {bs = bs} {cs = ds} t rest) cells l c a cells′ l′ c′ a′ o =
+    go (c .waits) refl (isData b) refl
+    (λ w s. run-opposed rest (stepCells cells c (number (six b))) (length-step cells l c a w (number (six b))) (stepTo cells c (number (six b))) (accepted-step cells l c a w (number (six b)))
+    (stepCells cells′ c′ (number (six d))) (length-step cells′ l′ c′ a′ (o .waits ∙ w) (number (six d))) (stepTo cells′ c′ (number (six d))) (accepted-step cells′ l′ c′ a′ (o .waits ∙ w) (number (six d))) s)
+    (run-opposed rest cells l c a cells′ l′ c′ a′ o)
+  where
+    on : Run
+    on = runTo (stepCells cells c (number (six b))) (stepTo cells c (number (six b))) bs
+
+    on′ : Run
+    on′ = runTo (stepCells cells′ c′ (number (six d))) (stepTo cells′ c′ (number (six d))) ds
+
+    go : (y : Bool) → c .waits ≡ y → (z : Bool) → isData b ≡ z
+        → (c .waits ≡ false → Opposed (stepCells cells c (number (six b))) (stepTo cells c (number (six b))) (stepCells cells′ c′ (number (six d))) (stepTo cells′ c′ (number (six d))) → SameRun on on′)
+        → SameRun (runTo cells c bs) (runTo cells′ c′ ds) → SameRun (runTo cells c (b ∷ bs)) (runTo cells′ c′ (d ∷ ds))
+    go true w z e next over =
+        subst₂ SameRun (sym (run-waits cells c (b ∷ bs) w)) (sym (run-waits cells′ c′ (d ∷ ds) (o .waits ∙ w))) (record { used = refl; passed = refl; opposed = o })
+    go false w true e next over =
+        subst₂ SameRun (sym (run-on cells c b bs w e)) (sym (run-on cells′ c′ d ds (o .waits ∙ w) (t .both ∙ e)))
+        (more 1 0 on on′ (next w (step-opposed cells l c a cells′ l′ c′ a′ o w b d (t .bits e))))
+    go false w false e next over =
+        subst₂ SameRun (sym (run-over cells c b bs w e)) (sym (run-over cells′ c′ d ds (o .waits ∙ w) (t .both ∙ e))) (more 1 1 (runTo cells c bs) (runTo cells′ c′ ds) over)
+
+-- ---- one call
+
+record Facing (r r′ : Reader) : Type 0 where
+  opposed : Opposed (r .cells) (r .candidate) (r′ .cells) (r′ .candidate)
+  ended : r′ .ended ≡ r .ended
+
+record Alike (r r′ : Reader) (c d : Call) : Type 0 where
+  reply : replyTo r′ d ≡ replyTo r c
+  facing : Facing (after r c) (after r′ d)
+
+module _ (s s′ : List Bool) (out out′ : List Placed) (r r′ : Reader) (k : Kept s out r) (k′ : Kept s′ out′ r′) (f : Facing r r′) where
+  p : past r ≡ false
+  p = never-past s out r k
+
+  p′ : past r′ ≡ false
+  p′ = never-past s′ out′ r′ k′
+
+  o : Opposed (r .cells) (r .candidate) (r′ .cells) (r′ .candidate)
+  o = f .opposed
+
+  fed-alike : (b d : ℕ) → OppositeByte b d → Alike r r′ (feeds b) (feeds d)
+  fed-alike b d t = go (r .ended) refl (r .candidate .waits) refl (isData b) refl
+    where
+      P : Next → Next → Type 0
+      P x x′ = (replied (x′ .answer) ≡ replied (x .answer)) × Facing (x .reader) (x′ .reader)
+
+      alike : P (fedBy r b) (fedBy r′ d) → Alike r r′ (feeds b) (feeds d)
+      alike q = record { reply = unfold replyTo in q .0; facing = unfold after in q .1 }
+
+      go : (x : Bool) → r .ended ≡ x → (y : Bool) → r .candidate .waits ≡ y → (z : Bool) → isData b ≡ z → Alike r r′ (feeds b) (feeds d)
+      go true ex y ey z ez =
+          alike (subst₂ P (sym (fed-by r false true y p ex ey b z ez)) (sym (fed-by r′ false true y p′ (f .ended ∙ ex) (o .waits ∙ ey) d z (t .both ∙ ez))) (refl, f))
+      go false ex true ey z ez =
+          alike (subst₂ P (sym (fed-by r false false true p ex ey b z ez)) (sym (fed-by r′ false false true p′ (f .ended ∙ ex) (o .waits ∙ ey) d z (t .both ∙ ez))) (refl, f))
+      go false ex false ey false ez =
+          alike (subst₂ P (sym (fed-by r false false false p ex ey b false ez)) (sym (fed-by r′ false false false p′ (f .ended ∙ ex) (o .waits ∙ ey) d false (t .both ∙ ez))) (refl, f))
+      go false ex false ey true ez =
+          alike (subst₂ P (sym (fed-by r false false false p ex ey b true ez)) (sym (fed-by r′ false false false p′ (f .ended ∙ ex) (o .waits ∙ ey) d true (t .both ∙ ez)))
+          (refl, (unfold pushed in record { opposed = step-opposed (r .cells) (k .len) (r .candidate) (k .accepted) (r′ .cells) (k′ .len) (r′ .candidate) (k′ .accepted) o ey b d (t .bits ez); ended = f .ended })))
+
+  all-alike : (bs ds : List ℕ) → OppositeBytes bs ds → Alike r r′ (feedsAll bs) (feedsAll ds)
+  all-alike bs ds t = go (r .ended) refl (r .candidate .waits) refl
+    where
+      P : FedAll → FedAll → Type 0
+      P x x′ = (used (x′ .answer) (x′ .used) (x′ .passed) ≡ used (x .answer) (x .used) (x .passed)) × Facing (x .reader) (x′ .reader)
+
+      alike : P (fedAllBy r bs) (fedAllBy r′ ds) → Alike r r′ (feedsAll bs) (feedsAll ds)
+      alike q = record { reply = unfold replyTo in q .0; facing = unfold after in q .1 }
+
+      same : SameRun (runTo (r .cells) (r .candidate) bs) (runTo (r′ .cells) (r′ .candidate) ds)
+      same = run-opposed t (r .cells) (k .len) (r .candidate) (k .accepted) (r′ .cells) (k′ .len) (r′ .candidate) (k′ .accepted) o
+
+      go : (x : Bool) → r .ended ≡ x → (y : Bool) → r .candidate .waits ≡ y → Alike r r′ (feedsAll bs) (feedsAll ds)
+      go true ex y ey =
+          alike (subst₂ P (sym (all-by r false true y p ex ey bs)) (sym (all-by r′ false true y p′ (f .ended ∙ ex) (o .waits ∙ ey) ds)) (refl, f))
+      go false ex true ey =
+          alike (subst₂ P (sym (all-by r false false true p ex ey bs)) (sym (all-by r′ false false true p′ (f .ended ∙ ex) (o .waits ∙ ey) ds)) (refl, f))
+      go false ex false ey =
+          alike (subst₂ P (sym (all-by r false false false p ex ey bs)) (sym (all-by r′ false false false p′ (f .ended ∙ ex) (o .waits ∙ ey) ds))
+          (ap₂ (used Done) (same .used) (same .passed), record { opposed = same .opposed; ended = f .ended }))
+
+  end-alike : Alike r r′ ends ends
+  end-alike = go (r .ended) refl (r .candidate .waits) refl
+    where
+      P : Next → Next → Type 0
+      P x x′ = (replied (x′ .answer) ≡ replied (x .answer)) × Facing (x .reader) (x′ .reader)
+
+      alike : P (endedBy r) (endedBy r′) → Alike r r′ ends ends
+      alike q = record { reply = unfold replyTo in q .0; facing = unfold after in q .1 }
+
+      go : (x : Bool) → r .ended ≡ x → (y : Bool) → r .candidate .waits ≡ y → Alike r r′ ends ends
+      go true ex y ey =
+          alike (subst₂ P (sym (ended-by r false true y p ex ey)) (sym (ended-by r′ false true y p′ (f .ended ∙ ex) (o .waits ∙ ey))) (refl, f))
+      go false ex true ey =
+          alike (subst₂ P (sym (ended-by r false false true p ex ey)) (sym (ended-by r′ false false true p′ (f .ended ∙ ex) (o .waits ∙ ey))) (refl, f))
+      go false ex false ey =
+          alike (subst₂ P (sym (ended-by r false false false p ex ey)) (sym (ended-by r′ false false false p′ (f .ended ∙ ex) (o .waits ∙ ey)))
+          (refl, record { opposed = end-opposed (r .cells) (k .len) (r .candidate) (k .accepted) (r′ .cells) (k′ .len) (r′ .candidate) (k′ .accepted) o; ended = refl }))
+
+  take-alike : Alike r r′ takes takes
+  take-alike = go (r .candidate .waits) refl
+    where
+      P : Taken → Taken → Type 0
+      P x x′ = (took (x′ .answer) (x′ .at) (x′ .frame) ≡ took (x .answer) (x .at) (x .frame)) × Facing (x .reader) (x′ .reader)
+
+      alike : P (takenBy r) (takenBy r′) → Alike r r′ takes takes
+      alike q = record { reply = unfold replyTo in q .0; facing = unfold after in q .1 }
+
+      go : (y : Bool) → r .candidate .waits ≡ y → Alike r r′ takes takes
+      go false ey = alike (subst₂ P (sym (taken-by r false false p ey)) (sym (taken-by r′ false false p′ (o .waits ∙ ey))) (refl, f))
+      go true ey =
+          alike (subst₂ P (sym (taken-by r false true p ey)) (sym (taken-by r′ false true p′ (o .waits ∙ ey)))
+          (unfold given in (
+            ap₂ (took Done) (o .at) (ap frameAt (o .bits) ∙ frame-turned (bitsOf r) (k .found ey)),
+            record {
+              opposed = subst (λ e. Opposed (r .cells) (takeTo (r .cells) (r .candidate) (r .ended)) (r′ .cells) (takeTo (r′ .cells) (r′ .candidate) e)) (sym (f .ended))
+                  (take-opposed (r .cells) (k .len) (r .candidate) (k .accepted) (r′ .cells) (k′ .len) (r′ .candidate) (k′ .accepted) o (k .found ey) (r .ended));
+              ended = f .ended;
+            },
+          )))
+
+-- ---- any calls
+
+calls-alike : {cs ds : List Call} → OppositeCalls cs ds → (s s′ : List Bool) (out out′ : List Placed) (r r′ : Reader) → Kept s out r → Kept s′ out′ r′ → Facing r r′
+    → replies r′ ds ≡ replies r cs
+unfolding replies
+calls-alike no-calls s s′ out out′ r r′ k k′ f = refl
+calls-alike (fed-and {b = b} {c = d} t rest) s s′ out out′ r r′ k k′ f =
+    let a = fed-alike s s′ out out′ r r′ k k′ f b d t in
+    ap₂ _∷_ (a .reply) (calls-alike rest _ _ _ _ (after r (feeds b)) (after r′ (feeds d)) (kept-call s out r (feeds b) k) (kept-call s′ out′ r′ (feeds d) k′) (a .facing))
+calls-alike (all-and {bs = bs} {ds = ds} t rest) s s′ out out′ r r′ k k′ f =
+    let a = all-alike s s′ out out′ r r′ k k′ f bs ds t in
+    ap₂ _∷_ (a .reply) (calls-alike rest _ _ _ _ (after r (feedsAll bs)) (after r′ (feedsAll ds)) (kept-call s out r (feedsAll bs) k) (kept-call s′ out′ r′ (feedsAll ds) k′) (a .facing))
+calls-alike (end-and rest) s s′ out out′ r r′ k k′ f =
+    let a = end-alike s s′ out out′ r r′ k k′ f in
+    ap₂ _∷_ (a .reply) (calls-alike rest _ _ _ _ (after r ends) (after r′ ends) (kept-call s out r ends k) (kept-call s′ out′ r′ ends k′) (a .facing))
+calls-alike (take-and rest) s s′ out out′ r r′ k k′ f =
+    let a = take-alike s s′ out out′ r r′ k k′ f in
+    ap₂ _∷_ (a .reply) (calls-alike rest _ _ _ _ (after r takes) (after r′ takes) (kept-call s out r takes k) (kept-call s′ out′ r′ takes k′) (a .facing))
+
+pub turned-is-same : TurnedIsSame
+turned-is-same = record {
+  calls = λ cs ds t. calls-alike t [] [] [] [] started started kept-started kept-started (record { opposed = fresh; ended = refl });
+  stand = λ d. (stands-turned d, stands-back d);
+  frame = frame-turned;
+}
+  where
+    empty : bitsOf started ≡ []
+    empty = unfold started candidateBits in held-none (replicate 40 0) 0
+
+    fresh : Opposed (started .cells) (started .candidate) (started .cells) (started .candidate)
+    fresh = record { bits = empty ∙ sym (ap (map not) empty); held = refl; words = refl; at = refl; waits = refl }

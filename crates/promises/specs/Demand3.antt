@@ -1,0 +1,109 @@
+-- DEMAND 3, sentence by sentence, of any list of calls on a fresh reader and of a caller who takes every waiting frame at once.
+-- Assumes nothing.
+use mathlib.Core.Path.{_≡_}
+use mathlib.Core.Logic.{_↔_, _⊎_}
+use mathlib.Core.Bool.{Bool, true, false, not, cond}
+use mathlib.Core.List.{List, [], _∷_, _++_, map, List·Memᴰ}
+use Prim.Native.Nat.{ℕ, _+_, _*_, _≤_, _<_}
+use lib.ListN.{length, take, drop}
+use Rattle.line.specs.Line.{isData, six, lineBits}
+use Rattle.stream.specs.Standing.{Stands, frameAt, Placed, placed, scan, framesIn}
+use Rattle.stream.specs.Verdict.{RightSoFar, decided}
+use Rattle.stream.specs.Places.{StandsIn, FoundOrCovered, Apart, Damaged}
+use Rattle.reader.specs.Reading.{bitsOf, started, past, fedBy, fedAllBy}
+use Rattle.reader.specs.declared.Reader.{Reader}
+use Rattle.reader.specs.declared.Answer.the-variants.{Done, Refused}
+use Rattle.promises.specs.Calls.{Call, feeds, feedsAll, ends, takes, Reply, replied, answerOf, replyTo, after, bitsGiven, afterAll, replies, bitsTaken, handedOut, reported, takesAll, served}
+
+-- the frames that were handed out, with their positions in the whole stream: the first ones of the scan of the bits taken
+unfoldable pub found : List Call → List Placed
+found cs = take (length (handedOut started cs)) (framesIn (bitsTaken started cs))
+
+-- "Only frames by the definition are ever handed out", at their positions modulo 2^32, each once: no two share a bit
+pub record OnlyFrames (cs : List Call) : Type 0 where
+  pub given : handedOut started cs ≡ map reported (found cs)
+  pub stand : (h : Placed) → List·Memᴰ h (found cs) → StandsIn 2 (bitsTaken started cs) h
+  pub once : Apart 2 (found cs)
+
+-- "a position is ruled out as soon as a word of it that has fully come fails": before the end the hunt is at position 2 + gone, past nothing that
+-- may yet stand; there either a frame stands and waits, or the words that have come are right and the next has not
+pub record AsSoonAs (cs : List Call) : Type 0 where
+  pub gone : ℕ
+  pub held : bitsOf (afterAll started cs) ≡ drop gone (bitsTaken started cs)
+  pub rest : (e : List Bool) → framesIn (bitsTaken started cs ++ e) ≡ found cs ++ scan 0 (2 + gone) (drop gone (bitsTaken started cs) ++ e)
+  pub waits : afterAll started cs .candidate .waits ≡ true → Stands (drop gone (bitsTaken started cs))
+  pub hunts : afterAll started cs .candidate .waits ≡ false
+      → RightSoFar (afterAll started cs .candidate .words) (drop gone (bitsTaken started cs))
+      × (length (drop gone (bitsTaken started cs)) < 32 + 30 * afterAll started cs .candidate .words)
+
+-- "It is handed out once and exactly, at latest when 990 bits from its first have been taken or the input has ended, unless a frame already handed
+-- out covers its first bit. This holds when every waiting frame is taken at once, after the end too." Position 2 + q is the bit after drop q's first
+-- two, so 990 bits from it are q + 992 in all.
+pub record HandedOut (bs : List ℕ) : Type 0 where
+  pub bits : bitsTaken started (served bs) ≡ lineBits bs
+  pub none : afterAll started (served bs) .candidate .waits ≡ false
+  pub out : handedOut started (served bs) ≡ map reported (decided 0 2 (lineBits bs))
+  pub in-time : (q : ℕ) → Stands (drop q (lineBits bs)) → q + 992 ≤ length (lineBits bs)
+      → FoundOrCovered (placed (2 + q) (drop q (lineBits bs))) (decided 0 2 (lineBits bs))
+  pub ended : handedOut started (served bs ++ (ends ∷ takesAll)) ≡ map reported (framesIn (lineBits bs))
+  pub at-end : (q : ℕ) → Stands (drop q (lineBits bs)) → FoundOrCovered (placed (2 + q) (drop q (lineBits bs))) (framesIn (lineBits bs))
+  pub once : Apart 2 (framesIn (lineBits bs))
+
+-- "No call on such a reader is ever refused with 5, however long the stream, and every data byte fed to it gives its six bits unless 3 or 2 applies"
+pub record NeverFive (cs : List Call) : Type 0 where
+  pub none : (y : Reply) → List·Memᴰ y (replies started cs) → answerOf y ≡ Refused 5 → ⊥
+  pub taken : (b : ℕ) → isData b ≡ true → afterAll started cs .ended ≡ false → afterAll started cs .candidate .waits ≡ false
+      → (replyTo (afterAll started cs) (feeds b) ≡ replied Done) × (bitsGiven (feeds b) (replyTo (afterAll started cs) (feeds b)) ≡ six b)
+
+-- "Now let bits of a sent frame be turned over, none lost or added. If the first damaged word, counted with the two bits before it, has one, two or
+-- three turned bits, nothing begins where that frame began": g′ is what came of g, after any bits and before any, the stream cut anywhere
+abbrev pub DamageBeginsNothing : List Call → Type 0
+DamageBeginsNothing cs = (g g′ pre post e : List Bool) → Damaged g g′ → bitsTaken started cs ++ e ≡ pre ++ (g′ ++ post)
+    → (h : Placed) → List·Memᴰ h (found cs) → h .at ≡ 2 + length pre → ⊥
+
+-- ---- "Turning over all bits from the start changes no frame handed out"
+
+-- c carries b's six bits turned over, or neither carries bits
+pub record OppositeByte (b c : ℕ) : Type 0 where
+  pub both : isData c ≡ isData b
+  pub bits : isData b ≡ true → six c ≡ map not (six b)
+
+pub data OppositeBytes : List ℕ → List ℕ → Type 0 where
+  no-bytes : OppositeBytes [] []
+  byte-and : {b c : ℕ} {bs cs : List ℕ} → OppositeByte b c → OppositeBytes bs cs → OppositeBytes (b ∷ bs) (c ∷ cs)
+
+pub data OppositeCalls : List Call → List Call → Type 0 where
+  no-calls : OppositeCalls [] []
+  fed-and : {b c : ℕ} {cs ds : List Call} → OppositeByte b c → OppositeCalls cs ds → OppositeCalls (feeds b ∷ cs) (feeds c ∷ ds)
+  all-and : {bs ds : List ℕ} {cs es : List Call} → OppositeBytes bs ds → OppositeCalls cs es → OppositeCalls (feedsAll bs ∷ cs) (feedsAll ds ∷ es)
+  end-and : {cs ds : List Call} → OppositeCalls cs ds → OppositeCalls (ends ∷ cs) (ends ∷ ds)
+  take-and : {cs ds : List Call} → OppositeCalls cs ds → OppositeCalls (takes ∷ cs) (takes ∷ ds)
+
+-- every answer is the same at any time; and the frame definition itself says the same of turned bits, so that an idle reader does not meet it
+pub record TurnedIsSame : Type 0 where
+  pub calls : (cs ds : List Call) → OppositeCalls cs ds → replies started ds ≡ replies started cs
+  pub stand : (d : List Bool) → Stands d ↔ Stands (map not d)
+  pub frame : (d : List Bool) → Stands d → frameAt (map not d) ≡ frameAt d
+
+-- ---- feeding bytes is feeding them one by one, for every reader
+
+-- bytes fed one after the other
+unfoldable pub feedEach : Reader → List ℕ → Reader
+feedEach r [] = r
+feedEach r (b ∷ bs) = feedEach (fedBy r b .reader) bs
+
+-- how many bytes carry no bit
+unfoldable pub without : List ℕ → ℕ
+without [] = 0
+without (b ∷ bs) = cond (isData b) 0 1 + without bs
+
+-- the reader that feeding bytes leaves is the one that feeding those used one by one leaves; `passed` of them carry no bit; and unless it is
+-- refused, all bytes are used or a frame waits. A reader's array has forty cells.
+pub record FeedAllIsFeed (r : Reader) (bs : List ℕ) : Type 0 where
+  pub reader : fedAllBy r bs .reader ≡ feedEach r (take (fedAllBy r bs .used) bs)
+  pub passed : fedAllBy r bs .passed ≡ without (take (fedAllBy r bs .used) bs)
+  pub all : fedAllBy r bs .answer ≡ Done → (fedAllBy r bs .used ≡ length bs) ⊎ (fedAllBy r bs .reader .candidate .waits ≡ true)
+
+-- ---- "a reader state whose counts go past what it can hold" is not reached from one that is not refused, by any call
+abbrev pub NextIsAccepted : Reader → Type 0
+NextIsAccepted r = length (r .cells) ≡ 40 → past r ≡ false → (c : Call) → past (after r c) ≡ false

@@ -1,0 +1,126 @@
+-- At each head the hunt from here is the hunt from the start.
+use borrow.Author.Needs.{needs}
+use borrow.Author.Tests.{not-true, not-false}
+use denote.Ref.{now}
+use mathlib.Core.Path.{_≡_, sym, ap, _∙_}
+use Prim.Native.Nat.{_+_, _-_, _≤_, _<_}
+use native.Mathlib.Numerals.{add-one}
+use native.Mathlib.Omega.{arith}
+use Rattle.bits.specs.Bits.{bits}
+use Rattle.word.specs.Word.{dataOf}
+use Rattle.frame.proofs.HeaderLaws.{n-lt}
+use Rattle.stream.proofs.Words.{n-lt as size-n-lt}
+use Rattle.reader.specs.Cells.{heldBits}
+use Rattle.reader.specs.Hunting.{huntOf}
+use Rattle.reader.proofs.Steps.{n-is, step-next, step-whole, step-out, step-wait, step-cut, step-none}
+use Rattle.reader.proofs.hunt.hunt.Statement.{statement}
+use Rattle.reader.proofs.hunt.hunt.Tie as tie
+
+abbrev Inv-loop : tie.InvT-loop
+Inv-loop cells end held words ended left₀ good₀ left good =
+    (left ≡ left₀) × (0 < left) × (left ≤ held) × (good ≤ 32) × (huntOf cells end held words ended ≡ huntOf cells end left good ended)
+
+abbrev μ-loop : tie.MeasureT-loop
+μ-loop cells end held words ended left₀ good₀ left good = 33 - good
+
+abbrev Inv-position : tie.InvT-position
+Inv-position cells end held words ended left₀ good₀ left good =
+    (left ≤ held) × (good ≤ 32) × (huntOf cells end held words ended ≡ huntOf cells end left good ended)
+
+abbrev μ-position : tie.MeasureT-position
+μ-position cells end held words ended left₀ good₀ left good = left
+
+window-requires : tie.Need-window-requires Inv-loop μ-loop Inv-position μ-position
+window-requires c κs =
+    (c .before .before .before .before .pre .0, omega arith)
+
+position-again : tie.Need-position-again Inv-loop μ-loop Inv-position μ-position
+position-again c =
+    let s = c .before .before .before .before .before .before .before in
+    let a = s .args in
+    let h = c .before .before .before .before .loop in (
+      omega arith,
+      omega arith,
+      h .inv .4 ∙ step-out (now (a .cells)) (s .pre .0) (a .end) (s .pre .1) (h .left) (omega arith) (a .ended) (h .good) (c .before .before .window .result) (h .inv .3) (c .before .before .before .loop-test .taken) (c .before .before .window .ensures)
+          (sym (c .before .right .ensures) ∙ not-true _ (c .if1 .taken)),
+    )
+
+window-requires-2 : tie.Need-window-requires-2 Inv-loop μ-loop Inv-position μ-position
+window-requires-2 c κs =
+    (c .before .before .before .before .before .before .before .before .pre .0, omega arith)
+
+add-if3 : tie.Need-add-if3 Inv-loop μ-loop Inv-position μ-position
+add-if3 c =
+    omega (arith, c .n-in .ensures, n-lt (dataOf (bits 32 (c .before .window2 .result))))
+
+returns : tie.Need-returns Inv-loop μ-loop Inv-position μ-position
+returns c =
+    let s = c .before .before .before .before .before .before .before .before .before .before .before in
+    let a = s .args in
+    let h = c .before .before .before .before .before .before .before .before .loop in (
+      sym (h .inv .4 ∙ step-whole (now (a .cells)) (s .pre .0) (a .end) (s .pre .1) (h .left) (omega arith) (a .ended) (h .good) (c .before .before .before .before .before .before .window .result) (h .inv .3) (c .before .before .before .before .before .before .before .loop-test .taken) (c .before .before .before .before .before .before .window .ensures)
+          (sym (c .before .before .before .before .before .right .ensures) ∙ not-false _ (c .before .before .before .before .if1 .left))
+          (omega (arith, n-is (now (a .cells)) (s .pre .0) (a .end) (s .pre .1) (h .left) (omega arith) (c .before .before .window2 .result) (c .before .n-in .result) (omega arith) (c .before .before .window2 .ensures) (c .before .n-in .ensures), c .if3 .taken))),
+      omega arith,
+    )
+
+loop-again : tie.Need-loop-again Inv-loop μ-loop Inv-position μ-position
+loop-again c =
+    let s = c .before .before .before .before .before .before .before .before .before .before .before in
+    let a = s .args in
+    let h = c .before .before .before .before .before .before .before .before .loop in
+    let t = n-is (now (a .cells)) (s .pre .0) (a .end) (s .pre .1) (h .left) (omega arith) (c .before .before .window2 .result) (c .before .n-in .result) (omega arith) (c .before .before .window2 .ensures) (c .before .n-in .ensures) in (
+      h .inv .0,
+      h .inv .1,
+      h .inv .2,
+      omega (arith, size-n-lt (heldBits (now (a .cells)) (a .end) (h .left))),
+      h .inv .4 ∙ step-next (now (a .cells)) (s .pre .0) (a .end) (s .pre .1) (h .left) (omega arith) (a .ended) (h .good) (c .before .before .before .before .before .before .window .result) (h .inv .3) (c .before .before .before .before .before .before .before .loop-test .taken) (c .before .before .before .before .before .before .window .ensures)
+          (sym (c .before .before .before .before .before .right .ensures) ∙ not-false _ (c .before .before .before .before .if1 .left))
+          (omega arith) ∙ ap (λ k. huntOf (now (a .cells)) (a .end) (h .left) k (a .ended)) (sym (add-one (h .good))),
+    )
+
+loop-again-2 : tie.Need-loop-again-2 Inv-loop μ-loop Inv-position μ-position
+loop-again-2 c =
+    let s = c .before .before .before .before .before .before .before .before in
+    let a = s .args in
+    let h = c .before .before .before .before .before .loop in (
+      h .inv .0,
+      h .inv .1,
+      h .inv .2,
+      omega arith,
+      h .inv .4 ∙ step-next (now (a .cells)) (s .pre .0) (a .end) (s .pre .1) (h .left) (omega arith) (a .ended) (h .good) (c .before .before .before .window .result) (h .inv .3) (c .before .before .before .before .loop-test .taken) (c .before .before .before .window .ensures)
+          (sym (c .before .before .right .ensures) ∙ not-false _ (c .before .if1 .left))
+          (omega arith) ∙ ap (λ k. huntOf (now (a .cells)) (a .end) (h .left) k (a .ended)) (sym (add-one (h .good))),
+    )
+
+returns-2 : tie.Need-returns-2 Inv-loop μ-loop Inv-position μ-position
+returns-2 c =
+    let s = c .before .before .before .before .before in
+    let a = s .args in
+    let h = c .before .before .loop in
+    (sym (h .inv .4 ∙ rw (not-true (a .ended) (c .if4 .taken)) (step-wait (now (a .cells)) (s .pre .0) (a .end) (s .pre .1) (h .left) (omega arith) (h .good) (h .inv .3) (c .before .loop-test .left))), omega arith)
+
+position-again-2 : tie.Need-position-again-2 Inv-loop μ-loop Inv-position μ-position
+position-again-2 c =
+    let s = c .before .before .before .before .before in
+    let a = s .args in
+    let h = c .before .before .loop in
+    (omega arith, omega arith, h .inv .4 ∙ rw (not-false (a .ended) (c .if4 .left)) (step-cut (now (a .cells)) (s .pre .0) (a .end) (s .pre .1) (h .left) (omega arith) (h .good) (h .inv .3) (h .inv .1) (c .before .loop-test .left)))
+
+returns-3 : tie.Need-returns-3 Inv-loop μ-loop Inv-position μ-position
+returns-3 c =
+    let s = c .before .before in
+    let a = s .args in
+    let h = c .before .position in
+    let z : h .left ≡ 0 = omega arith in
+    (sym (h .inv .2 ∙ rw z (step-none (now (a .cells)) (a .end) (a .ended) (h .good))), omega arith)
+
+pub hunt-spec : {M : Type 1} → statement M
+hunt-spec =
+    tie.close
+    (tie.spec Inv-loop μ-loop Inv-position μ-position (λ c. search needs) (λ c. search needs)
+    (λ c. search needs) (λ c. search needs) (λ c. search needs) (λ c. search needs) (λ c. search needs)
+    window-requires (λ c κs. search needs) (λ c. search needs) (λ c. search needs) position-again
+    (λ c. search needs) (λ c. search needs) (λ c. search needs) window-requires-2 (λ c κs. search needs)
+    add-if3 returns (λ c. search needs) loop-again (λ c. search needs) loop-again-2 returns-2
+    (λ c. search needs) (λ c. search needs) position-again-2 returns-3)

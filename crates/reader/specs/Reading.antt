@@ -1,0 +1,142 @@
+-- What the reader's calls answer, and the reader that they leave: each in the order of its refusals. Assumes nothing.
+use mathlib.Core.Bool.{Bool, true, false, cond, _&&_, _||_, not}
+use mathlib.Core.List.{List, [], _∷_, _++_}
+use Prim.Native.Nat.{ℕ, _+_, _-_, _*_, _%_, _^_}
+use lib.Dec.{ltb}
+use lib.ListN.{replicate}
+use Rattle.answer.specs.Order.{Says, refuses, answers, Check, inOrder}
+use Rattle.bits.specs.Bits.{number}
+use Rattle.line.specs.Line.{isData, six}
+use Rattle.frame.specs.Frames.{blank}
+use Rattle.stream.specs.Standing.{size, frameAt}
+use Rattle.reader.specs.Cells.{heldBits, roomEnd, pushedCells}
+use Rattle.reader.specs.Hunting.{huntOf}
+use Rattle.reader.specs.declared.hunt.Stop.{Stop}
+use Rattle.reader.specs.declared.Candidate.{Candidate}
+use Rattle.reader.specs.declared.Reader.{Reader}
+use Rattle.reader.specs.declared.Answer.{Answer}
+use Rattle.reader.specs.declared.Answer.the-variants.{Done, Refused}
+use Rattle.reader.specs.declared.Ready.{Ready}
+use Rattle.reader.specs.declared.Ready.the-variants as ready
+use Rattle.reader.specs.declared.Next.{Next}
+use Rattle.reader.specs.declared.FedAll.{FedAll}
+use Rattle.reader.specs.declared.Taken.{Taken}
+
+-- the bits held for a candidate; those of a reader
+unfoldable pub candidateBits : List ℕ → Candidate → List Bool
+candidateBits cells c = heldBits cells (c .end) (c .held)
+
+abbrev pub bitsOf : Reader → List Bool
+bitsOf r = candidateBits (r .cells) (r .candidate)
+
+-- a reader started fresh: the hunt starts at position 2
+unfoldable pub started : Reader
+started = record { cells = replicate 40 0; candidate = record { end = 0; held = 0; words = 0; at = 2; waits = false }; ended = false }
+
+-- REFUSAL 5: counts past what a reader can hold. The buffer has 1280 bits, and a frame 33 words; an undecided position has at most 991 bits with
+-- the two before it, and one byte brings six more; a frame that waits, `whole` bits with the two before it, is among the bits held.
+unfoldable pub pastBy : ℕ → ℕ → ℕ → Bool → ℕ → Bool
+pastBy end held words waits whole =
+    ltb 1280 end || ltb end held || ltb 32 words || ltb (cond waits 997 991) held || waits && ltb held whole
+
+unfoldable pub pastOf : List ℕ → Candidate → Bool
+pastOf cells c = pastBy (c .end) (c .held) (c .words) (c .waits) (2 + 30 * size (candidateBits cells c))
+
+abbrev pub past : Reader → Bool
+past r = pastOf (r .cells) (r .candidate)
+
+-- ---- the hunt goes on
+
+-- the candidate where a hunt stops
+unfoldable pub movedTo : ℕ → ℕ → ℕ → Stop → Candidate
+movedTo at end held s = record { end = end; held = s .left; words = s .words; at = (at + (held - s .left)) % 2 ^ 32; waits = s .found }
+
+-- six bits more, as a number
+unfoldable pub stepCells : List ℕ → Candidate → ℕ → List ℕ
+stepCells cells c six = pushedCells cells (c .end) (c .held) six
+
+unfoldable pub stepTo : List ℕ → Candidate → ℕ → Candidate
+stepTo cells c six =
+    let end = roomEnd (c .end) (c .held) + 6 in
+    movedTo (c .at) end (c .held + 6) (huntOf (stepCells cells c six) end (c .held + 6) (c .words) false)
+
+unfoldable pub pushed : Reader → ℕ → Reader
+pushed r b = record {
+  cells = stepCells (r .cells) (r .candidate) (number (six b));
+  candidate = stepTo (r .cells) (r .candidate) (number (six b));
+  ended = r .ended;
+}
+
+-- ---- FEED: 5, 3, 2, 1
+
+-- what feeding and ending have in common: 5, 3, 2
+abbrev pub busy : Reader → List Check
+busy r = (past r, 5) ∷ (r .ended, 3) ∷ (r .candidate .waits, 2) ∷ []
+
+abbrev pub readyOf : List ℕ → Candidate → Bool → Ready
+readyOf cells c ended = inOrder ((pastOf cells c, 5) ∷ (ended, 3) ∷ (c .waits, 2) ∷ []) ready.Refused ready.Yes
+
+unfoldable pub fedBy : Reader → ℕ → Next
+fedBy r b =
+    let next : Next = record { answer = Done; reader = pushed r b } in
+    inOrder (busy r ++ ((not (isData b), 1) ∷ [])) (λ n. record { answer = Refused n; reader = r }) next
+
+-- ---- FEED ALL: 5, 3, 2; bytes until a frame waits or none is left, and a byte that carries no bit is passed over
+
+pub record Run : Type 0 where
+  pub cells : List ℕ
+  pub candidate : Candidate
+  pub used : ℕ
+  pub passed : ℕ
+
+abbrev pub spent : ℕ → ℕ → Run → Run
+spent u p x = record { cells = x .cells; candidate = x .candidate; used = u + x .used; passed = p + x .passed }
+
+unfoldable pub runTo : List ℕ → Candidate → List ℕ → Run
+runTo cells c [] = record { cells = cells; candidate = c; used = 0; passed = 0 }
+runTo cells c (b ∷ bs) =
+    let stop : Run = record { cells = cells; candidate = c; used = 0; passed = 0 } in
+    let on = spent 1 0 (runTo (stepCells cells c (number (six b))) (stepTo cells c (number (six b))) bs) in
+    let over = spent 1 1 (runTo cells c bs) in
+    cond (c .waits) stop (cond (isData b) on over)
+
+abbrev pub ranBy : Reader → Run → FedAll
+ranBy r x = record { answer = Done; used = x .used; passed = x .passed; reader = record { cells = x .cells; candidate = x .candidate; ended = r .ended } }
+
+unfoldable pub fedAllBy : Reader → List ℕ → FedAll
+fedAllBy r bs =
+    let next = ranBy r (runTo (r .cells) (r .candidate) bs) in
+    inOrder (busy r) (λ n. record { answer = Refused n; used = 0; passed = 0; reader = r }) next
+
+-- ---- END: 5, 3, 2
+
+unfoldable pub endTo : List ℕ → Candidate → Candidate
+endTo cells c = movedTo (c .at) (c .end) (c .held) (huntOf cells (c .end) (c .held) (c .words) true)
+
+unfoldable pub endedBy : Reader → Next
+endedBy r =
+    let next : Next = record { answer = Done; reader = record { cells = r .cells; candidate = endTo (r .cells) (r .candidate); ended = true } } in
+    inOrder (busy r) (λ n. record { answer = Refused n; reader = r }) next
+
+-- ---- TAKE: 5, 4; the frame and the position of its first bit, and the hunt goes on at the bit after it; on a refusal a blank frame
+
+unfoldable pub takeTo : List ℕ → Candidate → Bool → Candidate
+takeTo cells c ended =
+    let n = 30 * size (candidateBits cells c) in
+    movedTo (c .at) (c .end) (c .held) (huntOf cells (c .end) (c .held - n) 0 ended)
+
+unfoldable pub takenBy : Reader → Taken
+takenBy r =
+    let next : Taken = record {
+      answer = Done;
+      at = r .candidate .at;
+      frame = frameAt (bitsOf r);
+      reader = record { cells = r .cells; candidate = takeTo (r .cells) (r .candidate) (r .ended); ended = r .ended };
+    } in
+    inOrder ((past r, 5) ∷ (not (r .candidate .waits), 4) ∷ []) (λ n. record { answer = Refused n; at = 0; frame = blank; reader = r }) next
+
+-- ---- an answer in the table's terms
+
+abbrev pub saysAnswer : Answer → Says (Unit {0})
+saysAnswer Done = answers tt
+saysAnswer (Refused n) = refuses n

@@ -1,0 +1,115 @@
+// The hunt for a frame over the bits held.
+ghost use mathlib.Core.Path.{_≡_};
+ghost use mathlib.Core.Bool.{false};
+ghost use Prim.Native.Nat.{_≤_};
+ghost use lib.ListN.{length};
+ghost use Rattle.bits.specs.Bits.{bits};
+ghost use Rattle.frame.specs.Header.{nOf};
+ghost use Rattle.word.specs.Word.{dataOf};
+ghost use Rattle.stream.specs.Standing.{right as rightly};
+ghost use Rattle.reader.specs.Hunting.{huntOf};
+
+// Where a hunt stops: the bits left from two before that position on, its words known right, and whether a frame stands there.
+pub struct Stop {
+    pub left: usize,
+    pub words: usize,
+    pub found: bool,
+}
+
+// Word k of a candidate is right: its parity, and of the first word the preamble, which is looked at before.
+fn right(k: usize, window: u32) -> bool
+    ensures { λ r. ⌜ r ≡ rightly k (bits 32 window) ⌝ }
+{
+    if k != 0 {
+        return word::remainder(window) == 0;
+    }
+    if !frame::has_preamble(word::data_of(window)) {
+        return false;
+    }
+    word::remainder(window) == 0
+}
+
+// N, in the window of a second word.
+pub(crate) fn n_in(window: u32) -> usize
+    ensures { λ r. ⌜ r ≡ nOf (dataOf (bits 32 window)) ⌝ }
+{
+    frame::n_of(word::data_of(window))
+}
+
+// How many bits are left at the first position from here on whose preamble may stand, as far as two cells show it. The hunt from there is the
+// hunt from here, so it may stop early.
+pub(crate) fn seek(cells: &[u32; 40], end: usize, left: usize, words: usize) -> usize
+    requires { ⌜ (length (now cells) ≡ 40) × (end ≤ 1280) × (left ≤ end) ⌝ }
+    ensures { λ r. ⌜ (r ≤ left) × (huntOf (now (cells .entry)) end left words false ≡ huntOf (now (cells .entry)) end r words false) ⌝ }
+{
+    if words != 0 {
+        return left;
+    }
+    if left < 32 {
+        return left;
+    }
+    let bit = end - left;
+    let both = crate::cells::pair(cells, bit);
+    let mut l = left;
+    let mut off = (bit % 32) as u32;
+    while 32 <= l {
+        if 54 < off {
+            return l;
+        }
+        // D30* and D1 to D8: the preamble as it is, or turned over
+        let nine = (both >> (54 - off)) % 512;
+        if nine == 102 {
+            return l;
+        }
+        if nine == 409 {
+            return l;
+        }
+        l -= 1;
+        off += 1;
+    }
+    l
+}
+
+// The hunt from word `words` of the candidate on: a word that has come and fails rules its position out.
+pub(crate) fn hunt(cells: &[u32; 40], end: usize, held: usize, words: usize, ended: bool) -> Stop
+    requires { ⌜ (length (now cells) ≡ 40) × (end ≤ 1280) × (held ≤ end) × (words ≤ 32) ⌝ }
+    ensures { λ r. ⌜ (r ≡ huntOf (now (cells .entry)) end held words ended) × (r .left ≤ held) ⌝ }
+{
+    let mut left = held;
+    let mut good = words;
+    'position: while 0 < left {
+        while 32 + 30 * good <= left {
+            let w = crate::cells::window(cells, end - left + 30 * good);
+            if !right(good, w) {
+                left -= 1;
+                good = 0;
+                continue 'position;
+            }
+            good += 1;
+            if 2 <= good {
+                let n = n_in(crate::cells::window(cells, end - left + 30));
+                if n + 2 <= good {
+                    return Stop {
+                        left,
+                        words: 0,
+                        found: true,
+                    };
+                }
+            }
+        }
+        if !ended {
+            return Stop {
+                left,
+                words: good,
+                found: false,
+            };
+        }
+        left -= 1;
+        good = 0;
+    }
+    Stop {
+        left: 0,
+        words: good,
+        found: false,
+    }
+}
