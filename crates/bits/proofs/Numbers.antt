@@ -6,8 +6,8 @@ use Prim.Native.Nat.{ℕ, zero, suc, _+_, _*_, _/_, _%_, _^_, _<_}
 use native.Mathlib.Nat.{zero-add, suc-add, add-comm, mod-lt, mod-one, mod-eq-of-lt, pow-suc}
 use native.Mathlib.Omega.{arith}
 use native.Mathlib.Numerals.{one-add}
-use lib.ListN.{length, take, getD, length-append}
-use lib.Seq.{take-at}
+use lib.ListN.{length, take, drop, getD, length-append}
+use lib.Seq.{take-at, drop-at}
 use lib.Pow.{pow-pos, pow-add, shr-shr, mod-pow-add, high, low}
 use lib.Bits.{bitXor, xor-shr, xor-lt}
 use lib.Count.{ones, ones-cat}
@@ -84,6 +84,12 @@ pub bits-cat : (j k n : ℕ) (s : List Bool) → length s ≡ k → n < 2 ^ j �
 bits-cat j k n s l h =
     ap (bits (j + k)) (rw (l, number-bits j n, mod-eq-of-lt h) at (sym (number-append (bits j n) s)))
     ∙ bits-number (j + k) (bits j n ++ s) (length-append (bits j n) s ∙ rw (length-bits j n, l))
+
+-- the low bits of the number that a list writes are the list's last
+pub bits-last : (j k : ℕ) (s : List Bool) → length s ≡ j + k → bits k (number s) ≡ drop j s
+bits-last j k s l =
+    sym (drop-at (bits j (number s / 2 ^ k)) (bits k (number s)) j (length-bits j (number s / 2 ^ k)))
+    ∙ ap (drop j) (sym (bits-split j k (number s)) ∙ bits-number (j + k) s l)
 
 -- ---- xor, and the count of ones
 

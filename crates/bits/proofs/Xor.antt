@@ -88,7 +88,7 @@ odd-xors (x ∷ a) (y ∷ b) = ap (λ r. x ⊻ y ⊻ r) (odd-xors a b) ∙ xor-f
 
 -- ---- bits as numbers
 
-one-val : (b : Bool) → isOne (val b) ≡ b
+pub one-val : (b : Bool) → isOne (val b) ≡ b
 one-val true = refl
 one-val false = refl
 

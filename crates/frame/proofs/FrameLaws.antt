@@ -5,7 +5,7 @@ use mathlib.Core.List.{List, [], _∷_, _++_}
 use Prim.Native.Nat.{ℕ, zero, suc, _+_, _-_, _^_, _≤_, _<_}
 use native.Mathlib.Nat.{mod-eq-of-lt}
 use native.Mathlib.Omega.{arith}
-use lib.ListN.{length, take, drop, replicate, length-append, length-replicate, length-drop, take-append-drop}
+use lib.ListN.{length, take, drop, getD, replicate, length-append, length-replicate, length-drop, take-append-drop}
 use lib.Seq.{length-take-le, take-append-seam, drop-append-seam}
 use borrow.Author.Tests.{ltb-false, le-ltb}
 use Rattle.bits.specs.Bits.{bits, number}
@@ -30,6 +30,11 @@ pub below-take : (n : ℕ) (ws : List ℕ) → Below ws → Below (take n ws)
 below-take zero ws b = tt
 below-take (suc n) [] b = tt
 below-take (suc n) (w ∷ ws) b = (b .0, below-take n ws (b .1))
+
+pub below-at : (i : ℕ) (ws : List ℕ) → Below ws → getD ws i 0 < 2 ^ 24
+below-at i [] b = omega arith
+below-at zero (w ∷ ws) b = b .0
+below-at (suc i) (w ∷ ws) b = below-at i ws (b .1)
 
 -- ---- what it means that a frame is within its widths
 

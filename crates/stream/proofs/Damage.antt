@@ -21,6 +21,7 @@ use Rattle.stream.specs.Standing.{wordAt, right, nAt, size, Stands, Plac
 use Rattle.stream.specs.Verdict.{RuledOut}
 use Rattle.stream.specs.Places.{FirstDamaged, Damaged, StandsIn}
 use Rattle.stream.proofs.Words.{word-long, right-passes, not-right}
+use Rattle.stream.proofs.Data.{word-later}
 use Rattle.stream.proofs.Stand.{stands-long, stands-append}
 use Rattle.stream.proofs.Verdicts.{out-stays}
 use Rattle.stream.proofs.Scanning.{none-begins}
@@ -47,18 +48,12 @@ equal-words (suc n) g g′ l m f =
     sym (take-append-drop 30 g′)
     ∙ ap₂ _++_ front
     (equal-words n (drop 30 g) (drop 30 g′) (omega (arith, length-drop 30 g)) (omega (arith, length-drop 30 g, length-drop 30 g′))
-    (λ j h. later j g′ ∙ f (suc j) (omega arith) ∙ sym (later j g)))
+    (λ j h. word-later j g′ ∙ f (suc j) (omega arith) ∙ sym (word-later j g)))
     ∙ take-append-drop 30 g
   where
     front : take 30 g′ ≡ take 30 g
     front =
         sym (take-take 30 32 g′ (omega arith)) ∙ ap (take 30) (f 0 (omega arith)) ∙ take-take 30 32 g (omega arith)
-
-    later : (j : ℕ) (l : List Bool) → wordAt j (drop 30 l) ≡ wordAt (suc j) l
-    later j l = ap (take 32) (drop-drop (30 * j) 30 l ∙ ap (λ k. drop k l) next)
-      where
-        next : 30 + 30 * j ≡ 30 * suc j
-        next = omega arith
 
 -- THERE IS A FIRST, where the lists differ
 first-damaged : (n : ℕ) (g g′ : List Bool) → length g ≡ 32 + 30 * n → length g′ ≡ length g → (g′ ≡ g → ⊥)

@@ -1,4 +1,5 @@
 pub mod Words
+pub mod Data
 pub mod Stand
 pub mod Scanning
 pub mod Verdicts

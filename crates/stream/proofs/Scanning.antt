@@ -36,6 +36,11 @@ scan-hit p (b ∷ d) s =
     at : (m n : ℕ) → m ≡ suc n → placed p (b ∷ d) ∷ scan 0 (suc p + n) (drop n d) ≡ placed p (b ∷ d) ∷ scan 0 (p + m) (drop m (b ∷ d))
     at m n e = rw (e, add-suc p n, suc-add p n)
 
+pub scan-short : (p : ℕ) (d : List Bool) → length d < 62 → scan 0 p d ≡ []
+unfolding scan
+scan-short p [] h = refl
+scan-short p (b ∷ d) h = scan-miss p b d (λ s. absurd (omega (arith, stands-long (b ∷ d) s))) ∙ scan-short (suc p) d (omega arith)
+
 -- ONLY FRAMES THAT STAND
 shift : (p : ℕ) (b : Bool) (d : List Bool) (h : Placed) → StandsIn (suc p) d h → StandsIn p (b ∷ d) h
 shift p b d h f = record { off = suc (f .off); is = f .is ∙ rw (add-suc p (f .off), suc-add p (f .off)); stood = f .stood }

@@ -10,12 +10,14 @@ use lib.ListN.{getD, replicate}
 use lib.Pow.{pow-pos}
 use lib.Bits.{bitAnd, bitXor, and-le-r, xor-lt}
 use lib.Count.{ones}
+use borrow.Author.Tests.{lt-leb}
 use Rattle.bits.specs.Bits.{_⊻_, _⊕_, odd, val, isOdd, bits, number}
 use Rattle.bits.proofs.Xor.{val-odd, val-xor, xor-self, getD-xor, odd-xors, map-xor}
 use Rattle.bits.proofs.Numbers.{odd-ones, bits-xor, bits-mod, bits-split, bits-number, bits-cat, length-bits, number-bits, number-lt, number-xor, number-append}
 use Rattle.bits.proofs.Linear.{columns, sum, spanned, odd-mask}
 use Rattle.word.specs.Word.{nth, d29*, d30*, rows, turnedBy, parity, dataOf, received, computed, remainderOf, passes, sent}
-use Rattle.word.specs.Answer.{sentAt}
+use Rattle.word.specs.Answer.{sentAt, wordOf}
+use Rattle.word.specs.declared.Sent.the-variants.{Word, Refused}
 use Rattle.word.proofs.Sending.{data-number, passes-sent, data-sent}
 
 -- the data bits of row i of the table, and the odd parity of those of a list
@@ -142,3 +144,13 @@ round-trip c d hc hd =
       passes-sent (d29* (bits 2 c)) (d30* (bits 2 c)) (bits 24 d) (length-bits 24 d),
       ap number (data-sent (d29* (bits 2 c)) (d30* (bits 2 c)) (bits 24 d) (length-bits 24 d)) ∙ number-bits 24 d ∙ mod-eq-of-lt hd,
     )
+
+-- within its widths no word is refused
+pub word-answers : (c d : ℕ) → c < 4 → d < 2 ^ 24 → wordOf c d ≡ Word (number (sentAt c d))
+word-answers c d hc hd = simp (lt-leb 4 c hc, lt-leb (2 ^ 24) d hd)
+
+pub never-refused : (c d n : ℕ) → c < 4 → d < 2 ^ 24 → wordOf c d ≡ Refused n → ⊥
+never-refused c d n hc hd e =
+    let answered = word-answers c d hc hd in
+    let never : _≡_ {A = ℕ} 0 1 = cc in
+    omega arith

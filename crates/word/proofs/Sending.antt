@@ -16,6 +16,14 @@ pub data-number : (w : List Bool) → bits 24 (number (dataOf w)) ≡ dataOf w
 unfolding dataOf
 data-number w = bits-number 24 (dataOf w) refl
 
+pub length-sent : (a b : Bool) (ds : List Bool) → length (sent a b ds) ≡ 30
+unfolding sent turnedBy parity
+length-sent a b ds = refl
+
+pub length-dataOf : (w : List Bool) → length (dataOf w) ≡ 24
+unfolding dataOf
+length-dataOf w = refl
+
 pub data-sent : (a b : Bool) (ds : List Bool) → length ds ≡ 24 → dataOf (a ∷ b ∷ sent a b ds) ≡ ds
 unfolding dataOf sent turnedBy
 data-sent a b ds h = simp xor-cancel (rw h at (tab-id ds))

@@ -1,0 +1,166 @@
+-- Each answer of the writer from the tests that lead to it, with the buffer after it. Assumes nothing.
+use mathlib.Core.Path.{_≡_, refl, sym, ap, ap₂, subst, _∙_}
+use mathlib.Core.Bool.{Bool, true, false}
+use mathlib.Core.Logic.{_⊎_, inl, inr}
+use mathlib.Core.List.{List, [], _∷_, _++_}
+use Prim.Native.Nat.{ℕ, suc, _+_, _*_, _/_, _%_, _≤_, _<_}
+use native.Mathlib.Omega.{arith}
+use lib.ListN.{length, take, drop, getD}
+use lib.Seq.{sets, split-at}
+use borrow.Author.Tests.{ltb-false}
+use Rattle.answer.specs.Order.{Check, inOrder}
+use Rattle.answer.proofs.OrderLaws.{NoneApplies, FirstIs, order-answers, order-refuses, first-or-none}
+use Rattle.bits.specs.Bits.{number}
+use Rattle.frame.specs.Header.{firstWord, secondWord}
+use Rattle.frame.specs.Frames.{wordsOf, Below}
+use Rattle.frame.specs.Widths.{outside}
+use Rattle.frame.specs.Answer.{headerWords}
+use Rattle.frame.specs.declared.Frame.{Frame}
+use Rattle.frame.specs.declared.HeaderWords.the-variants as header
+use Rattle.frame.proofs.HeaderLaws.{words-answered}
+use Rattle.frame.proofs.FrameLaws.{header-within, n-within, below-words, length-words}
+use Rattle.writer.specs.Sending.{frameBits, bitsAfter, carriedOn, bytesFor, bytesOf, sentAfter, bytesAfter, pairAfter}
+use Rattle.writer.specs.Answer.{over, lead, openChecks, openedBy, openedTo, writeChecks, writtenBy, writtenTo}
+use Rattle.writer.specs.declared.Carried.{Carried}
+use Rattle.writer.specs.declared.Opened.the-variants as opened
+use Rattle.writer.specs.declared.Written.the-variants.{Done, Refused}
+use Rattle.writer.proofs.Bytes.{length-bytes, sets-over}
+use Rattle.writer.proofs.Carrying.{pair-29, pair-30, carried-pair}
+
+-- ---- an order, from its checks and from its answer
+
+-- no check before number i applies, and check i does
+first-at : (cs : List Check) (i : ℕ) → i < length cs → NoneApplies (take i cs) → getD cs i (false, 0) .0 ≡ true → FirstIs cs (getD cs i (false, 0) .1)
+first-at cs i inside none e = record {
+  front = take i cs;
+  back = drop (suc i) cs;
+  split = split-at cs i (false, 0) inside ∙ ap (λ t. take i cs ++ ((t, getD cs i (false, 0) .1) ∷ drop (suc i) cs)) e;
+  none = none;
+}
+
+-- where it answers with what is no refusal, no check applies
+none-by-answer : {A : Type 0} (refuse : ℕ → A) (answer : A) (cs : List Check) {x : A}
+    → ((n : ℕ) → refuse n ≡ x → ⊥) → inOrder cs refuse answer ≡ x → NoneApplies cs
+none-by-answer refuse answer cs apart e = go (first-or-none cs)
+  where
+    go : NoneApplies cs ⊎ ((n : ℕ) × FirstIs cs n) → NoneApplies cs
+    go (inl none) = none
+    go (inr (n, first)) = absurd (apart n (sym (order-refuses refuse answer cs n first) ∙ e))
+
+-- where it refuses, what the refusal keeps is as it was
+kept-by-refusal : {A B : Type 0} (refuse : ℕ → A) (answer : A) (cs : List Check) {n : ℕ} (old new : B)
+    → (answer ≡ refuse n → ⊥) → inOrder cs refuse answer ≡ refuse n → inOrder cs (λ k. old) new ≡ old
+kept-by-refusal refuse answer cs old new apart e = go (first-or-none cs)
+  where
+    go : NoneApplies cs ⊎ ((k : ℕ) × FirstIs cs k) → inOrder cs (λ k. old) new ≡ old
+    go (inl none) = absurd (apart (sym (order-answers refuse answer cs none) ∙ e))
+    go (inr (k, first)) = order-refuses (λ i. old) new cs k first
+
+-- ---- opening
+
+done-apart : {n : ℕ} → opened.Done ≡ opened.Refused n → ⊥
+done-apart e = let never : _≡_ {A = ℕ} 0 1 = cc in omega arith
+
+pub open-keeps : (l : List ℕ) {n : ℕ} → openedBy l ≡ opened.Refused n → openedTo l ≡ l
+open-keeps l e = kept-by-refusal opened.Refused opened.Done (openChecks l) l (over (lead ∷ []) l) done-apart e
+
+-- ---- writing
+
+refused-apart : {n k : ℕ} {c : Carried} → Refused n ≡ Done k c → ⊥
+refused-apart e = let never : _≡_ {A = ℕ} 0 1 = cc in omega arith
+
+module _ (f : Frame) (c : Carried) (l : List ℕ) where
+  -- a refusal is its number alone, and the buffer is as it was
+  pub write-refuses : (i : ℕ) → i < 5 → NoneApplies (take i (writeChecks f c l)) → getD (writeChecks f c l) i (false, 0) .0 ≡ true
+      → (Refused (getD (writeChecks f c l) i (false, 0) .1) ≡ writtenBy f c l) × (l ≡ writtenTo f c l)
+  write-refuses i inside none e =
+      let first = first-at (writeChecks f c l) i inside none e in
+      let n = getD (writeChecks f c l) i (false, 0) .1 in
+      (sym (order-refuses Refused _ (writeChecks f c l) n first), sym (order-refuses (λ k. l) _ (writeChecks f c l) n first))
+
+  pub write-answers : NoneApplies (writeChecks f c l)
+      → (Done (bytesOf f) (carriedOn (bitsAfter c f)) ≡ writtenBy f c l) × (over (bytesFor (bytesOf f) (bitsAfter c f)) l ≡ writtenTo f c l)
+  write-answers none = (sym (order-answers Refused _ (writeChecks f c l) none), sym (order-answers (λ k. l) _ (writeChecks f c l) none))
+
+  pub write-none : {k : ℕ} {c′ : Carried} → writtenBy f c l ≡ Done k c′ → NoneApplies (writeChecks f c l)
+  write-none e = none-by-answer Refused (Done (bytesOf f) (carriedOn (bitsAfter c f))) (writeChecks f c l) (λ n r. refused-apart r) e
+
+  pub write-keeps : {n : ℕ} → writtenBy f c l ≡ Refused n → writtenTo f c l ≡ l
+  write-keeps e =
+      kept-by-refusal Refused (Done (bytesOf f) (carriedOn (bitsAfter c f))) (writeChecks f c l) l (over (bytesFor (bytesOf f) (bitsAfter c f)) l)
+      (λ r. refused-apart (sym r)) e
+
+-- ---- from the words that the code puts
+
+module _ (f : Frame) (o : outside f ≡ false) where
+  pub header-answered : headerWords (f .header) (f .n) ≡ header.Words (number (firstWord (f .header))) (number (secondWord (f .header) (f .n)))
+  header-answered = words-answered (f .header) (f .n) (header-within f o) (n-within f o)
+
+  -- the words that the code puts are the frame's
+  pub words-told : (first second : ℕ) → header.Words first second ≡ headerWords (f .header) (f .n) → first ∷ second ∷ take (f .n) (f .words) ≡ wordsOf f
+  unfolding wordsOf
+  words-told first second e = cc header-answered
+
+  pub told-below : (first second : ℕ) → header.Words first second ≡ headerWords (f .header) (f .n) → Below (first ∷ second ∷ take (f .n) (f .words))
+  told-below first second e = subst Below (sym (words-told first second e)) (below-words f o)
+
+-- a header whose words are refused is that of a frame outside its widths
+pub header-refused : (f : Frame) (k : ℕ) → header.Refused k ≡ headerWords (f .header) (f .n) → outside f ≡ true
+header-refused f k e = go (outside f) refl
+  where
+    go : (t : Bool) → outside f ≡ t → t ≡ true
+    go true o = refl
+    go false o =
+        let told = header-answered f o in
+        let never : _≡_ {A = ℕ} 0 1 = cc in
+        absurd (omega arith)
+
+-- the bits after a pair whose bits are 0 or 1 are those after its number
+pub bits-after : (c : Carried) (f : Frame) → c .d29 ≤ 1 → c .d30 ≤ 1 → bitsAfter c f ≡ sentAfter (c .d29 * 2 + c .d30) (wordsOf f)
+bits-after c f p q = ap₂ (λ a b. frameBits a b f) (pair-29 (c .d29) (c .d30) p q) (pair-30 (c .d29) (c .d30) p q)
+
+-- the code's answer: no check applied, and the words were put
+pub write-done : (f : Frame) (c : Carried) (l : List ℕ) → NoneApplies (writeChecks f c l) → length (f .words) ≡ 31
+    → (first second : ℕ) → header.Words first second ≡ headerWords (f .header) (f .n) → {k : ℕ} {l′ : List ℕ}
+    → (k ≡ pairAfter (c .d29 * 2 + c .d30) (first ∷ second ∷ take (f .n) (f .words)))
+    × (l′ ≡ sets l 0 (bytesAfter (c .d29 * 2 + c .d30) (first ∷ second ∷ take (f .n) (f .words))))
+    → (Done (bytesOf f) (record { d29 = k / 2; d30 = k % 2 }) ≡ writtenBy f c l) × (l′ ≡ writtenTo f c l)
+write-done f c l none full first second told {k} {l′} (e, e′) = (
+  ap (Done (bytesOf f)) (sym carried) ∙ answered .0,
+  e′ ∙ ap (λ ws. sets l 0 (bytesAfter pair ws)) words ∙ bytes ∙ answered .1,
+)
+  where
+    pair : ℕ
+    pair = c .d29 * 2 + c .d30
+
+    answered : (Done (bytesOf f) (carriedOn (bitsAfter c f)) ≡ writtenBy f c l) × (over (bytesFor (bytesOf f) (bitsAfter c f)) l ≡ writtenTo f c l)
+    answered = write-answers f c l none
+
+    p : c .d29 ≤ 1
+    p = ltb-false 1 (c .d29) (none .0)
+
+    q : c .d30 ≤ 1
+    q = ltb-false 1 (c .d30) (none .1 .0)
+
+    o : outside f ≡ false
+    o = none .1 .1 .0
+
+    s : bytesOf f ≤ length l
+    s = ltb-false (length l) (bytesOf f) (none .1 .1 .1 .1 .0)
+
+    words : first ∷ second ∷ take (f .n) (f .words) ≡ wordsOf f
+    words = words-told f o first second told
+
+    carried : carriedOn (bitsAfter c f) ≡ record { d29 = k / 2; d30 = k % 2 }
+    carried =
+        ap carriedOn (bits-after c f p q ∙ ap (sentAfter pair) (sym words))
+        ∙ carried-pair pair first (second ∷ take (f .n) (f .words))
+        ∙ ap (λ n. record { d29 = n / 2; d30 = n % 2 }) (sym e)
+
+    many : 5 * length (wordsOf f) ≡ bytesOf f
+    many = omega (arith, length-words f o full)
+
+    bytes : sets l 0 (bytesAfter pair (wordsOf f)) ≡ over (bytesFor (bytesOf f) (bitsAfter c f)) l
+    bytes =
+        ap₂ (λ n bs. sets l 0 (bytesFor n bs)) many (sym (bits-after c f p q))
+        ∙ sets-over (bytesFor (bytesOf f) (bitsAfter c f)) l (omega (arith, s, length-bytes (bytesOf f) (bitsAfter c f)))

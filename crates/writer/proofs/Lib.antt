@@ -1,0 +1,10 @@
+pub mod Bytes
+pub mod Carrying
+pub mod Putting
+pub mod Answers
+pub mod Standing
+pub mod Rewriting
+pub mod Wrote
+pub mod BackToBack
+pub mod Streams
+pub mod Worked

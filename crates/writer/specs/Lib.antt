@@ -1,0 +1,5 @@
+pub mod Sending
+pub mod Answer
+pub mod OneFrame
+pub mod Streams
+pub mod Worked
