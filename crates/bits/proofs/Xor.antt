@@ -18,6 +18,10 @@ pub xor-false : (a : Bool) → a ⊻ false ≡ a
 xor-false true = refl
 xor-false false = refl
 
+pub xor-true : (a : Bool) → a ⊻ true ≡ not a
+xor-true true = refl
+xor-true false = refl
+
 pub xor-cancel : (a b : Bool) → a ⊻ b ⊻ b ≡ a
 xor-cancel true true = refl
 xor-cancel true false = refl

@@ -7,12 +7,12 @@ use native.Mathlib.Nat.{div-one}
 use native.Mathlib.Omega.{arith}
 use lib.ListN.{length, length-reverse}
 use lib.Dec.{eqb}
-use lib.Bits.{bitXor}
+use lib.Bits.{bitXor, xor-shr, xor-zero-r}
 use borrow.Author.Tests.{eq-eqb, eqb-true}
 use Rattle.answer.specs.Order.{Says, answers}
 use Rattle.bits.specs.Bits.{_⊕_, val, isOdd, bits, number}
-use Rattle.bits.proofs.Xor.{val-odd}
-use Rattle.bits.proofs.Numbers.{length-bits, number-bits, number-lt, bits-number, bits-mod}
+use Rattle.bits.proofs.Xor.{val-odd, xor-true}
+use Rattle.bits.proofs.Numbers.{length-bits, number-bits, number-lt, bits-number, bits-mod, bits-xor}
 use Rattle.line.specs.Line.{isData, six, lineBits, byteOf}
 use Rattle.line.specs.Answer.{sixOf, saysSix}
 use Rattle.line.specs.declared.Six.the-variants.{Bits, Refused}
@@ -64,6 +64,17 @@ byte-data ds l = eq-eqb ((64 + number (reverse ds)) / 64) 1 (omega (arith, low))
   where
     low : number (reverse ds) < 2 ^ 6
     low = rw (length-reverse ds ∙ l) at (number-lt (reverse ds))
+
+-- a byte with its six low bits turned over carries the bits turned over
+pub data-turned : (b : ℕ) → isData (bitXor b 63) ≡ isData b
+data-turned b = ap (λ n. eqb n 1) (xor-shr b 63 6 ∙ xor-zero-r (b / 64))
+
+pub six-turned : (b : ℕ) → six (bitXor b 63) ≡ map not (six b)
+unfolding six bits
+six-turned b = ap reverse (bits-xor 6 b 63 ∙ flipped)
+  where
+    flipped : bits 6 b ⊕ bits 6 63 ≡ map not (bits 6 b)
+    flipped = simp xor-true
 
 -- the answer says the six bits
 pub six-says : (b : ℕ) → isData b ≡ true → saysSix (sixOf b) ≡ answers (six b)

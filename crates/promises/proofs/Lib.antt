@@ -1,4 +1,3 @@
-pub mod Worked
 pub mod Kept
 pub mod Runs
 pub mod Serving
@@ -6,3 +5,4 @@ pub mod Demand3
 pub mod Opposed
 pub mod Turned
 pub mod EveryReader
+pub mod Worked

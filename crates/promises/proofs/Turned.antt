@@ -9,6 +9,7 @@ use lib.Bits.{bitXor}
 use lib.ListN.{length, replicate}
 use Rattle.bits.specs.Bits.{number}
 use Rattle.line.specs.Line.{isData, six}
+use Rattle.line.proofs.LineLaws.{data-turned, six-turned}
 use Rattle.stream.specs.Standing.{Stands, frameAt, Placed}
 use Rattle.stream.proofs.Turning.{stands-turned, stands-back, frame-turned}
 use Rattle.reader.specs.Reading.{candidateBits, bitsOf, started, past, stepCells, stepTo, pushed, fedBy, Run, runTo, ranBy, spent, fedAllBy, endTo, endedBy, takeTo, takenBy}
@@ -196,3 +197,7 @@ turned-is-same = record {
 
     fresh : Opposed (started .cells) (started .candidate) (started .cells) (started .candidate)
     fresh = record { bits = empty ∙ sym (ap (map not) empty); held = refl; words = refl; at = refl; waits = refl }
+
+-- a byte and the same with its six low bits turned over
+pub turned-byte : (b : ℕ) → OppositeByte b (bitXor b 63)
+turned-byte b = record { both = data-turned b; bits = λ d. six-turned b }

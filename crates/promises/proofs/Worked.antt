@@ -1,10 +1,37 @@
--- The worked values hold: each is computed from the definitions that the contracts cite. Assumes nothing.
-use mathlib.Core.Path.{refl}
+-- The worked values hold: each is computed from the definitions that the contracts cite; what the reader hands out, through demand 3.
+-- Assumes nothing.
+use mathlib.Core.Path.{_≡_, refl, ap, _∙_}
+use mathlib.Core.List.{List, [], _∷_, map}
+use Prim.Native.Nat.{ℕ}
 use Rattle.bits.specs.Bits.{bits, number}
-use Rattle.line.specs.Line.{six}
-use Rattle.word.specs.Word.{rows, parity}
-use Rattle.promises.specs.Worked.{WorkedValues}
+use Rattle.line.specs.Line.{six, lineBits}
+use Rattle.word.specs.Word.{rows, places, parity, dataOf, received, computed, remainderOf, passes}
+use Rattle.frame.specs.Header.{factors, stateOf, preambled, nOf, headerOf}
+use Rattle.frame.specs.Frames.{framed}
+use Rattle.stream.specs.Standing.{right, nAt, dataFrom, frameAt, Placed, placed, allRight, stands, scan, framesIn}
+use Rattle.promises.specs.Calls.{reported}
+use Rattle.promises.specs.Worked.{elevenBytes, turnedBytes, tenBytes, elevenFrame, readOut, WorkedValues}
+use Rattle.promises.proofs.Demand3.{handed-out}
+
+frames-eleven : map reported (framesIn (lineBits elevenBytes)) ≡ elevenFrame ∷ []
+unfolding bits number six lineBits rows places parity dataOf received computed remainderOf passes factors stateOf preambled nOf headerOf framed right nAt dataFrom frameAt placed allRight stands scan reported
+frames-eleven = refl
+
+frames-turned : map reported (framesIn (lineBits turnedBytes)) ≡ elevenFrame ∷ []
+unfolding bits number six lineBits rows places parity dataOf received computed remainderOf passes factors stateOf preambled nOf headerOf framed right nAt dataFrom frameAt placed allRight stands scan reported
+frames-turned = refl
+
+frames-ten : map reported (framesIn (lineBits tenBytes)) ≡ []
+unfolding bits number six lineBits rows places parity dataOf received computed remainderOf passes factors stateOf preambled nOf headerOf framed right nAt dataFrom frameAt placed allRight stands scan reported
+frames-ten = refl
 
 pub worked : WorkedValues
-unfolding bits number six rows parity
-worked = record { word-1 = refl; word-2 = refl; byte-3F = refl; byte-40 = refl }
+worked = record {
+  word-1 = unfold bits rows parity in refl;
+  word-2 = unfold bits rows parity in refl;
+  eleven = handed-out elevenBytes .ended ∙ frames-eleven;
+  turned = handed-out turnedBytes .ended ∙ frames-turned;
+  ten = handed-out tenBytes .ended ∙ frames-ten;
+  byte-3F = refl;
+  byte-40 = unfold bits number six in refl;
+}
