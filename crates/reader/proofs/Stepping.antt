@@ -17,8 +17,8 @@ use Rattle.reader.specs.declared.Candidate.{Candidate}
 use Rattle.reader.specs.declared.Reader.{Reader}
 use Rattle.reader.specs.declared.Answer.the-variants as answer
 use Rattle.reader.specs.declared.Next.{Next}
-use Rattle.reader.specs.declared.Ready.{Ready}
-use Rattle.reader.specs.declared.Ready.the-variants.{Yes, Refused}
+use Rattle.reader.specs.declared.checks.Ready.{Ready}
+use Rattle.reader.specs.declared.checks.Ready.the-variants.{Yes, Refused}
 
 -- ---- 5, 3, 2
 

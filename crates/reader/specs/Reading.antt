@@ -16,8 +16,8 @@ use Rattle.reader.specs.declared.Candidate.{Candidate}
 use Rattle.reader.specs.declared.Reader.{Reader}
 use Rattle.reader.specs.declared.Answer.{Answer}
 use Rattle.reader.specs.declared.Answer.the-variants.{Done, Refused}
-use Rattle.reader.specs.declared.Ready.{Ready}
-use Rattle.reader.specs.declared.Ready.the-variants as ready
+use Rattle.reader.specs.declared.checks.Ready.{Ready}
+use Rattle.reader.specs.declared.checks.Ready.the-variants as ready
 use Rattle.reader.specs.declared.Next.{Next}
 use Rattle.reader.specs.declared.FedAll.{FedAll}
 use Rattle.reader.specs.declared.Taken.{Taken}

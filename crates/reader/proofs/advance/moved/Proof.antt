@@ -1,8 +1,8 @@
 use borrow.Author.Needs.{needs}
 use mathlib.Core.Path.{ap}
 use Rattle.reader.specs.Reading.{movedTo}
-use Rattle.reader.proofs.moved.Statement.{statement}
-use Rattle.reader.proofs.moved.Tie as tie
+use Rattle.reader.proofs.advance.moved.Statement.{statement}
+use Rattle.reader.proofs.advance.moved.Tie as tie
 
 returns : tie.Need-returns
 unfolding movedTo

@@ -1,7 +1,7 @@
 use borrow.Author.Needs.{needs}
 use mathlib.Core.Path.{sym, _∙_}
-use Rattle.reader.proofs.readiness.Statement.{statement}
-use Rattle.reader.proofs.readiness.Tie as tie
+use Rattle.reader.proofs.checks.readiness.Statement.{statement}
+use Rattle.reader.proofs.checks.readiness.Tie as tie
 
 returns : tie.Need-returns
 returns c = simp (sym (c .before .past .ensures) ∙ c .if1 .taken)

@@ -10,8 +10,8 @@ use Rattle.line.proofs.LineLaws.{six-lt, six-bits, six-refused}
 use Rattle.reader.specs.Reading.{stepCells, stepTo, spent, runTo}
 use Rattle.reader.proofs.Accepted.{Accepted, accept-free, room-free, length-step, accepted-step}
 use Rattle.reader.proofs.Running.{spent-none, loop-waits, loop-ends, loop-on, loop-over}
-use Rattle.reader.proofs.run.Statement.{statement}
-use Rattle.reader.proofs.run.Tie as tie
+use Rattle.reader.proofs.advance.run.Statement.{statement}
+use Rattle.reader.proofs.advance.run.Tie as tie
 
 -- the run from the start is what was used, and the run from here
 abbrev Inv-loop : tie.InvT-loop

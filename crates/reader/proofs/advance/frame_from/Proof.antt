@@ -12,8 +12,8 @@ use Rattle.stream.proofs.Words.{n-lt}
 use Rattle.reader.proofs.Leaves.{bits-data}
 use Rattle.reader.proofs.Steps.{seen, word-is}
 use Rattle.reader.proofs.Taking.{gathered, gather-none, gather-step, frame-law}
-use Rattle.reader.proofs.frame_from.Statement.{statement}
-use Rattle.reader.proofs.frame_from.Tie as tie
+use Rattle.reader.proofs.advance.frame_from.Statement.{statement}
+use Rattle.reader.proofs.advance.frame_from.Tie as tie
 
 -- the header is that of the first two words, and k data words are there
 abbrev Inv-loop : tie.InvT-loop

@@ -13,8 +13,8 @@ use Rattle.stream.specs.Standing.{nAt}
 use Rattle.reader.specs.Cells.{heldBits}
 use Rattle.reader.specs.Reading.{candidateBits, pastBy, pastOf}
 use Rattle.reader.proofs.Steps.{n-is}
-use Rattle.reader.proofs.past.Statement.{statement}
-use Rattle.reader.proofs.past.Tie as tie
+use Rattle.reader.proofs.checks.past.Statement.{statement}
+use Rattle.reader.proofs.checks.past.Tie as tie
 
 returns : tie.Need-returns
 unfolding pastOf pastBy

@@ -7,24 +7,9 @@ use Rattle.reader.proofs.Pushing.{length-pushed, room-low}
 use Rattle.reader.proofs.Steps.{step-wait}
 use Rattle.reader.proofs.Stepping.{step-law}
 use borrow.Author.Needs.{needs}
-use Rattle.reader.proofs.step.Statement.{statement}
-use Rattle.reader.proofs.step.Tie as tie
-use Rattle.reader.proofs.step.Reads as reads
-use Rattle.reader.proofs.step.Lts as lts
-use Rattle.reader.proofs.cells.push.Reads as push-reads
-use Rattle.reader.proofs.hunt.hunt.Reads as hunt-reads
-use Rattle.reader.proofs.hunt.seek.Reads as seek-reads
-use Rattle.reader.proofs.moved.Reads as moved-reads
+use Rattle.reader.proofs.advance.step.Statement.{statement}
+use Rattle.reader.proofs.advance.step.Tie as tie
 
--- src/lib.rt:158:16
-add-held : tie.Need-add-held
-add-held c = search needs
-
--- src/lib.rt:159:9
-push-requires : tie.Need-push-requires
-push-requires c κs = search needs
-
--- src/lib.rt:160:9
 seek-requires : tie.Need-seek-requires
 seek-requires c κs =
     let s = c .before .before .before .before in
@@ -34,19 +19,6 @@ seek-requires c κs =
     let ends = room-low (now (a .cells)) (a .c .end) (a .c .held) (s .pre .0) (s .pre .1) (s .pre .2) (s .pre .3) in
     (len, omega (arith, q .0, ends .0), omega (arith, q .0, ends .1))
 
--- src/lib.rt:161:20
-mul-if1 : tie.Need-mul-if1
-mul-if1 c = search needs
-
--- src/lib.rt:161:15
-add-if1 : tie.Need-add-if1
-add-if1 c = search needs
-
--- src/lib.rt:167:9
-moved-requires : tie.Need-moved-requires
-moved-requires c κs = search needs
-
--- src/lib.rt:167:9
 returns : tie.Need-returns
 unfolding stepCells
 returns c =
@@ -59,7 +31,6 @@ returns c =
     let stop = c .before .before .seek .ensures .1 ∙ step-wait (c .before .before .before .before .push .last .0) len (c .before .before .before .before .push .result) (omega (arith, q .0, ends .0)) left (omega (arith, q .0, ends .1, c .before .before .seek .ensures .0)) (a .c .words) (s .pre .4) (c .before .if1 .taken) in
     (c .moved .ensures ∙ step-law (now (a .cells)) (a .c) (a .six) (c .before .before .before .before .push .last .0) (c .before .before .before .before .push .result) _ (q .1) (q .0) (sym stop), q .1)
 
--- src/lib.rt:169:9
 hunt-requires : tie.Need-hunt-requires
 hunt-requires c κs =
     let s = c .before .before .before .before .before .before .before in
@@ -69,11 +40,9 @@ hunt-requires c κs =
     let ends = room-low (now (a .cells)) (a .c .end) (a .c .held) (s .pre .0) (s .pre .1) (s .pre .2) (s .pre .3) in
     (len, omega (arith, q .0, ends .0), omega (arith, q .0, ends .1, c .before .before .seek .ensures .0), s .pre .4)
 
--- src/lib.rt:170:5
 moved-requires-2 : tie.Need-moved-requires-2
 moved-requires-2 c κs = (omega (arith, c .hunt .ensures .1, c .before .before .before .seek .ensures .0), omega arith)
 
--- src/lib.rt:153:1
 returns-2 : tie.Need-returns-2
 unfolding stepCells
 returns-2 c =
@@ -88,14 +57,5 @@ returns-2 c =
 pub step-spec : {M : Type 1} → statement M
 step-spec =
     tie.close
-    (tie.spec
-    add-held
-    push-requires
-    seek-requires
-    mul-if1
-    add-if1
-    moved-requires
-    returns
-    hunt-requires
-    moved-requires-2
-    returns-2)
+    (tie.spec (λ c. search needs) (λ c κs. search needs) seek-requires (λ c. search needs) (λ c. search needs)
+    (λ c κs. search needs) returns hunt-requires moved-requires-2 returns-2)

@@ -1,0 +1,107 @@
+// The hunt goes on: by six bits, by bytes, and at the frame that waits.
+ghost use mathlib.Core.Path.{_≡_};
+ghost use mathlib.Core.Bool.{false};
+ghost use Prim.Native.Nat.{_+_, _*_, _≤_, _<_};
+ghost use lib.ListN.{length};
+ghost use Rattle.stream.specs.Standing.{nAt, frameAt};
+ghost use Rattle.reader.specs.Cells.{heldBits};
+ghost use Rattle.reader.specs.Reading.{movedTo, stepCells, stepTo, runTo};
+use crate::Candidate;
+use crate::cells::push;
+use crate::cells::window;
+use crate::hunt::Stop;
+use crate::hunt::hunt;
+use crate::hunt::seek;
+use frame::Frame;
+use line::Six;
+
+// What a run over bytes left beside the cells.
+pub(crate) struct Ran {
+    pub candidate: Candidate,
+    pub used: usize,
+    pub passed: usize,
+}
+
+// The candidate where a hunt stops.
+pub(crate) fn moved(at: u32, end: usize, held: usize, stop: Stop) -> Candidate
+    requires { ⌜ (stop .left ≤ held) × (held ≤ 1280) ⌝ }
+    ensures { λ r. ⌜ r ≡ movedTo at end held stop ⌝ }
+{
+    Candidate {
+        end,
+        held: stop.left,
+        words: stop.words,
+        at: std::num::wrapping_add_u32(at, (held - stop.left) as u32),
+        waits: stop.found,
+    }
+}
+
+// Six bits more, and the hunt goes on; where the next word has not come there is nothing to hunt for.
+pub(crate) fn step(cells: &mut [u32; 40], c: Candidate, six: u32) -> Candidate
+    requires { ⌜ (length (now cells) ≡ 40) × (c .end ≤ 1280) × (c .held ≤ c .end) × (c .held ≤ 991) × (c .words ≤ 32) × (six < 64) ⌝ }
+    ensures { λ r. ⌜ (r ≡ stepTo (now (cells .entry)) c six) × (now (cells .exit) ≡ stepCells (now (cells .entry)) c six) ⌝ }
+{
+    let words = c.words;
+    let held = c.held + 6;
+    let end = push(cells, c.end, c.held, six);
+    let left = seek(cells, end, held, words);
+    if left < 32 + 30 * words {
+        let waiting = Stop {
+            left,
+            words,
+            found: false,
+        };
+        return moved(c.at, end, held, waiting);
+    }
+    let stop = hunt(cells, end, left, words, false);
+    moved(c.at, end, held, stop)
+}
+
+// Bytes fed until a frame waits or none is left.
+pub(crate) fn run(cells: &mut [u32; 40], from: Candidate, bytes: &[u8]) -> Ran
+    requires { ⌜ (length (now cells) ≡ 40) × (from .end ≤ 1280) × (from .held ≤ from .end) × (from .held ≤ 991) × (from .words ≤ 32) × (from .waits ≡ false) ⌝ }
+    ensures { λ r. ⌜ record { cells = now (cells .exit); candidate = r .candidate; used = r .used; passed = r .passed } ≡ runTo (now (cells .entry)) from (now (bytes .entry)) ⌝ }
+{
+    let mut c = from;
+    let mut passed: usize = 0;
+    let mut used: usize = 0;
+    while used < bytes.len() {
+        if c.waits {
+            return Ran {
+                candidate: c,
+                used,
+                passed,
+            };
+        }
+        let line = line::six_of(bytes[used]);
+        used += 1;
+        if let Six::Bits(six) = line {
+            c = step(cells, c, six);
+        } else {
+            passed += 1;
+        }
+    }
+    Ran {
+        candidate: c,
+        used,
+        passed,
+    }
+}
+
+// The frame whose N + 2 words stand from bit `first` of the buffer on, two bits after it.
+pub(crate) fn frame_from(cells: &[u32; 40], end: usize, held: usize, n: usize) -> Frame
+    requires { ⌜ (length (now cells) ≡ 40) × (end ≤ 1280) × (held ≤ end) × (n ≡ nAt (heldBits (now cells) end held)) × (62 + 30 * n ≤ held) ⌝ }
+    ensures { λ r. ⌜ r ≡ frameAt (heldBits (now (cells .entry)) end held) ⌝ }
+{
+    let first = end - held;
+    let one = word::data_of(window(cells, first));
+    let two = word::data_of(window(cells, first + 30));
+    let header = frame::header_of(one, two);
+    let mut words = [0u32; 31];
+    let mut k: usize = 0;
+    while k < n {
+        words[k] = word::data_of(window(cells, first + 60 + 30 * k));
+        k += 1;
+    }
+    Frame { header, n, words }
+}
