@@ -2,3 +2,6 @@ pub mod Xor
 pub mod Numbers
 pub mod Linear
 pub mod FieldLaws
+pub mod RowLaws
+pub mod WordLaws
+pub mod SignedLaws

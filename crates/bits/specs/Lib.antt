@@ -1,2 +1,4 @@
 pub mod Bits
 pub mod Fields
+pub mod Rows
+pub mod Signed

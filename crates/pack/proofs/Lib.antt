@@ -1,0 +1,6 @@
+pub mod SignedCode
+pub mod PackCode
+pub mod Holds
+pub mod Words
+pub mod Round
+pub mod Making

@@ -1,0 +1,85 @@
+-- What the code's loops over entries do, over the layout: a check entry by entry, the packing row by row, and the frame that the
+-- filled packer leaves; and that a field within N words is one of the frame's bits. Assumes nothing.
+use mathlib.Core.Path.{_≡_, sym, ap, ap₂, _∙_}
+use mathlib.Core.Bool.{Bool, true, false, _||_}
+use mathlib.Core.List.{List, [], _∷_, _++_}
+use Prim.Native.Nat.{ℕ, _+_, _*_, _-_, _≤_, _<_}
+use native.Mathlib.Numerals.{add-one}
+use native.Mathlib.Omega.{arith}
+use lib.ListN.{length, take, drop, getD, replicate, length-take, length-map, drop-of-length-le, take-append-drop}
+use lib.Seq.{drop-cons, getD-take}
+use Rattle.bits.specs.Fields.{fieldsAt, span}
+use Rattle.bits.specs.Rows.{dataBits, rowsAt, filled, wordsIn}
+use Rattle.bits.proofs.RowLaws.{fields-front, rows-front}
+use Rattle.bits.proofs.WordLaws.{length-data, data-append}
+use Rattle.frame.specs.Frames.{framed, dataWords}
+use Rattle.frame.specs.Widths.{outside}
+use Rattle.frame.specs.declared.Header.{Header}
+use Rattle.frame.specs.declared.Frame.{Frame}
+use Rattle.frame.proofs.FrameLaws.{length-data as length-data-words}
+use Rattle.pack.specs.declared.Packer.{Packer}
+use Rattle.pack.specs.Packing.{emptyPacker, pushedAll, pushedRows, filledUp}
+use Rattle.pack.specs.Coding.{Coding, frameBits, rowsOf, entryBits, frameWith, anyEntry}
+use Rattle.pack.proofs.Holds.{Narrow, Ready, empty-holds, rows-hold, fill-holds, whole-holds}
+
+-- ---- the entries below a count, one by one
+
+module _ {A : Type 0} (es : List A) (n i : ℕ) (d : A) (l : n ≤ length es) (h : i < n) where
+  first : drop i (take n es) ≡ getD es i d ∷ drop (i + 1) (take n es)
+  first = drop-cons (take n es) i d (omega (arith, length-take n es))
+      ∙ ap₂ _∷_ (getD-take n es i d h) (ap (λ k. drop k (take n es)) (sym (add-one i)))
+
+  pub any-miss : (p : A → Bool) → p (getD es i d) ≡ false → anyEntry p (drop i (take n es)) ≡ anyEntry p (drop (i + 1) (take n es))
+  any-miss p e = ap (anyEntry p) first ∙ ap (λ b. b || anyEntry p (drop (i + 1) (take n es))) e
+
+  pub any-hit : (p : A → Bool) → p (getD es i d) ≡ true → anyEntry p (drop i (take n es)) ≡ true
+  any-hit p e = ap (anyEntry p) first ∙ ap (λ b. b || anyEntry p (drop (i + 1) (take n es))) e
+
+  pub rows-next : (k : Coding A) (p : Packer)
+      → pushedRows (k .widths) (rowsOf k (drop i (take n es))) p
+      ≡ pushedRows (k .widths) (rowsOf k (drop (i + 1) (take n es))) (pushedAll (k .widths) (k .codes (getD es i d)) p)
+  rows-next k p = ap (λ r. pushedRows (k .widths) (rowsOf k r) p) first
+
+pub none-left : {A : Type 0} (es : List A) (n i : ℕ) → n ≤ i → drop i (take n es) ≡ []
+none-left es n i h = drop-of-length-le (take n es) {i = i} (omega (arith, length-take n es))
+
+-- ---- what the packer leaves
+
+pub packed-frame : {A : Type 0} (k : Coding A) (pattern : ℕ) (h : Header) (es : List A) (p : Packer) → Narrow (k .widths)
+    → length es * span (k .widths) ≤ 744
+    → p ≡ filledUp pattern (pushedRows (k .widths) (rowsOf k es) emptyPacker)
+    → record { header = h; n = p .at; words = p .words } ≡ frameWith pattern k h es
+unfolding frameWith framed entryBits
+packed-frame k pattern h es p narrow room e = ap₂ (λ n ws. record { header = h; n = n; words = ws }) (whole .0) (whole .1)
+  where
+    rows : Ready (pushedRows (k .widths) (rowsOf k es) emptyPacker) (entryBits k es)
+    rows =
+        rows-hold (k .widths) (rowsOf k es) emptyPacker [] empty-holds narrow
+        (omega (arith, ap (λ m. m * span (k .widths)) (length-map es (k .codes))))
+
+    ready : Ready p (filled pattern (entryBits k es))
+    ready = rw e (fill-holds pattern (pushedRows (k .widths) (rowsOf k es) emptyPacker) (entryBits k es) rows)
+
+    whole : (p .at ≡ length (wordsIn pattern (entryBits k es)))
+        × (p .words ≡ wordsIn pattern (entryBits k es) ++ replicate (31 - length (wordsIn pattern (entryBits k es))) 0)
+    whole = whole-holds pattern p (entryBits k es) ready
+
+-- ---- fields within N words
+
+pub fields-frame : (ws : List ℕ) (o : ℕ) (f : Frame) → outside f ≡ false → length (f .words) ≡ 31 → o + span ws ≤ 24 * f .n
+    → fieldsAt ws o (dataBits (f .words)) ≡ fieldsAt ws o (frameBits f)
+unfolding frameBits
+fields-frame ws o f e full h =
+    ap (λ l. fieldsAt ws o (dataBits l)) (sym (take-append-drop (f .n) (f .words)))
+    ∙ ap (fieldsAt ws o) (data-append (dataWords f) (drop (f .n) (f .words)))
+    ∙ fields-front ws o (dataBits (dataWords f)) (dataBits (drop (f .n) (f .words)))
+    (omega (arith, length-data (dataWords f), length-data-words f e full))
+
+pub rows-frame : (ws : List ℕ) (m : ℕ) (f : Frame) → outside f ≡ false → length (f .words) ≡ 31 → m * span ws ≤ 24 * f .n
+    → rowsAt ws m 0 (dataBits (f .words)) ≡ rowsAt ws m 0 (frameBits f)
+unfolding frameBits
+rows-frame ws m f e full h =
+    ap (λ l. rowsAt ws m 0 (dataBits l)) (sym (take-append-drop (f .n) (f .words)))
+    ∙ ap (rowsAt ws m 0) (data-append (dataWords f) (drop (f .n) (f .words)))
+    ∙ rows-front ws m 0 (dataBits (dataWords f)) (dataBits (drop (f .n) (f .words)))
+    (omega (arith, length-data (dataWords f), length-data-words f e full))

@@ -1,0 +1,14 @@
+-- `pow` meets its contract. Assumes nothing.
+use lib.Pow.{pow-pos}
+use borrow.Author.Needs.{needs}
+use Rattle.pack.proofs.PackCode.{shifted-one}
+use Rattle.pack.proofs.pow.Statement.{statement}
+use Rattle.pack.proofs.pow.Tie as tie
+
+returns : tie.Need-returns
+returns c = let e = shifted-one (c .args .k) (c .pre) in (e, rw e (pow-pos (c .args .k)))
+
+pub pow-spec : {M : Type 1} → statement M
+pow-spec =
+    tie.close
+    (tie.spec (λ c. search needs) returns)

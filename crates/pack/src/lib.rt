@@ -1,0 +1,183 @@
+// Fields in data words: a reader at any bit, a packer that puts one field after the other, and two's complement.
+ghost use mathlib.Core.Path.{_≡_};
+ghost use Prim.Native.Nat.{_+_, _≤_, _<_, _%_, _^_};
+ghost use lib.ListN.{length, getD};
+ghost use lib.Signed.{mag};
+ghost use Rattle.bits.specs.Signed.{signed as signedOf, code as codeOf};
+ghost use Rattle.pack.specs.Packing.{fieldIn, emptyPacker, flushed, pushed, filledUp};
+
+// Whole words, how many, and the bits of the next word: `held` of them, as a number.
+pub struct Packer {
+    pub words: [u32; 31],
+    pub at: usize,
+    pub held: u32,
+    pub rest: u64,
+}
+
+fn wide(x: u32) -> u64
+    ensures { λ r. ⌜ r ≡ x ⌝ }
+{
+    x as u64
+}
+
+// Two to the k.
+fn pow(k: u32) -> u64
+    requires { ⌜ k < 64 ⌝ }
+    ensures { λ r. ⌜ (r ≡ 2 ^ k) × (0 < r) ⌝ }
+{
+    1u64 << k
+}
+
+// A word's data, or 0 past the last.
+fn word(words: &[u32; 31], j: usize) -> u64
+    requires { ⌜ length (now words) ≡ 31 ⌝ }
+    ensures { λ r. ⌜ r ≡ getD (now (words .entry)) j 0 % 2 ^ 24 ⌝ }
+{
+    if j >= 31 {
+        return 0;
+    }
+    wide(words[j]) % 16777216
+}
+
+// The number in `width` bits from bit `offset` of the data; 0 where the words have no such field of at most 32 bits.
+pub fn field(words: [u32; 31], offset: usize, width: u32) -> u32
+    ensures { λ r. ⌜ (r ≡ fieldIn words offset width) × (r < 2 ^ width) ⌝ }
+{
+    if width > 32 {
+        return 0;
+    }
+    if width == 0 {
+        return 0;
+    }
+    if offset > 744 - width as usize {
+        return 0;
+    }
+    let j = offset / 24;
+    let data = word(&words, j) * 1099511627776
+        + (word(&words, j + 1) * 65536 + word(&words, j + 2) / 256);
+    let end = (offset % 24) as u32 + width;
+    ((data / pow(64 - end)) % pow(width)) as u32
+}
+
+// Nothing put yet.
+pub fn empty() -> Packer
+    ensures { λ r. ⌜ r ≡ emptyPacker ⌝ }
+{
+    Packer {
+        words: [0; 31],
+        at: 0,
+        held: 0,
+        rest: 0,
+    }
+}
+
+// One whole word goes from the rest to the words.
+fn flush(packer: Packer) -> Packer
+    requires { ⌜ packer .held ≤ 64 ⌝ }
+    ensures { λ r. ⌜ r ≡ flushed packer ⌝ }
+{
+    let at = packer.at;
+    if packer.held < 24 {
+        return packer;
+    }
+    if at >= 31 {
+        return packer;
+    }
+    let left = packer.held - 24;
+    let mut words = packer.words;
+    words[at] = ((packer.rest / pow(left)) % 16777216) as u32;
+    Packer {
+        words,
+        at: at + 1,
+        held: left,
+        rest: packer.rest % pow(left),
+    }
+}
+
+// The low `width` bits of `value`, put after what is there; a width over 32 puts nothing.
+pub fn push(packer: Packer, width: u32, value: u32) -> Packer
+    ensures { λ r. ⌜ r ≡ pushed packer width value ⌝ }
+{
+    if width > 32 {
+        return packer;
+    }
+    let words = packer.words;
+    let full = Packer {
+        words,
+        at: packer.at,
+        held: packer.held % 24 + width,
+        rest: (packer.rest % 16777216) * pow(width) + wide(value) % pow(width),
+    };
+    flush(flush(full))
+}
+
+// The first bits of `pattern`, a word's data, put up to the end of the word.
+pub fn fill_up(packer: Packer, pattern: u32) -> Packer
+    ensures { λ r. ⌜ r ≡ filledUp pattern packer ⌝ }
+{
+    let held = packer.held % 24;
+    if held == 0 {
+        return packer;
+    }
+    push(packer, 24 - held, pattern >> held)
+}
+
+// The number that a code of `half` + 1 bits means.
+fn signed(n: u32, half: u32) -> i64
+    requires { ⌜ (half ≤ 31) × (n < 2 ^ (half + 1)) ⌝ }
+    ensures { λ r. ⌜ r ≡ signedOf half n ⌝ }
+{
+    let x = n as i64;
+    if wide(n) < pow(half) {
+        return x;
+    }
+    x - (pow(half + 1) as i64)
+}
+
+// The code of `half` + 1 bits of a number.
+fn code(z: i64, half: u32) -> u32
+    requires { ⌜ (half ≤ 31) × (mag z < 2 ^ half) ⌝ }
+    ensures { λ r. ⌜ r ≡ codeOf half z ⌝ }
+{
+    if z < 0 {
+        return (z + (pow(half + 1) as i64)) as u32;
+    }
+    z as u32
+}
+
+// Eight, sixteen and thirty-two bits to a signed number, and back.
+pub fn signed8(n: u32) -> i8
+    ensures { λ r. ⌜ r ≡ signedOf 7 (n % 256) ⌝ }
+{
+    signed(n % 256, 7) as i8
+}
+
+pub fn signed16(n: u32) -> i16
+    ensures { λ r. ⌜ r ≡ signedOf 15 (n % 65536) ⌝ }
+{
+    signed(n % 65536, 15) as i16
+}
+
+pub fn signed32(n: u32) -> i32
+    ensures { λ r. ⌜ r ≡ signedOf 31 n ⌝ }
+{
+    signed(n, 31) as i32
+}
+
+pub fn code8(z: i8) -> u32
+    ensures { λ r. ⌜ r ≡ codeOf 7 z ⌝ }
+{
+    code(z as i64, 7)
+}
+
+pub fn code16(z: i16) -> u32
+    ensures { λ r. ⌜ r ≡ codeOf 15 z ⌝ }
+{
+    code(z as i64, 15)
+}
+
+pub fn code32(z: i32) -> u32
+    ensures { λ r. ⌜ r ≡ codeOf 31 z ⌝ }
+{
+    code(z as i64, 31)
+}

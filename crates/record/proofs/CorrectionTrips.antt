@@ -1,0 +1,144 @@
+-- Made then read, and read then made, for types 1 and 9: what the layout owes, and the two theorems. Assumes nothing.
+use mathlib.Core.Path.{_≡_, refl, ap, ap₂, _∙_}
+use mathlib.Core.Bool.{true, false, _||_}
+use mathlib.Core.List.{List, [], _∷_}
+use Prim.Native.Nat.{ℕ, zero, suc, _+_, _*_, _/_, _≤_, _<_}
+use native.Mathlib.Omega.{arith}
+use lib.Dec.{ltb}
+use lib.ListN.{length, take, getD}
+use borrow.Author.Tests.{ltb-false, le-ltb}
+use Rattle.bits.specs.Fields.{Fit}
+use Rattle.bits.specs.Signed.{signed, code}
+use Rattle.bits.proofs.SignedLaws.{code-signed, signed-code, code-lt}
+use Rattle.frame.specs.declared.Header.{Header}
+use Rattle.frame.specs.declared.Frame.{Frame}
+use Rattle.frame.specs.declared.Layout.the-variants as layout
+use Rattle.frame.proofs.WidthLaws.{both-false}
+use Rattle.pack.proofs.Round.{Each, Faithful}
+use Rattle.record.specs.declared.stage.Count.the-variants as count
+use Rattle.record.specs.declared.correction.Correction.{Correction}
+use Rattle.record.specs.declared.correction.CorrectionRead.the-variants as read
+use Rattle.record.specs.Satellites.{satelliteOf}
+use Rattle.record.specs.Stages.{countIn, misfit, doneMade}
+use Rattle.record.specs.Corrections.{widths, meant, codes, coding, fill, StandardFill, numbersOut, outOfRange, countCorrections, correctionAt, makeCorrections, Typed, CorrectionsMade}
+use Rattle.record.proofs.SatelliteLaws.{satellite-back, code-back, satellite-some, satellite-few}
+use Rattle.record.proofs.ListCode.{count-none, count-wrong, count-right}
+use Rattle.record.proofs.ListTrips.{made-then-read, read-then-made}
+
+-- what the types say of an entry, and what the range check adds
+pub record Good (e : Correction) : Type 0 where
+  pub typed : Typed e
+  pub scale : e .scale < 2
+  pub udre : e .udre < 4
+  pub some : 0 < e .satellite
+  pub few : e .satellite ≤ 32
+
+good : (e : Correction) → Typed e → outOfRange e ≡ false → Good e
+unfolding numbersOut
+good e t o =
+    let a = both-false (ltb 1 (e .scale) || ltb 3 (e .udre) || ltb (e .satellite) 1) (ltb 32 (e .satellite)) o in
+    let b = both-false (ltb 1 (e .scale) || ltb 3 (e .udre)) (ltb (e .satellite) 1) (a .0) in
+    let c = both-false (ltb 1 (e .scale)) (ltb 3 (e .udre)) (b .0) in
+    record {
+      typed = t;
+      scale = omega (arith, ltb-false 1 (e .scale) (c .0));
+      udre = omega (arith, ltb-false 3 (e .udre) (c .1));
+      some = omega (arith, ltb-false (e .satellite) 1 (b .1));
+      few = omega (arith, ltb-false 32 (e .satellite) (a .1));
+    }
+
+-- ---- the three laws on codes
+
+faithful : Faithful coding Good
+faithful = record { meant-codes = meant-codes; fit-codes = fit-codes; codes-meant = codes-meant }
+  where
+    meant-codes : (e : Correction) → Good e → meant (codes e) ≡ e
+    meant-codes e g =
+        ap₂ (λ s p. record { scale = e .scale; udre = e .udre; satellite = s; prc = p; rrc = signed 7 (code 7 (e .rrc)); iod = e .iod })
+        (satellite-back (e .satellite) (g .some) (g .few)) (signed-code 15 (e .prc) (g .typed .prc))
+        ∙ ap (λ r. record { scale = e .scale; udre = e .udre; satellite = e .satellite; prc = e .prc; rrc = r; iod = e .iod })
+        (signed-code 7 (e .rrc) (g .typed .rrc))
+
+    fit-codes : (e : Correction) → Good e → Fit widths (codes e)
+    fit-codes e g =
+        (g .scale, (g .udre, (omega arith, (code-lt 15 (e .prc) (g .typed .prc), (code-lt 7 (e .rrc) (g .typed .rrc), (g .typed .iod, tt))))))
+
+    codes-meant : (vs : List ℕ) → Fit widths vs → codes (meant vs) ≡ vs
+    codes-meant [] f = absurd f
+    codes-meant (a ∷ []) f = absurd (f .1)
+    codes-meant (a ∷ b ∷ []) f = absurd (f .1 .1)
+    codes-meant (a ∷ b ∷ s ∷ []) f = absurd (f .1 .1 .1)
+    codes-meant (a ∷ b ∷ s ∷ x ∷ []) f = absurd (f .1 .1 .1 .1)
+    codes-meant (a ∷ b ∷ s ∷ x ∷ y ∷ []) f = absurd (f .1 .1 .1 .1 .1)
+    codes-meant (a ∷ b ∷ s ∷ x ∷ y ∷ z ∷ v ∷ vs) f = absurd (f .1 .1 .1 .1 .1 .1)
+    codes-meant (a ∷ b ∷ s ∷ x ∷ y ∷ z ∷ []) f =
+        ap₂ (λ u v. a ∷ b ∷ u ∷ v ∷ code 7 (signed 7 y) ∷ z ∷ []) (code-back s (f .1 .1 .0)) (code-signed 15 x (f .1 .1 .1 .0))
+        ∙ ap (λ v. a ∷ b ∷ s ∷ x ∷ v ∷ z ∷ []) (code-signed 7 y (f .1 .1 .1 .1 .0))
+
+-- what is read is in range
+in-range : (vs : List ℕ) → Fit widths vs → outOfRange (meant vs) ≡ false
+unfolding numbersOut
+in-range [] f = absurd f
+in-range (a ∷ []) f = absurd (f .1)
+in-range (a ∷ b ∷ []) f = absurd (f .1 .1)
+in-range (a ∷ b ∷ s ∷ vs) f =
+    rw (
+      le-ltb 1 a (omega (arith, f .0)),
+      le-ltb 3 b (omega (arith, f .1 .0)),
+      le-ltb (satelliteOf s) 1 (satellite-some s (f .1 .1 .0)),
+      le-ltb 32 (satelliteOf s) (satellite-few s (f .1 .1 .0)),
+    )
+
+sized : (c : ℕ) → 0 < c → c ≤ 18 → (c * 40 ≤ 744) × (countIn 40 ((c * 40 + 23) / 24) ≡ c)
+sized c l h = (omega arith, omega arith)
+
+-- ---- N as the paper writes it: 5k, 5k + 2, 5k + 4 words for 3k, 3k + 1, 3k + 2 satellites
+
+pub words-3k : (k : ℕ) → (3 * k * 40 + 23) / 24 ≡ 5 * k
+words-3k k = omega arith
+
+pub words-3k1 : (k : ℕ) → ((3 * k + 1) * 40 + 23) / 24 ≡ 5 * k + 2
+words-3k1 k = omega arith
+
+pub words-3k2 : (k : ℕ) → ((3 * k + 2) * 40 + 23) / 24 ≡ 5 * k + 4
+words-3k2 k = omega arith
+
+-- and back: no other N fits
+pub count-5k : (k : ℕ) → 0 < k → (misfit 40 (5 * k) ≡ false) × (countIn 40 (5 * k) ≡ 3 * k)
+count-5k k h = (count-right 40 (5 * k) (λ z. omega arith) (omega arith), omega arith)
+
+pub count-5k2 : (k : ℕ) → (misfit 40 (5 * k + 2) ≡ false) × (countIn 40 (5 * k + 2) ≡ 3 * k + 1)
+count-5k2 k = (count-right 40 (5 * k + 2) (λ z. omega arith) (omega arith), omega arith)
+
+pub count-5k4 : (k : ℕ) → (misfit 40 (5 * k + 4) ≡ false) × (countIn 40 (5 * k + 4) ≡ 3 * k + 2)
+count-5k4 k = (count-right 40 (5 * k + 4) (λ z. omega arith) (omega arith), omega arith)
+
+pub misfit-0 : misfit 40 0 ≡ true
+misfit-0 = count-none 40 0 refl
+
+pub misfit-5k1 : (k : ℕ) → misfit 40 (5 * k + 1) ≡ true
+misfit-5k1 zero = count-none 40 1 refl
+misfit-5k1 (suc k) = count-wrong 40 (5 * suc k + 1) (λ z. omega arith) (λ z. omega arith)
+
+pub misfit-5k3 : (k : ℕ) → misfit 40 (5 * k + 3) ≡ true
+misfit-5k3 k = count-wrong 40 (5 * k + 3) (λ z. omega arith) (λ z. omega arith)
+
+-- ---- the theorems
+
+-- MADE, THEN READ: header, count, every entry, the widths, N and standard fill
+pub corrections-made-read : (h : Header) (es : List Correction) (c : ℕ) (d : Correction) (f : Frame) → c ≤ length es → Each Typed (take c es)
+    → makeCorrections h es c ≡ doneMade f → CorrectionsMade h es c d f
+unfolding makeCorrections
+corrections-made-read = made-then-read layout.Correction coding fill 18 outOfRange read.Refused read.Entry Typed Good faithful good sized
+
+-- READ, THEN MADE: a frame whose count and entries read, with standard fill, is made again from them
+pub corrections-read-made : (f : Frame) (es : List Correction) (c : ℕ) (d : Correction) → length (f .words) ≡ 31 → c ≤ length es
+    → countCorrections f ≡ count.Of c → ((i : ℕ) → i < c → correctionAt f i ≡ read.Entry (getD es i d)) → StandardFill f c
+    → makeCorrections (f .header) es c ≡ doneMade f
+unfolding makeCorrections countCorrections correctionAt
+corrections-read-made =
+    read-then-made layout.Correction coding fill 18 outOfRange read.Refused read.Entry Typed Good faithful good sized
+    in-range (λ n h. omega arith) (λ n e q. apart n e q) (λ a b q. cc)
+  where
+    apart : (n : ℕ) (e : Correction) → read.Refused n ≡ read.Entry e → ⊥
+    apart n e q = let z : _≡_ {A = ℕ} 0 1 = cc in omega arith

@@ -1,0 +1,16 @@
+pub mod StageLaws
+pub mod ListCode
+pub mod ListTrips
+pub mod SatelliteLaws
+pub mod CorrectionCode
+pub mod CorrectionTrips
+pub mod HealthCode
+pub mod HealthTrips
+pub mod PositionCode
+pub mod PositionTrips
+pub mod NullTrips
+pub mod TextCode
+pub mod TextLaws
+pub mod TextTrips
+pub mod TextAgain
+pub mod Worked

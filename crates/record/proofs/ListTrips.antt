@@ -1,0 +1,199 @@
+-- Made then read, and read then made, for every list layout. A layout owes: three laws on its codes, what its range check says of an
+-- entry, and two facts on sizes. Assumes nothing.
+use mathlib.Core.Path.{_≡_, refl, sym, ap, subst, _∙_}
+use mathlib.Core.Bool.{Bool, false, _||_}
+use mathlib.Core.List.{List, [], _∷_, map}
+use Prim.Native.Nat.{ℕ, zero, suc, _+_, _*_, _/_, _≤_, _<_}
+use native.Mathlib.Omega.{arith}
+use lib.Dec.{ltb, leb, eqb}
+use lib.ListN.{length, take, drop, getD, length-take, drop-of-length-le}
+use lib.Seq.{getD-take}
+use borrow.Author.Tests.{ltb-false, eqb-false, lt-leb, le-ltb, ne-eqb}
+use Rattle.answer.specs.Order.{Check}
+use Rattle.answer.proofs.OrderLaws.{NoneApplies, order-answers}
+use Rattle.bits.specs.Fields.{span, Fit}
+use Rattle.bits.specs.Bits.{bits}
+use Rattle.bits.specs.Rows.{dataBits, rowsAt, fillOf, FillAfter}
+use Rattle.bits.proofs.RowLaws.{fits-rows}
+use Rattle.bits.proofs.WordLaws.{length-data}
+use Rattle.frame.specs.Frames.{framed, dataWords}
+use Rattle.frame.specs.Widths.{headerOutside, outside, late}
+use Rattle.frame.specs.declared.Header.{Header}
+use Rattle.frame.specs.declared.Frame.{Frame}
+use Rattle.frame.specs.declared.Layout.{Layout}
+use Rattle.frame.proofs.FrameLaws.{header-within, n-within, length-data as length-data-words}
+use Rattle.frame.proofs.WidthLaws.{both-false}
+use Rattle.pack.specs.Coding.{Coding, frameBits, entryIn, frameWith, anyEntry}
+use Rattle.pack.proofs.Round.{Each, Faithful, made-n, made-inside, made-fill, made-entry, entries-read, made-again, none-read}
+use Rattle.record.specs.declared.stage.Count.the-variants as count
+use Rattle.record.specs.Stages.{otherLayout, countIn, misfit, readOrder, makeOrder, refusedMade, doneMade}
+use Rattle.record.specs.Lists.{listCount, listEntry, listMade, MadeReads}
+use Rattle.record.proofs.ListCode.{fitting, count-right}
+use Rattle.record.proofs.StageLaws.{order-told, done-apart, done-frame, of-apart}
+
+-- what every value has, each entry has
+pub each-any : {A : Type 0} (P : A → Type 0) → ((e : A) → P e) → (es : List A) → Each P es
+each-any P p [] = tt
+each-any P p (e ∷ es) = (p e, each-any P p es)
+
+-- what a count that is read says: no stage refused, and N words hold c entries
+pub record CountRead {A : Type 0} (asked : Layout) (k : Coding A) (f : Frame) (c : ℕ) : Type 0 where
+  pub inside : outside f ≡ false
+  pub same : otherLayout asked (f .header .kind) ≡ false
+  pub hour : late (f .header .z) ≡ false
+  pub held : countIn (span (k .widths)) (f .n) ≡ c
+  pub some : 0 < c
+  pub up : (c * span (k .widths) + 23) / 24 ≡ f .n
+
+pub count-read : {A : Type 0} (asked : Layout) (k : Coding A) (f : Frame) (c : ℕ) → listCount asked k f ≡ count.Of c → CountRead asked k f c
+count-read asked k f c e = record { inside = t .0 .0; same = t .0 .1 .0; hour = t .0 .1 .1 .0; held = held; some = fit .0; up = fit .1 }
+  where
+    w : ℕ
+    w = span (k .widths)
+
+    t : NoneApplies (readOrder asked f (misfit w (f .n)) []) × (count.Of (countIn w (f .n)) ≡ count.Of c)
+    t = order-told count.Refused (count.Of (countIn w (f .n))) (count.Of c) (λ m. of-apart m c) (readOrder asked f (misfit w (f .n)) []) e
+
+    of-inj : (a b : ℕ) → count.Of a ≡ count.Of b → a ≡ b
+    of-inj a b q = cc
+
+    held : countIn w (f .n) ≡ c
+    held = of-inj (countIn w (f .n)) c (t .1)
+
+    fit : (0 < c) × ((c * w + 23) / 24 ≡ f .n)
+    fit = let s = fitting w (f .n) (t .0 .1 .1 .1 .0) in subst (λ m. (0 < m) × ((m * w + 23) / 24 ≡ f .n)) held (s .some, s .up)
+
+-- entries that end with a word leave nothing to fill
+pub no-fill : {A : Type 0} (asked : Layout) (k : Coding A) (pattern : ℕ) (f : Frame) (c : ℕ) → length (f .words) ≡ 31
+    → listCount asked k f ≡ count.Of c
+    → ((n : ℕ) → 24 * n ≤ countIn (span (k .widths)) n * span (k .widths)) → FillAfter pattern (c * span (k .widths)) (frameBits f)
+unfolding frameBits fillOf
+no-fill asked k pattern f c full n whole = none ∙ sym (ap (λ l. take (length l) (bits 24 pattern)) none)
+  where
+    r : CountRead asked k f c
+    r = count-read asked k f c n
+
+    none : drop (c * span (k .widths)) (dataBits (dataWords f)) ≡ []
+    none =
+        drop-of-length-le (dataBits (dataWords f)) {i = c * span (k .widths)}
+        (omega (
+          arith,
+          length-data (dataWords f),
+          length-data-words f (r .inside) full,
+          subst (λ m. 24 * f .n ≤ m * span (k .widths)) (r .held)
+              (whole (f .n)),
+        ))
+
+-- an entry that no check refuses is good, entry by entry
+each-good : {A : Type 0} (out : A → Bool) (Typed Good : A → Type 0) → ((e : A) → Typed e → out e ≡ false → Good e)
+    → (es : List A) → Each Typed es → anyEntry out es ≡ false → Each Good es
+each-good out Typed Good good [] t e = tt
+each-good out Typed Good good (x ∷ es) t e =
+    let s = both-false (out x) (anyEntry out es) e in (good x (t .0) (s .0), each-good out Typed Good good es (t .1) (s .1))
+
+module _ {A B : Type 0} (asked : Layout) (k : Coding A) (pattern most : ℕ) (out : A → Bool) (refuse : ℕ → B) (entry : A → B)
+    (Typed Good : A → Type 0) (law : Faithful k Good)
+    (good : (e : A) → Typed e → out e ≡ false → Good e)
+    (sized : (c : ℕ) → 0 < c → c ≤ most → (c * span (k .widths) ≤ 744) × (countIn (span (k .widths)) ((c * span (k .widths) + 23) / 24) ≡ c)) where
+  module _ (h : Header) (es : List A) (c : ℕ) (d : A) (long : c ≤ length es) (typed : Each Typed (take c es))
+      (inside : headerOutside h ≡ false) (same : otherLayout asked (h .kind) ≡ false) (hour : late (h .z) ≡ false)
+      (some : 0 < c) (few : c ≤ most) (right : anyEntry out (take c es) ≡ false) where
+    abbrev made : Frame
+    made = frameWith pattern k h (take c es)
+
+    abbrev w : ℕ
+    w = span (k .widths)
+
+    size : length (take c es) ≡ c
+    size = omega (arith, length-take c es)
+
+    header-is : made .header ≡ h
+    unfolding frameWith framed
+    header-is = refl
+
+    n-is : made .n ≡ (c * w + 23) / 24
+    n-is = made-n k pattern h (take c es) ∙ ap (λ m. (m * w + 23) / 24) size
+
+    held : countIn w (made .n) ≡ c
+    held = ap (countIn w) n-is ∙ sized c some few .1
+
+    fits : misfit w (made .n) ≡ false
+    fits = count-right _ _ (λ z. omega (arith, held ∙ refl, z)) (ap (λ m. (m * w + 23) / 24) held ∙ sym n-is)
+
+    within : outside made ≡ false
+    within = made-inside k pattern h (take c es) inside (subst (λ m. m * w ≤ 744) (sym size) (sized c some few .0))
+
+    made-reads : MadeReads asked k pattern refuse entry h es c d made
+    made-reads = record {
+      header = header-is;
+      inside = within;
+      counts = order-answers count.Refused _ (readOrder asked made _ []) (stages [] tt) ∙ ap count.Of held;
+      entries = λ i l.
+          order-answers refuse _ (readOrder asked made _ ((leb (countIn w (made .n)) i, 9) ∷ []))
+          (stages ((leb (countIn w (made .n)) i, 9) ∷ []) (ap (λ m. leb m i) held ∙ lt-leb c i l, tt))
+          ∙ ap entry
+          (made-entry k Good law pattern h (take c es) i d (each-good out Typed Good good (take c es) typed right) (omega (arith, size))
+          ∙ getD-take c es i d l);
+      n = n-is;
+      fill = subst (λ m. FillAfter pattern (m * w) (frameBits made)) size (made-fill k pattern h (take c es));
+    }
+      where
+        stages : (more : List Check) → NoneApplies more → NoneApplies (readOrder asked made (misfit w (made .n)) more)
+        stages more none = (within, (ap (λ x. otherLayout asked (x .kind)) header-is ∙ same, (ap (λ x. late (x .z)) header-is ∙ hour, (fits, none))))
+
+  -- MADE, THEN READ
+  pub made-then-read : (h : Header) (es : List A) (c : ℕ) (d : A) (f : Frame) → c ≤ length es → Each Typed (take c es)
+      → listMade asked k pattern most out h es c ≡ doneMade f → MadeReads asked k pattern refuse entry h es c d f
+  made-then-read h es c d f long typed e =
+      let t = order-told refusedMade (doneMade (frameWith pattern k h (take c es))) (doneMade f) (λ n. done-apart n f)
+      (makeOrder asked h ((eqb c 0 || ltb most c, 12) ∷ (anyEntry out (take c es), 10) ∷ [])) e in
+      let s = both-false (eqb c 0) (ltb most c) (t .0 .1 .1 .1 .0) in
+      subst (MadeReads asked k pattern refuse entry h es c d) (done-frame (t .1))
+      (made-reads h es c d long typed (t .0 .0) (t .0 .1 .0) (t .0 .1 .1 .0) (positive c (eqb-false c 0 (s .0))) (ltb-false most c (s .1))
+      (t .0 .1 .1 .1 .1 .0))
+    where
+      positive : (m : ℕ) → (m ≡ 0 → ⊥) → 0 < m
+      positive zero z = absurd (z refl)
+      positive (suc m) z = omega arith
+
+  -- READ, THEN MADE
+  module _ (none : (vs : List ℕ) → Fit (k .widths) vs → out (k .meant vs) ≡ false)
+      (bounded : (n : ℕ) → n ≤ 31 → countIn (span (k .widths)) n ≤ most)
+      (refuse-apart : (n : ℕ) (e : A) → refuse n ≡ entry e → ⊥) (entry-inj : (a b : A) → entry a ≡ entry b → a ≡ b) where
+    pub read-then-made : (f : Frame) (es : List A) (c : ℕ) (d : A) → length (f .words) ≡ 31 → c ≤ length es
+        → listCount asked k f ≡ count.Of c → ((i : ℕ) → i < c → listEntry asked k refuse entry f i ≡ entry (getD es i d))
+        → FillAfter pattern (c * span (k .widths)) (frameBits f)
+        → listMade asked k pattern most out (f .header) es c ≡ doneMade f
+    read-then-made f es c d full long n e fill =
+        order-answers refusedMade _ (makeOrder asked (f .header) ((eqb c 0 || ltb most c, 12) ∷ (anyEntry out (take c es), 10) ∷ [])) (
+          header-within f (r .inside),
+          (
+            r .same,
+            (
+              r .hour,
+              (
+                count-fits,
+                (ap (anyEntry out) same ∙ none-read k out none (rowsAt (k .widths) c 0 (frameBits f)) (fits-rows (k .widths) c 0 (frameBits f)), tt),
+              ),
+            ),
+          ),
+        )
+        ∙ ap (λ l. doneMade (frameWith pattern k (f .header) l)) same
+        ∙ ap doneMade (made-again k Good law pattern f (r .inside) full c (r .up) fill)
+      where
+        r : CountRead asked k f c
+        r = count-read asked k f c n
+
+        count-fits : eqb c 0 || ltb most c ≡ false
+        count-fits = rw
+            (ne-eqb c 0 (λ z. omega (arith, r .some, z)), le-ltb most c (subst (λ m. m ≤ most) (r .held) (bounded (f .n) (n-within f (r .inside)))))
+
+        at : (i : ℕ) → i < c → getD (take c es) i d ≡ entryIn k i (frameBits f)
+        at i h =
+            getD-take c es i d h
+            ∙ sym (entry-inj _ _
+            (order-told refuse (entry (entryIn k i (frameBits f))) (entry (getD es i d)) (λ m. refuse-apart m (getD es i d))
+            (readOrder asked f (misfit (span (k .widths)) (f .n)) ((leb (countIn (span (k .widths)) (f .n)) i, 9) ∷ [])) (e i h) .1))
+
+        same : take c es ≡ map (k .meant) (rowsAt (k .widths) c 0 (frameBits f))
+        same = entries-read k Good law pattern f (r .inside) full c (r .up) fill d (take c es) (omega (arith, length-take c es)) at

@@ -1,0 +1,128 @@
+-- Read then made, for type 16. Assumes nothing.
+use mathlib.Core.Path.{_≡_, refl, sym, ap, ap₂, _∙_}
+use mathlib.Core.Bool.{Bool, false, _||_}
+use mathlib.Core.List.{List, [], _∷_, _++_}
+use Prim.Native.Nat.{ℕ, zero, suc, _+_, _*_, _-_, _≤_, _<_}
+use native.Mathlib.Omega.{arith}
+use lib.Dec.{ltb, eqb}
+use lib.ListN.{length, take, drop, replicate, length-drop}
+use lib.Seq.{take-all, take-at}
+use borrow.Author.Tests.{le-ltb, ne-eqb}
+use Rattle.answer.proofs.OrderLaws.{NoneApplies, order-answers}
+use Rattle.bits.specs.Fields.{fieldAt}
+use Rattle.bits.specs.Rows.{packedRows, rowsAt, fillOf, FillAfter}
+use Rattle.bits.proofs.RowLaws.{put-rows}
+use Rattle.bits.proofs.WordLaws.{length-data}
+use Rattle.frame.specs.Frames.{dataWords}
+use Rattle.frame.specs.Widths.{anyOf, outside}
+use Rattle.frame.specs.declared.Frame.{Frame}
+use Rattle.frame.specs.declared.Layout.the-variants as layout
+use Rattle.frame.proofs.FrameLaws.{header-within, length-data as length-data-words}
+use Rattle.pack.specs.Coding.{frameBits, entryIn, rowsOf, frameWith}
+use Rattle.pack.proofs.Round.{made-again}
+use Rattle.record.specs.declared.stage.Count.the-variants as count
+use Rattle.record.specs.Stages.{makeOrder, refusedMade, doneMade}
+use Rattle.record.specs.Texts.{widths, coding, fill, characters, lengthIn, textIn, forbidden, textOrder, readText, bufferAfter, makeText}
+use Rattle.record.proofs.StageLaws.{order-told, of-apart}
+use Rattle.record.proofs.TextCode.{length-characters, Ends, none, one, two, ends, length-le, some-words}
+use Rattle.record.proofs.TextLaws.{Good, faithful, zeros-fill}
+
+-- rows of one character each, from bit o on, all of them 0
+zero-rows : (k o : ℕ) (bs : List Bool) → ((j : ℕ) → j < k → fieldAt (o + j * 8) 8 bs ≡ 0) → rowsAt widths k o bs ≡ rowsOf coding (replicate k 0)
+zero-rows zero o bs z = refl
+zero-rows (suc k) o bs z =
+    ap₂ _∷_ (ap (λ v. v ∷ []) (ap (λ p. fieldAt p 8 bs) here ∙ z 0 (omega arith)))
+    (zero-rows k (o + 8) bs (λ j l. ap (λ p. fieldAt p 8 bs) (there j) ∙ z (suc j) (omega arith)))
+  where
+    here : o ≡ o + 0 * 8
+    here = omega arith
+
+    there : (j : ℕ) → o + 8 + j * 8 ≡ o + suc j * 8
+    there j = omega arith
+
+module _ (f : Frame) (full : length (f .words) ≡ 31) (inside : outside f ≡ false) (n : (0 < f .n) × (f .n ≤ 30)) where
+  long : length (frameBits f) ≡ 24 * f .n
+  unfolding frameBits
+  long = length-data (dataWords f) ∙ ap (λ m. 24 * m) (length-data-words f inside full)
+
+  -- what is no text is zeros
+  fills : FillAfter fill (lengthIn f * 8) (frameBits f)
+  fills = by (ends (3 * f .n) (frameBits f))
+    where
+      D : List Bool
+      D = frameBits f
+
+      close : (k : ℕ) → lengthIn f + k ≡ 3 * f .n → k ≤ 2 → ((j : ℕ) → j < k → entryIn coding (lengthIn f + j) D ≡ 0)
+          → FillAfter fill (lengthIn f * 8) D
+      close k e l z = rest ∙ ap (fillOf fill) (sym size)
+        where
+          size : length (drop (lengthIn f * 8) D) ≡ 8 * k
+          size = omega (arith, length-drop (lengthIn f * 8) D, long)
+
+          at : (j : ℕ) → (lengthIn f + j) * 8 ≡ lengthIn f * 8 + j * 8
+          at j = omega arith
+
+          rest : drop (lengthIn f * 8) D ≡ fillOf fill (8 * k)
+          rest =
+              sym (take-all (k * 8) (drop (lengthIn f * 8) D) (omega (arith, size)))
+              ∙ sym (put-rows widths k (lengthIn f * 8) D (omega (arith, long)))
+              ∙ ap (packedRows widths) (zero-rows k (lengthIn f * 8) D (λ j b. ap (λ p. fieldAt p 8 D) (sym (at j)) ∙ z j b))
+              ∙ sym (zeros-fill k l)
+
+      by : Ends (3 * f .n) (frameBits f) → FillAfter fill (lengthIn f * 8) (frameBits f)
+      by (none e) = close 0 (omega arith) (omega arith) (λ j b. absurd (omega arith))
+      by (one e z) = close 1 (omega arith) (omega arith) (λ j b. ap (λ i. entryIn coding i D) (last j b) ∙ z)
+        where
+          last : (j : ℕ) → j < 1 → lengthIn f + j ≡ 3 * f .n - 1
+          last j b = omega arith
+      by (two e z y) = close 2 (omega arith) (omega arith) each
+        where
+          first-is : lengthIn f + 0 ≡ 3 * f .n - 2
+          first-is = omega arith
+
+          second-is : lengthIn f + 1 ≡ 3 * f .n - 1
+          second-is = omega arith
+
+          each : (j : ℕ) → j < 2 → entryIn coding (lengthIn f + j) D ≡ 0
+          each zero b = ap (λ i. entryIn coding i D) first-is ∙ y
+          each (suc zero) b = ap (λ i. entryIn coding i D) second-is ∙ z
+          each (suc (suc j)) b = absurd (omega arith)
+
+  pub text-again : frameWith fill coding (f .header) (textIn f) ≡ f
+  unfolding characters
+  text-again = made-again coding Good faithful fill f inside full (lengthIn f) (omega (arith, length-le (3 * f .n) (frameBits f))) fills
+
+-- READ, THEN MADE: the text that stands in the buffer; what is not text is zeros, so there is no fill to ask for
+pub text-read-made : (f : Frame) (buffer : List ℕ) (c : ℕ) → length (f .words) ≡ 31 → readText f buffer ≡ count.Of c
+    → makeText (f .header) (take c (bufferAfter f buffer)) ≡ doneMade f
+unfolding makeText readText bufferAfter
+text-read-made f buffer c full e =
+    ap (makeText (f .header)) text-is
+    ∙ order-answers refusedMade (doneMade (frameWith fill coding (f .header) (textIn f)))
+    (makeOrder layout.Text (f .header) ((eqb (length (textIn f)) 0 || ltb 90 (length (textIn f)), 12) ∷ (anyOf forbidden (textIn f), 11) ∷ []))
+    (header-within f (o .0 .0), (o .0 .1 .0, (o .0 .1 .1 .0, (sizes, (o .0 .1 .1 .1 .1 .0, tt)))))
+    ∙ ap doneMade (text-again f full (o .0 .0) n)
+  where
+    o : NoneApplies (textOrder f buffer) × (count.Of (lengthIn f) ≡ count.Of c)
+    o = order-told count.Refused (count.Of (lengthIn f)) (count.Of c) (λ m. of-apart m c) (textOrder f buffer) e
+
+    of-inj : (a b : ℕ) → count.Of a ≡ count.Of b → a ≡ b
+    of-inj a b q = cc
+
+    n : (0 < f .n) × (f .n ≤ 30)
+    n = some-words (f .n) (o .0 .1 .1 .1 .0)
+
+    l : length (textIn f) ≡ lengthIn f
+    l = length-characters (lengthIn f) (frameBits f)
+
+    text-is : take c (bufferAfter f buffer) ≡ textIn f
+    text-is =
+        ap₂ take (sym (of-inj (lengthIn f) c (o .1))) (order-answers (λ k. buffer) (textIn f ++ drop (lengthIn f) buffer) (textOrder f buffer) (o .0))
+        ∙ take-at (textIn f) (drop (lengthIn f) buffer) (lengthIn f) l
+
+    sizes : eqb (length (textIn f)) 0 || ltb 90 (length (textIn f)) ≡ false
+    sizes =
+        rw (
+          ne-eqb (length (textIn f)) 0 (λ z. omega (arith, l, z, n, length-le (3 * f .n) (frameBits f))),
+          le-ltb 90 (length (textIn f)) (omega (arith, l, n, length-le (3 * f .n) (frameBits f))),
+        )

@@ -1,0 +1,62 @@
+-- What the layout of type 16 owes: the three laws on codes, what the check for 11 says of a text, and zeros at the end. Assumes nothing.
+use mathlib.Core.Path.{_≡_, refl}
+use mathlib.Core.Bool.{false}
+use mathlib.Core.List.{List, [], _∷_}
+use Prim.Native.Nat.{ℕ, zero, suc, _*_, _-_, _^_, _≤_, _<_}
+use native.Mathlib.Omega.{arith}
+use lib.Dec.{ltb}
+use lib.ListN.{length, getD, replicate}
+use borrow.Author.Tests.{ltb-false}
+use Rattle.bits.specs.Bits.{bits}
+use Rattle.bits.specs.Fields.{Fit}
+use Rattle.bits.specs.Rows.{packedRows, AllFit, fillOf}
+use Rattle.frame.specs.Widths.{anyOf}
+use Rattle.frame.proofs.WidthLaws.{both-false}
+use Rattle.pack.specs.Coding.{rowsOf}
+use Rattle.pack.proofs.Round.{Each, Faithful}
+use Rattle.record.specs.Texts.{widths, meant, codes, coding, fill, forbidden}
+
+-- ---- the three laws on codes
+
+abbrev pub Good : ℕ → Type 0
+Good c = c < 2 ^ 8
+
+pub faithful : Faithful coding Good
+faithful = record { meant-codes = λ c g. refl; fit-codes = λ c g. (g, tt); codes-meant = codes-meant }
+  where
+    codes-meant : (vs : List ℕ) → Fit widths vs → codes (meant vs) ≡ vs
+    codes-meant [] f = absurd f
+    codes-meant (c ∷ []) f = refl
+    codes-meant (c ∷ d ∷ vs) f = absurd (f .1)
+
+pub allowed : (c : ℕ) → forbidden c ≡ false → (1 ≤ c) × (c ≤ 127)
+allowed c e = let s = both-false (ltb c 1) (ltb 127 c) e in (ltb-false c 1 (s .0), ltb-false 127 c (s .1))
+
+pub all-good : (t : List ℕ) → anyOf forbidden t ≡ false → Each Good t
+all-good [] e = tt
+all-good (c ∷ t) e = let s = both-false (forbidden c) (anyOf forbidden t) e in (omega (arith, allowed c (s .0) .1), all-good t (s .1))
+
+-- a character of an allowed text is not 0
+pub not-zero : (t : List ℕ) (i : ℕ) → anyOf forbidden t ≡ false → i < length t → getD t i 0 ≡ 0 → ⊥
+not-zero [] i e h z = omega arith
+not-zero (c ∷ t) zero e h z = let s = both-false (forbidden c) (anyOf forbidden t) e in omega (arith, allowed c (s .0) .0, z)
+not-zero (c ∷ t) (suc i) e h z = let s = both-false (forbidden c) (anyOf forbidden t) e in not-zero t i (s .1) (omega arith) z
+
+-- ---- zeros at the end
+
+pub zeros-fit : (k : ℕ) → AllFit widths (rowsOf coding (replicate k 0))
+zeros-fit zero = tt
+zeros-fit (suc k) = ((omega arith, tt), zeros-fit k)
+
+pub zeros-at : (k j : ℕ) → j < k → getD (rowsOf coding (replicate k 0)) j [] ≡ 0 ∷ []
+zeros-at zero j h = absurd (omega arith)
+zeros-at (suc k) zero h = refl
+zeros-at (suc k) (suc j) h = zeros-at k j (omega arith)
+
+-- fill of whole characters is characters 0
+pub zeros-fill : (k : ℕ) → k ≤ 2 → fillOf fill (8 * k) ≡ packedRows widths (rowsOf coding (replicate k 0))
+unfolding fillOf bits
+zeros-fill zero h = refl
+zeros-fill (suc zero) h = refl
+zeros-fill (suc (suc zero)) h = refl
+zeros-fill (suc (suc (suc k))) h = absurd (omega arith)

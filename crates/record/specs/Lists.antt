@@ -1,0 +1,46 @@
+-- A list layout, over the layout: its count, its entry by number, and a frame made of its entries, each in its order. Assumes nothing.
+use mathlib.Core.Path.{_≡_}
+use mathlib.Core.Bool.{Bool, false, _||_}
+use mathlib.Core.List.{List, [], _∷_}
+use Prim.Native.Nat.{ℕ, _+_, _*_, _/_, _<_}
+use lib.Dec.{ltb, leb, eqb}
+use lib.ListN.{take, getD}
+use Rattle.answer.specs.Order.{inOrder}
+use Rattle.bits.specs.Fields.{span}
+use Rattle.bits.specs.Rows.{FillAfter}
+use Rattle.frame.specs.Widths.{outside}
+use Rattle.frame.specs.declared.Header.{Header}
+use Rattle.frame.specs.declared.Frame.{Frame}
+use Rattle.frame.specs.declared.Layout.{Layout}
+use Rattle.pack.specs.Coding.{Coding, frameBits, entryIn, frameWith, anyEntry}
+use Rattle.record.specs.declared.stage.Count.{Count}
+use Rattle.record.specs.declared.stage.Count.the-variants as count
+use Rattle.record.specs.declared.stage.Made.{Made}
+use Rattle.record.specs.Stages.{countIn, misfit, readOrder, makeOrder, refusedMade, doneMade}
+
+module _ {A : Type 0} (asked : Layout) (k : Coding A) where
+  -- COUNT: 5, 6, 7, 8
+  abbrev pub listCount : Frame → Count
+  listCount f = inOrder (readOrder asked f (misfit (span (k .widths)) (f .n)) []) count.Refused (count.Of (countIn (span (k .widths)) (f .n)))
+
+  -- ENTRY: 5, 6, 7, 8, 9
+  abbrev pub listEntry : {B : Type 0} → (ℕ → B) → (A → B) → Frame → ℕ → B
+  listEntry refuse entry f i =
+      inOrder (readOrder asked f (misfit (span (k .widths)) (f .n)) ((leb (countIn (span (k .widths)) (f .n)) i, 9) ∷ [])) refuse
+      (entry (entryIn k i (frameBits f)))
+
+  -- MAKING: 5, 6, 7, 12, 10; the entries past the count are not looked at
+  abbrev pub listMade : (pattern most : ℕ) → (A → Bool) → Header → List A → ℕ → Made
+  listMade pattern most out h es c =
+      inOrder (makeOrder asked h ((eqb c 0 || ltb most c, 12) ∷ (anyEntry out (take c es), 10) ∷ [])) refusedMade
+      (doneMade (frameWith pattern k h (take c es)))
+
+-- A made frame f reads back: its header, its count, every entry; it is within its widths, N is worked out, its fill is standard
+pub record MadeReads {A B : Type 0} (asked : Layout) (k : Coding A) (pattern : ℕ) (refuse : ℕ → B) (entry : A → B)
+    (h : Header) (es : List A) (c : ℕ) (d : A) (f : Frame) : Type 0 where
+  pub header : f .header ≡ h
+  pub inside : outside f ≡ false
+  pub counts : listCount asked k f ≡ count.Of c
+  pub entries : (i : ℕ) → i < c → listEntry asked k refuse entry f i ≡ entry (getD es i d)
+  pub n : f .n ≡ (c * span (k .widths) + 23) / 24
+  pub fill : FillAfter pattern (c * span (k .widths)) (frameBits f)

@@ -1,0 +1,10 @@
+-- Satellite numbers: five bits on the line, 0 means 32. Assumes nothing.
+use mathlib.Core.Bool.{cond}
+use Prim.Native.Nat.{ℕ, _%_}
+use lib.Dec.{eqb}
+
+abbrev pub satelliteOf : ℕ → ℕ
+satelliteOf n = cond (eqb n 0) 32 n
+
+abbrev pub satelliteCode : ℕ → ℕ
+satelliteCode s = s % 32
