@@ -1,0 +1,115 @@
+// Makes the four streams of the benchmark, 400,000 bytes each, in the folder given: always the same ones.
+use std::path::Path;
+
+const LENGTH: usize = 400_000;
+
+// Six line bits a byte, the first one lowest.
+const BITS: usize = 6 * LENGTH;
+
+// The data bits of each parity bit, D1 highest, and whether D30* is carried into it, else D29*.
+const PARITY: [(u32, bool); 6] = [
+    (0xEC7CD2, false),
+    (0x763E69, true),
+    (0xBB1F34, false),
+    (0x5D8F9A, true),
+    (0xAEC7CD, true),
+    (0x2DEA27, false),
+];
+
+// Random numbers by xorshift, from a fixed start.
+struct Random(u64);
+
+impl Random {
+    fn below(&mut self, limit: u64) -> u64 {
+        self.0 ^= self.0 << 13;
+        self.0 ^= self.0 >> 7;
+        self.0 ^= self.0 << 17;
+        (self.0 >> 11) % limit
+    }
+}
+
+// Line bits in the order sent.
+struct Line(Vec<bool>);
+
+impl Line {
+    // A word of 24 data bits with its parity, after the two bits that are carried.
+    fn word(&mut self, data: u32) {
+        let d29 = self.0[self.0.len() - 2];
+        let d30 = self.0[self.0.len() - 1];
+        for i in (0..24).rev() {
+            self.0.push((data >> i & 1 == 1) ^ d30);
+        }
+        for (mask, with_d30) in PARITY {
+            let odd = (data & mask).count_ones() % 2 == 1;
+            self.0.push(odd ^ if with_d30 { d30 } else { d29 });
+        }
+    }
+
+    // Two right header words: preamble, type, station; Z count, sequence, N, health.
+    fn header(&mut self, random: &mut Random, kind: u32, n: u32) {
+        let station = random.below(1024) as u32;
+        let z = random.below(6000) as u32;
+        let sequence = random.below(8) as u32;
+        let health = random.below(8) as u32;
+        self.word(0b0110_0110 << 16 | kind << 10 | station);
+        self.word(z << 11 | sequence << 8 | n << 3 | health);
+    }
+
+    fn words(&mut self, random: &mut Random, n: u64) {
+        for _ in 0..n {
+            let data = random.below(1 << 24) as u32;
+            self.word(data);
+        }
+    }
+
+    fn bytes(&self) -> Vec<u8> {
+        let byte = |six: &[bool]| 0x40 + six.iter().rev().fold(0, |x, &bit| 2 * x + bit as u8);
+        self.0.chunks_exact(6).take(LENGTH).map(byte).collect()
+    }
+}
+
+// Right frames of types 1 and 9 back to back, after some zero bits.
+fn frames(lead: usize) -> Vec<u8> {
+    let mut random = Random(0x9E37_79B9_7F4A_7C15);
+    let mut line = Line(vec![false; lead]);
+    while line.0.len() < BITS {
+        let n = [2, 4, 5, 7, 9, 10, 12, 14, 15, 17][random.below(10) as usize];
+        let kind = [1, 9][random.below(2) as usize];
+        line.header(&mut random, kind, n);
+        line.words(&mut random, n as u64);
+    }
+    line.bytes()
+}
+
+// Random line bits.
+fn noise() -> Vec<u8> {
+    let mut random = Random(0x9E37_79B9_7F4A_7C15);
+    (0..LENGTH).map(|_| 0x40 + random.below(64) as u8).collect()
+}
+
+// Headers with N 31, each with fewer right words than that and a stray bit after them. The few frames in it are those that the random words make.
+fn cut_short() -> Vec<u8> {
+    let mut random = Random(0x9E37_79B9_7F4A_7C15);
+    let mut line = Line(vec![false; 6]);
+    while line.0.len() < BITS {
+        line.header(&mut random, 1, 31);
+        let n = random.below(30);
+        line.words(&mut random, n);
+        let stray = random.below(2) == 1;
+        line.0.push(stray);
+    }
+    line.bytes()
+}
+
+fn main() {
+    let folder = std::env::args().nth(1).expect("a folder");
+    let streams = [
+        ("a", frames(6)),
+        ("b", noise()),
+        ("c", frames(7)),
+        ("d", cut_short()),
+    ];
+    for (name, bytes) in streams {
+        std::fs::write(Path::new(&folder).join(name), bytes).expect("a stream written");
+    }
+}
