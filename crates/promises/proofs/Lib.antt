@@ -5,4 +5,5 @@ pub mod Demand3
 pub mod Opposed
 pub mod Turned
 pub mod EveryReader
+pub mod Demand2
 pub mod Worked

@@ -8,6 +8,11 @@ use Rattle.line.specs.Line.{six, lineBits}
 use Rattle.word.specs.Word.{rows, places, parity, dataOf, received, computed, remainderOf, passes}
 use Rattle.frame.specs.Header.{factors, stateOf, preambled, nOf, headerOf}
 use Rattle.frame.specs.Frames.{framed}
+use Rattle.frame.specs.Widths.{stateOutside, numbersOutside, headerOutside, outside}
+use Rattle.frame.specs.Layout.{layoutOf}
+use Rattle.record.specs.Stages.{layoutNumber, otherLayout, misfit}
+use Rattle.record.specs.Corrections.{countCorrections}
+use Rattle.value.specs.Values.{signedValue, hundredthsOf, limits, udreValue}
 use Rattle.stream.specs.Standing.{right, nAt, dataFrom, frameAt, Placed, placed, allRight, stands, scan, framesIn}
 use Rattle.promises.specs.Calls.{reported}
 use Rattle.promises.specs.Worked.{elevenBytes, turnedBytes, tenBytes, elevenFrame, readOut, WorkedValues}
@@ -26,6 +31,7 @@ unfolding bits number six lineBits rows places parity dataOf received computed r
 frames-ten = refl
 
 pub worked : WorkedValues
+unfolding factors stateOf signedValue hundredthsOf limits udreValue outside headerOutside numbersOutside stateOutside layoutOf layoutNumber otherLayout misfit countCorrections
 worked = record {
   word-1 = unfold bits rows parity in refl;
   word-2 = unfold bits rows parity in refl;
@@ -34,4 +40,23 @@ worked = record {
   ten = handed-out tenBytes .ended ∙ frames-ten;
   byte-3F = refl;
   byte-40 = unfold bits number six in refl;
+  prc-highest = refl;
+  prc-lowest = refl;
+  prc-stop-0 = refl;
+  prc-stop-1 = refl;
+  rrc-highest = refl;
+  rrc-lowest = refl;
+  rrc-stop-0 = refl;
+  rrc-stop-1 = refl;
+  udre-health-3 = refl;
+  udre-health-6 = refl;
+  n-5 = refl;
+  n-7 = refl;
+  n-1 = refl;
+  n-3 = refl;
+  n-31 = refl;
+  cn0-31 = refl;
+  cn0-0 = refl;
+  z-5999 = refl;
+  z-6000 = refl;
 }

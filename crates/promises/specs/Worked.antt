@@ -3,16 +3,21 @@ use mathlib.Core.Path.{_≡_}
 use mathlib.Core.Bool.{true, false}
 use mathlib.Core.List.{List, [], _∷_, _++_}
 use Prim.Native.Nat.{ℕ}
-use lib.IntN.{ℤ, pos, negsuc}
+use lib.IntN.{pos, negℤ}
 use lib.ListN.{replicate}
-use Rattle.answer.specs.Order.{refuses, answers}
+use Rattle.answer.specs.Order.{Says, refuses, answers}
 use Rattle.bits.specs.Bits.{bits}
 use Rattle.line.specs.Answer.{sixOf, saysSix}
 use Rattle.word.specs.Word.{parity}
+use Rattle.frame.specs.Header.{stateOf}
 use Rattle.frame.specs.declared.Frame.{Frame}
 use Rattle.frame.specs.declared.State.the-variants.{Factor}
 use Rattle.stream.specs.Standing.{Placed}
 use Rattle.reader.specs.Reading.{started}
+use Rattle.record.specs.Stages.{saysCount}
+use Rattle.record.specs.Corrections.{countCorrections}
+use Rattle.value.specs.Values.{exactly, stop, upTo, dbHz, notTracked}
+use Rattle.value.specs.Answer.{prcMm, rrcMmS, udreLimit, cn0DbHz, saysDistance, saysRate, saysLimit, saysStrength}
 use Rattle.promises.specs.Calls.{Call, ends, handedOut, takesAll, served}
 
 -- the stream of eleven bytes, and the same with all bits turned over
@@ -40,6 +45,14 @@ elevenFrame = record {
 abbrev pub readOut : List ℕ → List Placed
 readOut bs = handedOut started (served bs ++ (ends ∷ takesAll))
 
+-- a frame of type 1 with this Z count and this N
+abbrev pub typeOne : ℕ → ℕ → Frame
+typeOne z n = record { header = record { kind = 1; station = 5; z = z; sequence = 3; state = Factor 100 }; n = n; words = replicate 31 0 }
+
+-- how many satellites it has, or the refusal
+abbrev pub satellites : ℕ → ℕ → Says ℕ
+satellites z n = saysCount (countCorrections (typeOne z n))
+
 pub record WorkedValues : Type 0 where
   -- the parity of word 1, after carried bits 00; and of word 2, which is sent turned over, after 11
   pub word-1 : parity false false (bits 24 0b011001100001100000000101) ≡ bits 6 0b111111
@@ -51,3 +64,28 @@ pub record WorkedValues : Type 0 where
   -- byte 0x3F is refusal 1; byte 0x40 is six zero bits
   pub byte-3F : saysSix (sixOf 0x3F) ≡ refuses 1
   pub byte-40 : saysSix (sixOf 0x40) ≡ answers (replicate 6 false)
+  -- scale 0, PRC 32767; scale 1, PRC -32767; PRC -32768 is stop in both scales
+  pub prc-highest : saysDistance (prcMm 0 (pos 32767)) ≡ answers (exactly (pos 655340))
+  pub prc-lowest : saysDistance (prcMm 1 (negℤ (pos 32767))) ≡ answers (exactly (negℤ (pos 10485440)))
+  pub prc-stop-0 : saysDistance (prcMm 0 (negℤ (pos 32768))) ≡ answers stop
+  pub prc-stop-1 : saysDistance (prcMm 1 (negℤ (pos 32768))) ≡ answers stop
+  -- scale 0, RRC 127; scale 1, RRC -127; RRC -128 is stop in both scales
+  pub rrc-highest : saysRate (rrcMmS 0 (pos 127)) ≡ answers (exactly (pos 254))
+  pub rrc-lowest : saysRate (rrcMmS 1 (negℤ (pos 127))) ≡ answers (exactly (negℤ (pos 4064)))
+  pub rrc-stop-0 : saysRate (rrcMmS 0 (negℤ (pos 128))) ≡ answers stop
+  pub rrc-stop-1 : saysRate (rrcMmS 1 (negℤ (pos 128))) ≡ answers stop
+  -- UDRE 2 with health 3, factor 0.30, and with health 6, not monitored
+  pub udre-health-3 : saysLimit (udreLimit (stateOf 3) 2) ≡ answers (upTo 2400)
+  pub udre-health-6 : saysLimit (udreLimit (stateOf 6) 2) ≡ answers (upTo 8000)
+  -- type 1 with N 5 has 3 satellites, with N 7 has 4; N 1, 3 and 31 are refusal 8
+  pub n-5 : satellites 100 5 ≡ answers 3
+  pub n-7 : satellites 100 7 ≡ answers 4
+  pub n-1 : satellites 100 1 ≡ refuses 8
+  pub n-3 : satellites 100 3 ≡ refuses 8
+  pub n-31 : satellites 100 31 ≡ refuses 8
+  -- C/N0 codes 31 and 0
+  pub cn0-31 : saysStrength (cn0DbHz 31) ≡ answers (dbHz 55)
+  pub cn0-0 : saysStrength (cn0DbHz 0) ≡ answers notTracked
+  -- Z count 5999 is read, 6000 is refusal 7
+  pub z-5999 : satellites 5999 5 ≡ answers 3
+  pub z-6000 : satellites 6000 5 ≡ refuses 7

@@ -1,23 +1,15 @@
--- Worked records: the data words that they make, and the counts that N gives. Assumes nothing.
+-- Worked records: the data words that they make. Assumes nothing.
 use mathlib.Core.Path.{_≡_, refl}
-use mathlib.Core.Bool.{true, false}
 use mathlib.Core.List.{[], _∷_}
 use lib.IntN.{pos, negsuc}
 use Rattle.bits.specs.Bits.{bits, number}
 use Rattle.bits.specs.Rows.{cutWords, fillOf, filled, wordsIn}
 use Rattle.bits.specs.Signed.{code}
 use Rattle.pack.specs.Coding.{entryBits}
-use Rattle.record.specs.Stages.{countIn, misfit}
 use Rattle.record.specs.Corrections as corrections
 use Rattle.record.specs.Texts as texts
 use Rattle.record.specs.Positions as positions
 use Rattle.record.specs.Healths as healths
-
--- type 1 with N 5 has 3 satellites, with N 7 has 4; N 1, 3 and 31 do not fit
-pub counts : (countIn 40 5 ≡ 3) × ((countIn 40 7 ≡ 4) × ((misfit 40 5 ≡ false) × ((misfit 40 7 ≡ false)
-    × ((misfit 40 1 ≡ true) × ((misfit 40 3 ≡ true) × (misfit 40 31 ≡ true))))))
-unfolding misfit
-counts = (refl, (refl, (refl, (refl, (refl, (refl, refl))))))
 
 -- scale 0, UDRE 0, satellite 3, PRC 1000, RRC -5, IOD 77
 pub correction-words :

@@ -3,4 +3,3 @@ pub mod Readings
 pub mod LimitLaws
 pub mod StageLaws
 pub mod AnswerLaws
-pub mod Worked
