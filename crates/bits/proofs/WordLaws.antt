@@ -13,7 +13,7 @@ use Rattle.bits.specs.Bits.{bits, number}
 use Rattle.bits.specs.Fields.{fieldAt}
 use Rattle.bits.specs.Rows.{dataBits, cutWords, fillOf, filled, wordsIn}
 use Rattle.bits.proofs.Numbers.{length-bits, number-bits, number-lt, bits-number, bits-split, number-append}
-use Rattle.bits.proofs.FieldLaws.{field-front}
+use Rattle.bits.proofs.FieldLaws.{field-front, number-part}
 
 -- WORDS AND BITS
 pub length-data : (ws : List ℕ) → length (dataBits ws) ≡ 24 * length ws
@@ -51,39 +51,6 @@ drop-data (suc j) (w ∷ ws) =
     back = omega arith
 
 -- A FIELD OF UP TO 32 BITS AT ANY BIT, FROM THREE WORDS
-pub number-part : (a b c : ℕ) (l : List Bool) → length l ≡ a + b + c → number l / 2 ^ c % 2 ^ b ≡ number (take b (drop a l))
-number-part a b c l e =
-    rw (whole)
-    (rw (high (number A * 2 ^ b + number B) c (subst (λ (n : ℕ). number C < 2 ^ n) long-c (number-lt C)))
-    (low (number A) b (subst (λ (n : ℕ). number B < 2 ^ n) long-b (number-lt B))))
-  where
-    A : List Bool
-    A = take a l
-
-    B : List Bool
-    B = take b (drop a l)
-
-    C : List Bool
-    C = drop b (drop a l)
-
-    long-b : length B ≡ b
-    long-b = omega (arith, length-take b (drop a l), length-drop a l)
-
-    long-c : length C ≡ c
-    long-c = omega (arith, length-drop b (drop a l), length-drop a l)
-
-    whole : number l ≡ (number A * 2 ^ b + number B) * 2 ^ c + number C
-    whole =
-        ap number (sym (take-append-drop a l)) ∙ number-append A (drop a l)
-        ∙ rw (
-          ap length (sym (take-append-drop b (drop a l))) ∙ length-append B C,
-          long-b,
-          long-c,
-          ap number (sym (take-append-drop b (drop a l)))
-              ∙ number-append B C,
-          long-c,
-          pow-add 2 b c,
-        ) (omega arith)
 
 -- the first 64 bits of three words
 abbrev pub front : ℕ → ℕ → ℕ → List Bool

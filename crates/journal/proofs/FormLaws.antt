@@ -11,7 +11,7 @@ use lib.ListN.{length, take, drop, getD, replicate, length-append, length-drop}
 use lib.Seq.{take-add}
 use borrow.Author.Tests.{ltb-false, eqb-true, not-false, le-ltb, eq-eqb}
 use Rattle.answer.specs.Order.{inOrder}
-use Rattle.answer.proofs.OrderLaws.{NoneApplies, order-answers}
+use Rattle.answer.proofs.OrderLaws.{NoneApplies, order-answers, order-map, says-none}
 use Rattle.bits.specs.Fields.{Fit}
 use Rattle.frame.proofs.WidthLaws.{both-false}
 use Rattle.journal.specs.Bytes.{AreBytes, written, wordsIn}
@@ -20,7 +20,6 @@ use Rattle.journal.specs.declared.form.Start.{Start}
 use Rattle.journal.specs.declared.form.Start.the-variants.{N, Refused}
 use Rattle.journal.proofs.ByteLaws.{fit-drop}
 use Rattle.journal.proofs.WordLaws.{length-written, words-written, written-words}
-use Rattle.journal.proofs.OrderStages.{order-made, none-applies}
 
 -- the bytes after a record's start: k for each of N + 2 words
 words-size : (k n : ℕ) → lengthWith k n ≡ 3 + k * suc (suc n)
@@ -31,7 +30,7 @@ words-size k n = omega (arith, mul-suc k (suc n), mul-suc k n)
 module _ (form k : ℕ) (bs : List ℕ) where
   pub start-refused : {A : Type 0} (refuse : ℕ → A) (answer : A) {number : ℕ} → startBy form k bs ≡ Refused number
       → inOrder (startOrder form k bs) refuse answer ≡ refuse number
-  start-refused {A} refuse answer e = sym (order-made go Refused (N (nByte bs)) (startOrder form k bs)) ∙ ap go e
+  start-refused {A} refuse answer e = sym (order-map go (startOrder form k bs) Refused (N (nByte bs))) ∙ ap go e
     where
       go : Start → A
       go (N n) = answer
@@ -39,7 +38,7 @@ module _ (form k : ℕ) (bs : List ℕ) where
 
   module _ {n : ℕ} (e : startBy form k bs ≡ N n) where
     pub start-clear : NoneApplies (startOrder form k bs)
-    start-clear = none-applies saysStart Refused (λ j. refl) (N (nByte bs)) (startOrder form k bs) (ap saysStart e)
+    start-clear = says-none saysStart Refused (λ j. refl) (N (nByte bs)) (startOrder form k bs) (ap saysStart e)
 
     pub start-n : n ≡ nByte bs
     start-n = let a = order-answers Refused (N (nByte bs)) (startOrder form k bs) start-clear in cc (e, a)

@@ -1,7 +1,6 @@
 pub mod ByteLaws
 pub mod WordLaws
 pub mod TurnLaws
-pub mod OrderStages
 pub mod FormLaws
 pub mod DataLaws
 pub mod KeepLaws

@@ -9,7 +9,7 @@ use lib.Dec.{eqb}
 use lib.ListN.{length, take, drop, replicate}
 use borrow.Author.Tests.{eqb-true, not-false, le-ltb, eq-eqb}
 use Rattle.answer.specs.Order.{answers, refuses}
-use Rattle.answer.proofs.OrderLaws.{NoneApplies, order-answers}
+use Rattle.answer.proofs.OrderLaws.{NoneApplies, order-answers, order-map, none-append, none-parts, says-none}
 use Rattle.bits.specs.Bits.{bits, number}
 use Rattle.bits.specs.Fields.{Fit}
 use Rattle.bits.proofs.Numbers.{bits-number}
@@ -26,7 +26,6 @@ use Rattle.journal.specs.declared.Found.the-variants.{Record}
 use Rattle.journal.specs.declared.Kept.{Kept}
 use Rattle.journal.specs.declared.Kept.the-variants as kept
 use Rattle.journal.proofs.WordLaws.{length-words as length-read, fit-words}
-use Rattle.journal.proofs.OrderStages.{order-made, none-applies, none-append, none-parts}
 use Rattle.journal.proofs.KeepLaws.{count-words}
 use Rattle.journal.proofs.FormLaws.{start-few, record-starts, record-words, record-taken}
 
@@ -111,7 +110,7 @@ pub record Reread (bs : List ℕ) (f : Frame) (size : ℕ) : Type 0 where
 
 module _ (bs : List ℕ) (fits : AreBytes bs) (f : Frame) (size : ℕ) (h : saysRecalled (recalledBy bs) ≡ answers (size, f)) where
   passed : NoneApplies (recallOrder bs)
-  passed = none-applies saysRecalled refused (λ n. refl) (recalled (nByte bs) (wordsAfter 3 bs)) (recallOrder bs) h
+  passed = says-none saysRecalled refused (λ n. refl) (recalled (nByte bs) (wordsAfter 3 bs)) (recallOrder bs) h
 
   parts : NoneApplies (startOrder 0x32 3 bs) × NoneApplies (dataOrder (nByte bs) (wordsAfter 3 bs))
   parts = none-parts (startOrder 0x32 3 bs) (dataOrder (nByte bs) (wordsAfter 3 bs)) passed
@@ -164,14 +163,14 @@ module _ (f : Frame) (buffer : List ℕ) where
       ∙ ap (λ n. answers (n, f)) length-is
     where
       room : NoneApplies (keepOrder f buffer)
-      room = none-applies saysKept kept.Refused (λ n. refl) (kept.Done (3 * f .n + 9)) (keepOrder f buffer) h
+      room = says-none saysKept kept.Refused (λ n. refl) (kept.Done (3 * f .n + 9)) (keepOrder f buffer) h
 
       length-is : 3 * f .n + 9 ≡ size
       length-is = let a = ap saysKept (order-answers kept.Refused (kept.Done (3 * f .n + 9)) (keepOrder f buffer) room) in cc (a, h)
 
   -- a refusal leaves the buffer as it was
   pub refused-unchanged : (number : ℕ) → saysKept (keptBy f buffer) ≡ refuses number → heldBy f buffer ≡ buffer
-  refused-unchanged number h = sym (order-made held kept.Refused (kept.Done (3 * f .n + 9)) (keepOrder f buffer)) ∙ go (keptBy f buffer) h
+  refused-unchanged number h = sym (order-map held (keepOrder f buffer) kept.Refused (kept.Done (3 * f .n + 9))) ∙ go (keptBy f buffer) h
     where
       held : Kept → List ℕ
       held (kept.Done n) = recordOf f ++ drop (3 * f .n + 9) buffer

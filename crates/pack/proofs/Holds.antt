@@ -17,8 +17,8 @@ use Rattle.bits.specs.Bits.{bits, number}
 use Rattle.bits.specs.Fields.{packed, span}
 use Rattle.bits.specs.Rows.{cutWords, packedRows, fillOf, filled, wordsIn}
 use Rattle.bits.proofs.Numbers.{length-bits, number-bits, number-lt, number-append}
-use Rattle.bits.proofs.FieldLaws.{length-packed}
-use Rattle.bits.proofs.WordLaws.{length-words, number-part, fill-number, length-filled}
+use Rattle.bits.proofs.FieldLaws.{length-packed, number-part}
+use Rattle.bits.proofs.WordLaws.{length-words, fill-number, length-filled}
 use Rattle.pack.specs.declared.Packer.{Packer}
 use Rattle.pack.specs.Packing.{emptyPacker, flushed, joined, pushed, pushedAll, pushedRows, filledUp}
 

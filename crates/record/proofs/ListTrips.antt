@@ -10,7 +10,7 @@ use lib.ListN.{length, take, drop, getD, length-take, drop-of-length-le}
 use lib.Seq.{getD-take}
 use borrow.Author.Tests.{ltb-false, eqb-false, lt-leb, le-ltb, ne-eqb}
 use Rattle.answer.specs.Order.{Check}
-use Rattle.answer.proofs.OrderLaws.{NoneApplies, order-answers}
+use Rattle.answer.proofs.OrderLaws.{NoneApplies, order-answers, order-told}
 use Rattle.bits.specs.Fields.{span, Fit}
 use Rattle.bits.specs.Bits.{bits}
 use Rattle.bits.specs.Rows.{dataBits, rowsAt, fillOf, FillAfter}
@@ -29,7 +29,7 @@ use Rattle.record.specs.declared.stage.Count.the-variants as count
 use Rattle.record.specs.Stages.{otherLayout, countIn, misfit, readOrder, makeOrder, refusedMade, doneMade}
 use Rattle.record.specs.Lists.{listCount, listEntry, listMade, MadeReads}
 use Rattle.record.proofs.ListCode.{fitting, count-right}
-use Rattle.record.proofs.StageLaws.{order-told, done-apart, done-frame, of-apart}
+use Rattle.record.proofs.StageLaws.{done-apart, done-frame, of-apart}
 
 -- what every value has, each entry has
 pub each-any : {A : Type 0} (P : A → Type 0) → ((e : A) → P e) → (es : List A) → Each P es

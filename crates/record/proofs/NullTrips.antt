@@ -7,7 +7,7 @@ use native.Mathlib.Omega.{arith}
 use lib.Dec.{eqb}
 use lib.ListN.{length, take}
 use borrow.Author.Tests.{eqb-true, not-false}
-use Rattle.answer.proofs.OrderLaws.{NoneApplies, order-answers}
+use Rattle.answer.proofs.OrderLaws.{NoneApplies, order-answers, order-told}
 use Rattle.frame.specs.Frames.{framed, dataWords}
 use Rattle.frame.specs.Widths.{outside}
 use Rattle.frame.specs.declared.Header.{Header}
@@ -17,7 +17,7 @@ use Rattle.frame.proofs.FrameLaws.{header-within, framed-inside, framed-again}
 use Rattle.record.specs.declared.null.NullRead.the-variants as read
 use Rattle.record.specs.Stages.{wrongSize, readOrder, makeOrder, refusedMade, doneMade}
 use Rattle.record.specs.Nulls.{readNull, makeNull, NullMade}
-use Rattle.record.proofs.StageLaws.{order-told, done-apart, done-frame}
+use Rattle.record.proofs.StageLaws.{done-apart, done-frame}
 
 -- MADE, THEN READ
 pub null-made-read : (h : Header) (f : Frame) → makeNull h ≡ doneMade f → NullMade h f

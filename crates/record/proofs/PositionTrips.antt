@@ -7,7 +7,7 @@ use native.Mathlib.Omega.{arith}
 use lib.Dec.{eqb}
 use lib.ListN.{length, take, drop, drop-of-length-le}
 use borrow.Author.Tests.{eqb-true, not-false}
-use Rattle.answer.proofs.OrderLaws.{NoneApplies, order-answers}
+use Rattle.answer.proofs.OrderLaws.{NoneApplies, order-answers, order-told}
 use Rattle.bits.specs.Bits.{bits}
 use Rattle.bits.specs.Fields.{Fit}
 use Rattle.bits.specs.Rows.{dataBits, fillOf, FillAfter}
@@ -26,7 +26,7 @@ use Rattle.record.specs.declared.position.Position.{Position}
 use Rattle.record.specs.declared.position.PositionRead.the-variants as read
 use Rattle.record.specs.Stages.{otherLayout, wrongSize, readOrder, makeOrder, refusedMade, doneMade}
 use Rattle.record.specs.Positions.{widths, meant, codes, coding, fill, outOfRange, positionIn, readPosition, makePosition, Typed, PositionMade}
-use Rattle.record.proofs.StageLaws.{order-told, done-apart, done-frame}
+use Rattle.record.proofs.StageLaws.{done-apart, done-frame}
 
 -- ---- the three laws on codes
 

@@ -7,7 +7,6 @@ use Prim.Native.Nat.{ℕ}
 use native.Mathlib.Omega.{arith}
 use borrow.Author.Tests.{eq-eqb, ne-eqb}
 use Rattle.answer.specs.Order.{Check, inOrder}
-use Rattle.answer.proofs.OrderLaws.{NoneApplies}
 use Rattle.frame.specs.Layout.{layoutOf}
 use Rattle.frame.specs.Widths.{headerOutside, outside, late}
 use Rattle.frame.specs.Answer.{headerWidths, frameWidths, clockOf}
@@ -116,17 +115,6 @@ module _ {A : Type 0} (refuse : ℕ → A) (answer : A) (wrong : Bool) where
   read-fine e = rw e
 
 -- ---- an answer that no refusal is
-
--- where an order says such an answer, none of its checks applies and the answer is the one it had ready
-pub order-told : {A : Type 0} (refuse : ℕ → A) (answer said : A) → ((n : ℕ) → refuse n ≡ said → ⊥) → (cs : List Check)
-    → inOrder cs refuse answer ≡ said → NoneApplies cs × (answer ≡ said)
-order-told refuse answer said apart [] e = (tt, e)
-order-told refuse answer said apart (c ∷ cs) e = go (c .0) refl e (order-told refuse answer said apart cs)
-  where
-    go : (b : Bool) → c .0 ≡ b → cond b (refuse (c .1)) (inOrder cs refuse answer) ≡ said
-        → (inOrder cs refuse answer ≡ said → NoneApplies cs × (answer ≡ said)) → NoneApplies (c ∷ cs) × (answer ≡ said)
-    go true q r later = absurd (apart (c .1) r)
-    go false q r later = let l = later r in ((q, l .0), l .1)
 
 pub done-apart : (n : ℕ) (f : Frame) → refusedMade n ≡ doneMade f → ⊥
 unfolding refusedMade doneMade

@@ -8,7 +8,7 @@ use lib.Dec.{ltb, eqb}
 use lib.ListN.{length, take, drop, replicate, length-drop}
 use lib.Seq.{take-all, take-at}
 use borrow.Author.Tests.{le-ltb, ne-eqb}
-use Rattle.answer.proofs.OrderLaws.{NoneApplies, order-answers}
+use Rattle.answer.proofs.OrderLaws.{NoneApplies, order-answers, order-told}
 use Rattle.bits.specs.Fields.{fieldAt}
 use Rattle.bits.specs.Rows.{packedRows, rowsAt, fillOf, FillAfter}
 use Rattle.bits.proofs.RowLaws.{put-rows}
@@ -23,7 +23,7 @@ use Rattle.pack.proofs.Round.{made-again}
 use Rattle.record.specs.declared.stage.Count.the-variants as count
 use Rattle.record.specs.Stages.{makeOrder, refusedMade, doneMade}
 use Rattle.record.specs.Texts.{widths, coding, fill, characters, lengthIn, textIn, forbidden, textOrder, readText, bufferAfter, makeText}
-use Rattle.record.proofs.StageLaws.{order-told, of-apart}
+use Rattle.record.proofs.StageLaws.{of-apart}
 use Rattle.record.proofs.TextCode.{length-characters, Ends, none, one, two, ends, length-le, some-words}
 use Rattle.record.proofs.TextLaws.{Good, faithful, zeros-fill}
 

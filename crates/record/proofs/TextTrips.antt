@@ -8,7 +8,7 @@ use lib.Dec.{ltb, eqb}
 use lib.ListN.{length, drop, getD, replicate, length-map, length-replicate}
 use lib.Seq.{ext-getD}
 use borrow.Author.Tests.{ltb-false, eqb-false, le-ltb, ne-eqb}
-use Rattle.answer.proofs.OrderLaws.{NoneApplies, order-answers}
+use Rattle.answer.proofs.OrderLaws.{NoneApplies, order-answers, order-told}
 use Rattle.bits.specs.Fields.{fieldsAt}
 use Rattle.bits.specs.Rows.{packedRows, fillOf, filled}
 use Rattle.bits.proofs.RowLaws.{rows-put}
@@ -23,7 +23,7 @@ use Rattle.pack.proofs.Round.{fill-left, length-entries, made-bits, made-n, mad
 use Rattle.record.specs.declared.stage.Count.the-variants as count
 use Rattle.record.specs.Stages.{otherLayout, makeOrder, refusedMade, doneMade}
 use Rattle.record.specs.Texts.{widths, meant, codes, coding, fill, characters, textLength, lengthIn, textIn, wrongWords, forbidden, textOrder, readText, bufferAfter, makeText, TextMade}
-use Rattle.record.proofs.StageLaws.{order-told, done-apart, done-frame}
+use Rattle.record.proofs.StageLaws.{done-apart, done-frame}
 use Rattle.record.proofs.TextCode.{length-characters, character-at, length-all, length-less, length-least}
 use Rattle.record.proofs.TextLaws.{Good, faithful, all-good, not-zero, zeros-fit, zeros-at, zeros-fill}
 

@@ -1,12 +1,12 @@
 -- The answers in the table's terms: each call refuses by its order, and where no number of it applies it answers the value.
 -- Assumes nothing.
 use mathlib.Core.Path.{_≡_, refl}
-use mathlib.Core.Bool.{Bool, true, false, cond}
-use mathlib.Core.List.{List, [], _∷_}
+use mathlib.Core.List.{[], _∷_}
 use Prim.Native.Nat.{ℕ, _*_}
 use lib.Dec.{ltb}
 use lib.IntN.{ℤ}
-use Rattle.answer.specs.Order.{Says, refuses, answers, Check, inOrder}
+use Rattle.answer.specs.Order.{refuses, answers, inOrder}
+use Rattle.answer.proofs.OrderLaws.{says-order}
 use Rattle.frame.specs.Widths.{stateOutside, late}
 use Rattle.frame.specs.declared.State.{State}
 use Rattle.value.specs.Values.{Reading, exactly, stop, Bound, upTo, noLimit, Signal, dbHz, notTracked, prcValue, rrcValue, udreValue, cn0Value}
@@ -18,18 +18,6 @@ use Rattle.value.specs.declared.Limit.the-variants as limit
 use Rattle.value.specs.declared.Strength.the-variants as strength
 use Rattle.value.specs.declared.Time.the-variants as time
 use Rattle.value.specs.declared.SinceHour.the-variants as since
-
--- an order of refusals, whatever the answer's type
-module _ {A B : Type 0} (says : A → Says B) (refuse : ℕ → A) (refusal : (n : ℕ) → says (refuse n) ≡ refuses n)
-    {answer : A} {value : B} (e : says answer ≡ answers value) where
-  says-order : (cs : List Check) → says (inOrder cs refuse answer) ≡ inOrder cs refuses (answers value)
-  says-order [] = e
-  says-order (c ∷ cs) = go (c .0) (says-order cs)
-    where
-      go : (t : Bool) → says (inOrder cs refuse answer) ≡ inOrder cs refuses (answers value)
-          → says (cond t (refuse (c .1)) (inOrder cs refuse answer)) ≡ cond t (refuses (c .1)) (inOrder cs refuses (answers value))
-      go true h = refusal (c .1)
-      go false h = h
 
 as-distance : (x : Reading) → saysDistance (distanceOf x) ≡ answers x
 as-distance (exactly mm) = refl
@@ -48,20 +36,20 @@ as-strength (dbHz n) = refl
 as-strength notTracked = refl
 
 pub prc-says : (scale : ℕ) (prc : ℤ) → saysDistance (prcMm scale prc) ≡ inOrder ((ltb 1 scale, 10) ∷ []) refuses (answers (prcValue scale prc))
-prc-says scale prc = says-order saysDistance distance.Refused (λ n. refl) (as-distance (prcValue scale prc)) ((ltb 1 scale, 10) ∷ [])
+prc-says scale prc = says-order saysDistance distance.Refused (λ n. refl) _ ((ltb 1 scale, 10) ∷ []) (as-distance (prcValue scale prc))
 
 pub rrc-says : (scale : ℕ) (rrc : ℤ) → saysRate (rrcMmS scale rrc) ≡ inOrder ((ltb 1 scale, 10) ∷ []) refuses (answers (rrcValue scale rrc))
-rrc-says scale rrc = says-order saysRate rate.Refused (λ n. refl) (as-rate (rrcValue scale rrc)) ((ltb 1 scale, 10) ∷ [])
+rrc-says scale rrc = says-order saysRate rate.Refused (λ n. refl) _ ((ltb 1 scale, 10) ∷ []) (as-rate (rrcValue scale rrc))
 
 pub udre-says : (s : State) (udre : ℕ)
     → saysLimit (udreLimit s udre) ≡ inOrder ((stateOutside s, 5) ∷ (ltb 3 udre, 10) ∷ []) refuses (answers (udreValue s udre))
-udre-says s udre = says-order saysLimit limit.Refused (λ n. refl) (as-limit (udreValue s udre)) ((stateOutside s, 5) ∷ (ltb 3 udre, 10) ∷ [])
+udre-says s udre = says-order saysLimit limit.Refused (λ n. refl) _ ((stateOutside s, 5) ∷ (ltb 3 udre, 10) ∷ []) (as-limit (udreValue s udre))
 
 pub cn0-says : (code : ℕ) → saysStrength (cn0DbHz code) ≡ inOrder ((ltb 31 code, 10) ∷ []) refuses (answers (cn0Value code))
-cn0-says code = says-order saysStrength strength.Refused (λ n. refl) (as-strength (cn0Value code)) ((ltb 31 code, 10) ∷ [])
+cn0-says code = says-order saysStrength strength.Refused (λ n. refl) _ ((ltb 31 code, 10) ∷ []) (as-strength (cn0Value code))
 
 pub minutes-says : (code : ℕ) → saysTime (minutesOf code) ≡ inOrder ((ltb 15 code, 10) ∷ []) refuses (answers (5 * code))
-minutes-says code = says-order saysTime time.Refused (λ n. refl) refl ((ltb 15 code, 10) ∷ [])
+minutes-says code = says-order saysTime time.Refused (λ n. refl) _ ((ltb 15 code, 10) ∷ []) refl
 
 pub z-says : (z : ℕ) → saysSinceHour (zTenths z) ≡ inOrder ((ltb 8191 z, 5) ∷ (late z, 7) ∷ []) refuses (answers (6 * z))
-z-says z = says-order saysSinceHour since.Refused (λ n. refl) refl ((ltb 8191 z, 5) ∷ (late z, 7) ∷ [])
+z-says z = says-order saysSinceHour since.Refused (λ n. refl) _ ((ltb 8191 z, 5) ∷ (late z, 7) ∷ []) refl

@@ -9,7 +9,7 @@ use lib.ListN.{length, take, drop, getD}
 use lib.Seq.{sets, split-at}
 use borrow.Author.Tests.{ltb-false}
 use Rattle.answer.specs.Order.{Check, inOrder}
-use Rattle.answer.proofs.OrderLaws.{NoneApplies, FirstIs, order-answers, order-refuses, first-or-none}
+use Rattle.answer.proofs.OrderLaws.{NoneApplies, first-at, order-answers, order-refuses, order-told, order-keeps}
 use Rattle.bits.specs.Bits.{number}
 use Rattle.frame.specs.Header.{firstWord, secondWord}
 use Rattle.frame.specs.Frames.{wordsOf, Below}
@@ -27,42 +27,13 @@ use Rattle.writer.specs.declared.Written.the-variants.{Done, Refused}
 use Rattle.writer.proofs.Bytes.{length-bytes, sets-over}
 use Rattle.writer.proofs.Carrying.{pair-29, pair-30, carried-pair}
 
--- ---- an order, from its checks and from its answer
-
--- no check before number i applies, and check i does
-first-at : (cs : List Check) (i : ℕ) → i < length cs → NoneApplies (take i cs) → getD cs i (false, 0) .0 ≡ true → FirstIs cs (getD cs i (false, 0) .1)
-first-at cs i inside none e = record {
-  front = take i cs;
-  back = drop (suc i) cs;
-  split = split-at cs i (false, 0) inside ∙ ap (λ t. take i cs ++ ((t, getD cs i (false, 0) .1) ∷ drop (suc i) cs)) e;
-  none = none;
-}
-
--- where it answers with what is no refusal, no check applies
-none-by-answer : {A : Type 0} (refuse : ℕ → A) (answer : A) (cs : List Check) {x : A}
-    → ((n : ℕ) → refuse n ≡ x → ⊥) → inOrder cs refuse answer ≡ x → NoneApplies cs
-none-by-answer refuse answer cs apart e = go (first-or-none cs)
-  where
-    go : NoneApplies cs ⊎ ((n : ℕ) × FirstIs cs n) → NoneApplies cs
-    go (inl none) = none
-    go (inr (n, first)) = absurd (apart n (sym (order-refuses refuse answer cs n first) ∙ e))
-
--- where it refuses, what the refusal keeps is as it was
-kept-by-refusal : {A B : Type 0} (refuse : ℕ → A) (answer : A) (cs : List Check) {n : ℕ} (old new : B)
-    → (answer ≡ refuse n → ⊥) → inOrder cs refuse answer ≡ refuse n → inOrder cs (λ k. old) new ≡ old
-kept-by-refusal refuse answer cs old new apart e = go (first-or-none cs)
-  where
-    go : NoneApplies cs ⊎ ((k : ℕ) × FirstIs cs k) → inOrder cs (λ k. old) new ≡ old
-    go (inl none) = absurd (apart (sym (order-answers refuse answer cs none) ∙ e))
-    go (inr (k, first)) = order-refuses (λ i. old) new cs k first
-
 -- ---- opening
 
 done-apart : {n : ℕ} → opened.Done ≡ opened.Refused n → ⊥
 done-apart e = let never : _≡_ {A = ℕ} 0 1 = cc in omega arith
 
 pub open-keeps : (l : List ℕ) {n : ℕ} → openedBy l ≡ opened.Refused n → openedTo l ≡ l
-open-keeps l e = kept-by-refusal opened.Refused opened.Done (openChecks l) l (over (lead ∷ []) l) done-apart e
+open-keeps l e = order-keeps opened.Refused opened.Done (openChecks l) l (over (lead ∷ []) l) done-apart e
 
 -- ---- writing
 
@@ -83,11 +54,11 @@ module _ (f : Frame) (c : Carried) (l : List ℕ) where
   write-answers none = (sym (order-answers Refused _ (writeChecks f c l) none), sym (order-answers (λ k. l) _ (writeChecks f c l) none))
 
   pub write-none : {k : ℕ} {c′ : Carried} → writtenBy f c l ≡ Done k c′ → NoneApplies (writeChecks f c l)
-  write-none e = none-by-answer Refused (Done (bytesOf f) (carriedOn (bitsAfter c f))) (writeChecks f c l) (λ n r. refused-apart r) e
+  write-none e = order-told Refused (Done (bytesOf f) (carriedOn (bitsAfter c f))) _ (λ n r. refused-apart r) (writeChecks f c l) e .0
 
   pub write-keeps : {n : ℕ} → writtenBy f c l ≡ Refused n → writtenTo f c l ≡ l
   write-keeps e =
-      kept-by-refusal Refused (Done (bytesOf f) (carriedOn (bitsAfter c f))) (writeChecks f c l) l (over (bytesFor (bytesOf f) (bitsAfter c f)) l)
+      order-keeps Refused (Done (bytesOf f) (carriedOn (bitsAfter c f))) (writeChecks f c l) l (over (bytesFor (bytesOf f) (bitsAfter c f)) l)
       (λ r. refused-apart (sym r)) e
 
 -- ---- from the words that the code puts
