@@ -1,0 +1,5 @@
+pub mod StoreLaws
+pub mod TextLaws
+pub mod ListingLaws
+pub mod LinesLaws
+pub mod CallLaws

@@ -1,0 +1,176 @@
+-- Lines one after the other: what a turn of the loop of `put_lines` leaves. Assumes nothing.
+use mathlib.Core.Path.{_≡_, refl, sym, ap, ap₂, subst, _∙_}
+use mathlib.Core.Bool.{Bool, true, false, cond, not}
+use mathlib.Core.List.{List, [], _∷_, _++_}
+use Prim.Native.Nat.{ℕ, zero, suc, _+_, _-_, _*_, _≤_, _<_}
+use native.Mathlib.Nat.{add-zero, zero-add, add-assoc}
+use native.Mathlib.Omega.{arith}
+use lib.ListN.{length, take, drop, length-append, length-drop}
+use lib.Seq.{sets, take-all, drop-drop}
+use Rattle.answer.specs.Order.{inOrder}
+use Rattle.bits.specs.Bits.{number}
+use Rattle.line.specs.Line.{isData, six}
+use Rattle.frame.specs.Header.{headerOf}
+use Rattle.frame.specs.Frames.{framed, frameOf, blank}
+use Rattle.frame.specs.Widths.{stateOutside}
+use Rattle.frame.specs.declared.State.{State}
+use Rattle.frame.proofs.StateLaws.{state-inside}
+use Rattle.stream.specs.Standing.{frameAt}
+use Rattle.reader.specs.Reading.{bitsOf, past, busy, stepCells, stepTo, Run, spent, runTo, ranBy, fedAllBy, takeTo, takenBy}
+use Rattle.reader.specs.declared.Candidate.{Candidate}
+use Rattle.reader.specs.declared.Reader.{Reader}
+use Rattle.reader.specs.declared.Answer.{Answer}
+use Rattle.reader.specs.declared.Answer.the-variants.{Done, Refused}
+use Rattle.reader.specs.declared.FedAll.{FedAll}
+use Rattle.reader.specs.declared.Taken.{Taken}
+use Rattle.listing.specs.Text.{frameLine}
+use Rattle.listing.specs.Listing.{fedOn, handedOn, Lines, lineThen, linesOf, linedBy}
+use Rattle.listing.specs.declared.Listing.{Listing}
+use Rattle.listing.specs.declared.Fed.{Fed}
+use Rattle.listing.specs.declared.Lined.{Lined}
+use Rattle.listing.proofs.StoreLaws.{sets-append}
+
+-- ---- the reader's answers
+
+-- no more bytes are used than there are
+run-used : (bs cells : List ℕ) (c : Candidate) → runTo cells c bs .used ≤ length bs
+unfolding runTo
+run-used [] cells c = omega arith
+run-used (b ∷ bs) cells c = go (c .waits) (isData b) (run-used bs (stepCells cells c (number (six b))) (stepTo cells c (number (six b)))) (run-used bs cells c)
+  where
+    go : (w z : Bool) → runTo (stepCells cells c (number (six b))) (stepTo cells c (number (six b))) bs .used ≤ length bs → runTo cells c bs .used ≤ length bs
+        → cond w (record { cells = cells; candidate = c; used = 0; passed = 0 })
+        (cond z (spent 1 0 (runTo (stepCells cells c (number (six b))) (stepTo cells c (number (six b))) bs)) (spent 1 1 (runTo cells c bs))) .used ≤ suc (length bs)
+    go true z on over = omega arith
+    go false true on over = omega arith
+    go false false on over = omega arith
+
+fed-used : (l : Listing) (bs : List ℕ) → fedOn l bs .used ≤ length bs
+unfolding fedOn fedAllBy
+fed-used l bs = go (past (l .reader)) (l .reader .ended) (l .reader .candidate .waits)
+  where
+    r : Reader
+    r = l .reader
+
+    go : (p x w : Bool) → inOrder ((p, 5) ∷ (x, 3) ∷ (w, 2) ∷ []) (λ n. record { answer = Refused n; used = 0; passed = 0; reader = l .reader }) (ranBy (l .reader) (runTo (l .reader .cells) (l .reader .candidate) bs)) .used ≤ length bs
+    go true x w = omega arith
+    go false true w = omega arith
+    go false false true = omega arith
+    go false false false = run-used bs (l .reader .cells) (l .reader .candidate)
+
+pub used-le : (l : Listing) (bs : List ℕ) (fed : Fed) → fed ≡ fedOn l bs → fed .used ≤ length bs
+used-le l bs fed e = subst (λ (x : Fed). x .used ≤ length bs) (sym e) (fed-used l bs)
+
+-- bytes from place u on, as a slice lends them
+pub fed-tail : (l : Listing) (bs : List ℕ) (u : ℕ) (fed : Fed) → fed ≡ fedOn l (take (length bs - u) (drop u bs)) → fed ≡ fedOn l (drop u bs)
+fed-tail l bs u fed e = e ∙ ap (fedOn l) (take-all (length bs - u) (drop u bs) all)
+  where
+    all : length (drop u bs) ≤ length bs - u
+    all = omega (arith, length-drop u bs)
+
+-- the state of every frame that taking answers is within its widths
+blank-inside : stateOutside (blank .header .state) ≡ false
+unfolding blank frameOf framed headerOf
+blank-inside = state-inside _
+
+frame-inside : (d : List Bool) → stateOutside (frameAt d .header .state) ≡ false
+unfolding frameAt framed headerOf
+frame-inside d = state-inside _
+
+taken-by-inside : (r : Reader) → stateOutside (takenBy r .frame .header .state) ≡ false
+unfolding takenBy
+taken-by-inside r = go (past r) (not (r .candidate .waits))
+  where
+    go : (p w : Bool) → stateOutside (inOrder {A = Taken} ((p, 5) ∷ (w, 4) ∷ []) (λ n. record { answer = Refused n; at = 0; frame = blank; reader = r })
+        (record { answer = Done; at = r .candidate .at; frame = frameAt (bitsOf r); reader = record { cells = r .cells; candidate = takeTo (r .cells) (r .candidate) (r .ended); ended = r .ended } }) .frame .header .state) ≡ false
+    go true w = blank-inside
+    go false true = blank-inside
+    go false false = frame-inside (bitsOf r)
+
+pub taken-inside : (r : Reader) (took : Taken) → took ≡ takenBy r → stateOutside (took .frame .header .state) ≡ false
+taken-inside r took e = ap (λ (t : Taken). stateOutside (t .frame .header .state)) e ∙ taken-by-inside r
+
+-- ---- one turn
+
+module _ (left : ℕ) (more : 0 < left) (l : Listing) (bs : List ℕ) (fed : Fed) (f : fed ≡ fedOn l bs)
+    (took : Taken) (t : took ≡ takenBy (fed .listing .reader)) where
+  turn : (k : ℕ) → Fed → Taken → Lines
+  turn k x y = lineThen (y .answer) x (frameLine (y .at) (y .frame)) (linesOf k (handedOn (x .listing) (y .reader)) (drop (x .used) bs))
+
+  by-turn : linesOf left l bs ≡ turn (left - 1) fed took
+  unfolding turn
+  by-turn = go left more
+    where
+      go : (k : ℕ) → 0 < k → linesOf k l bs ≡ turn (k - 1) fed took
+      go zero h = absurd (omega arith)
+      go (suc k) h = unfold linesOf in
+          ap (λ x. turn k x (takenBy (x .listing .reader))) (sym f) ∙ ap (turn k fed) (sym t) ∙ ap (λ j. turn j fed took) lower
+        where
+          lower : k ≡ suc k - 1
+          lower = omega arith
+
+  -- a frame was taken: its line, and the lines from there on
+  pub line-on : took .answer ≡ Done → (next : Listing) → next ≡ handedOn (fed .listing) (took .reader)
+      → linesOf left l bs ≡ lineThen Done fed (frameLine (took .at) (took .frame)) (linesOf (left - 1) next (drop (fed .used) bs))
+  unfolding turn
+  line-on done next n =
+      by-turn
+      ∙ ap₂ (λ a m. lineThen a fed (frameLine (took .at) (took .frame)) (linesOf (left - 1) m (drop (fed .used) bs))) done (sym n)
+
+  -- none waits
+  pub line-none : (n : ℕ) → took .answer ≡ Refused n → linesOf left l bs ≡ record { text = []; used = fed .used; listing = fed .listing }
+  unfolding turn
+  line-none n none = by-turn ∙ ap (λ a. lineThen a fed (frameLine (took .at) (took .frame)) (linesOf (left - 1) (handedOn (fed .listing) (took .reader)) (drop (fed .used) bs))) none
+
+-- ---- the loop
+
+-- how far it has come: what is left of the lines, after the bytes used and written
+pub record Far (whole : Lines) (from out : List ℕ) (used written : ℕ) (rest : Lines) : Type 0 where
+  pub ends : whole .listing ≡ rest .listing
+  pub uses : whole .used ≡ used + rest .used
+  pub writes : length (whole .text) ≡ written + length (rest .text)
+  pub stores : sets from 0 (whole .text) ≡ sets out written (rest .text)
+
+pub far-start : (x : Lines) (out : List ℕ) → Far x out out 0 0 x
+far-start x out = record { ends = refl; uses = sym (zero-add (x .used)); writes = sym (zero-add (length (x .text))); stores = refl }
+
+module _ (whole : Lines) (from out : List ℕ) (used written : ℕ) (rest : Lines) (far : Far whole from out used written rest) where
+  -- a line was written
+  pub far-on : (out′ line : List ℕ) (u written′ : ℕ) (next : Lines) → out′ ≡ sets out written line → written′ ≡ written + length line
+      → rest ≡ record { text = line ++ next .text; used = u + next .used; listing = next .listing }
+      → Far whole from out′ (used + u) written′ next
+  far-on out′ line u written′ next o w e = record {
+    ends = far .ends ∙ ap (λ (x : Lines). x .listing) e;
+    uses = far .uses ∙ ap (λ (x : Lines). used + x .used) e ∙ sym (add-assoc used u (next .used));
+    writes = omega (arith, far .writes ∙ ap (λ (x : Lines). written + length (x .text)) e, length-append line (next .text));
+    stores = far .stores ∙ ap (λ (x : Lines). sets out written (x .text)) e ∙ sets-append line (next .text) out written ∙ ap₂ (λ a j. sets a j (next .text)) (sym o) (sym w);
+  }
+
+  -- nothing is left
+  pub far-end : (u : ℕ) (l : Listing) → rest ≡ record { text = []; used = u; listing = l }
+      → (record { used = used + u; written = written; listing = l } ≡ linedBy whole) × (out ≡ sets from 0 (whole .text))
+  unfolding linedBy
+  far-end u l e = (
+    (λ i. record { used = sym uses i; written = sym writes i; listing = sym ends i }),
+    sym (far .stores ∙ ap (λ (x : Lines). sets out written (x .text)) e),
+  )
+    where
+      uses : whole .used ≡ used + u
+      uses = far .uses ∙ ap (λ (x : Lines). used + x .used) e
+
+      writes : length (whole .text) ≡ written
+      writes = far .writes ∙ ap (λ (x : Lines). written + length (x .text)) e ∙ add-zero written
+
+      ends : whole .listing ≡ l
+      ends = far .ends ∙ ap (λ (x : Lines). x .listing) e
+
+-- no line is left to write
+pub lines-none : (left : ℕ) (l : Listing) (bs : List ℕ) → left ≡ 0 → linesOf left l bs ≡ record { text = []; used = 0; listing = l }
+unfolding linesOf
+lines-none left l bs e = ap (λ k. linesOf k l bs) e
+
+-- the bytes left, counted from the start
+pub far-drop : {whole : Lines} {from out : List ℕ} {used written : ℕ} (k : ℕ) (l : Listing) (u v : ℕ) (bs : List ℕ)
+    → Far whole from out used written (linesOf k l (drop u (drop v bs))) → Far whole from out used written (linesOf k l (drop (v + u) bs))
+far-drop {whole} {from} {out} {used} {written} k l u v bs far =
+    subst (λ rest. Far whole from out used written (linesOf k l rest)) (drop-drop u v bs) far

@@ -1,0 +1,183 @@
+-- Digits and lines as the loops make them. Assumes nothing.
+use mathlib.Core.Path.{_≡_, refl, sym, ap, ap₂, _∙_}
+use mathlib.Core.Bool.{Bool, true, false, cond}
+use mathlib.Core.List.{List, [], _∷_, _++_}
+use Prim.Native.Nat.{ℕ, zero, suc, _+_, _-_, _*_, _/_, _%_, _≤_, _<_}
+use native.Mathlib.Nat.{add-zero}
+use native.Mathlib.Numerals.{add-one}
+use native.Mathlib.Omega.{arith}
+use lib.Dec.{ltb, eqb}
+use lib.ListN.{length, drop, getD, set, length-append, drop-of-length-le}
+use lib.Seq.{sets, drop-cons}
+use borrow.Author.Tests.{eqb-true, eqb-false, lt-ltb, le-ltb}
+use Rattle.frame.specs.Header.{codeOf}
+use Rattle.frame.specs.Widths.{stateOutside}
+use Rattle.frame.specs.Answer.{healthOf}
+use Rattle.frame.specs.declared.State.{State}
+use Rattle.frame.specs.declared.Health.the-variants.{Code, Refused}
+use Rattle.listing.specs.Text.{lastDigits, digitsUpTo, decimal, space, newline, mark, spaced, framesLabel, bytesLabel, passedLabel, lastLine}
+use Rattle.listing.proofs.StoreLaws.{sets-append, sets-last, length-stored, length-marked, stored-then}
+
+-- ---- digits
+
+pub digits-le : (k n : ℕ) → digitsUpTo k n ≤ k
+unfolding digitsUpTo
+digits-le zero n = omega arith
+digits-le (suc k) n = go (ltb n 10) (digits-le k (n / 10))
+  where
+    go : (t : Bool) → digitsUpTo k (n / 10) ≤ k → cond t 1 (suc (digitsUpTo k (n / 10))) ≤ suc k
+    go true h = omega arith
+    go false h = omega arith
+
+pub length-digits : (k n : ℕ) → length (lastDigits k n) ≡ k
+unfolding lastDigits
+length-digits zero n = refl
+length-digits (suc k) n = length-append (lastDigits k (n / 10)) ((48 + n % 10) ∷ []) ∙ rw (length-digits k (n / 10)) (add-one k)
+
+pub length-decimal : (n : ℕ) → length (decimal n) ≡ digitsUpTo 20 n
+unfolding decimal
+length-decimal n = length-digits (digitsUpTo 20 n) n
+
+-- counting: below ten there is one more digit, else the count goes on with a tenth
+pub count-last : (k left : ℕ) → 0 < k → left < 10 → digitsUpTo k left ≡ 1
+unfolding digitsUpTo
+count-last zero left p h = absurd (omega arith)
+count-last (suc k) left p h = ap (λ t. cond t 1 (suc (digitsUpTo k (left / 10)))) (lt-ltb left 10 h)
+
+count-more : (k left : ℕ) → 0 < k → 10 ≤ left → digitsUpTo k left ≡ suc (digitsUpTo (k - 1) (left / 10))
+unfolding digitsUpTo
+count-more zero left p h = absurd (omega arith)
+count-more (suc k) left p h =
+    ap (λ t. cond t 1 (suc (digitsUpTo k (left / 10)))) (le-ltb left 10 h) ∙ ap (λ j. suc (digitsUpTo j (left / 10))) lower
+  where
+    lower : k ≡ suc k - 1
+    lower = omega arith
+
+-- in a loop that has counted some of twenty
+pub count-on : (before left : ℕ) → before < 20 → 10 ≤ left
+    → before + digitsUpTo (20 - before) left ≡ before + 1 + digitsUpTo (20 - (before + 1)) (left / 10)
+count-on before left b h =
+    ap (λ d. before + d) (count-more (20 - before) left (omega arith) h ∙ ap (λ j. suc (digitsUpTo j (left / 10))) lower)
+    ∙ one-more before (digitsUpTo (20 - (before + 1)) (left / 10))
+  where
+    lower : 20 - before - 1 ≡ 20 - (before + 1)
+    lower = omega arith
+
+    one-more : (a d : ℕ) → a + suc d ≡ a + 1 + d
+    one-more a d = omega arith
+
+pub count-end : (before left : ℕ) → before ≡ 20 → before + digitsUpTo (20 - before) left ≡ before
+unfolding digitsUpTo
+count-end before left e = ap (λ j. before + digitsUpTo j left) none ∙ add-zero before
+  where
+    none : 20 - before ≡ 0
+    none = omega arith
+
+-- the last of the digits that are left
+pub store-digit : (l : List ℕ) (place i left : ℕ) → 0 < i
+    → sets l place (lastDigits i left) ≡ sets (set l (place + (i - 1)) (48 + left % 10)) place (lastDigits (i - 1) (left / 10))
+unfolding lastDigits
+store-digit l place zero left h = absurd (omega arith)
+store-digit l place (suc k) left h =
+    sets-last (lastDigits k (left / 10)) l place (48 + left % 10)
+    ∙ ap (λ j. sets (set l (place + j) (48 + left % 10)) place (lastDigits k (left / 10))) (length-digits k (left / 10))
+    ∙ ap (λ j. sets (set l (place + j) (48 + left % 10)) place (lastDigits j (left / 10))) lower
+  where
+    lower : k ≡ suc k - 1
+    lower = omega arith
+
+-- ---- a line of numbers
+
+-- after number i of m + 1
+pub mark-after : (ns : List ℕ) (i m : ℕ) → length ns ≡ suc m → i ≤ m → mark (drop (i + 1) ns) ≡ cond (eqb i m) newline space
+mark-after ns i m l h = go (eqb i m) refl
+  where
+    go : (t : Bool) → eqb i m ≡ t → mark (drop (i + 1) ns) ≡ cond t newline space
+    go true e = ap mark (drop-of-length-le ns {i = i + 1} all)
+      where
+        all : length ns ≤ i + 1
+        all = let last = eqb-true i m e in omega arith
+    go false e = ap mark (drop-cons ns (i + 1) 0 more)
+      where
+        more : i + 1 < length ns
+        more = let not-last = eqb-false i m e in omega arith
+
+-- number i of the line, what stands after it, and the rest
+pub spaced-next : (ns : List ℕ) (i m : ℕ) → length ns ≡ suc m → i ≤ m
+    → spaced (drop i ns) ≡ decimal (getD ns i 0) ++ (cond (eqb i m) newline space ∷ spaced (drop (i + 1) ns))
+unfolding spaced
+spaced-next ns i m l h =
+    ap spaced (drop-cons ns i 0 inside ∙ ap (λ j. getD ns i 0 ∷ drop j ns) (sym (add-one i)))
+    ∙ ap (λ x. decimal (getD ns i 0) ++ (x ∷ spaced (drop (i + 1) ns))) (mark-after ns i m l h)
+  where
+    inside : i < length ns
+    inside = omega arith
+
+-- stored: the digits, what stands after them, the rest
+pub store-spaced : (l ns : List ℕ) (next i m : ℕ) → length ns ≡ suc m → i ≤ m
+    → (l′ : List ℕ) → l′ ≡ sets l next (decimal (getD ns i 0)) → (next′ : ℕ) → next′ ≡ next + length (decimal (getD ns i 0))
+    → (after : ℕ) → after ≡ cond (eqb i m) newline space
+    → sets l next (spaced (drop i ns)) ≡ sets (set l′ next′ after) (next′ + 1) (spaced (drop (i + 1) ns))
+store-spaced l ns next i m e h l′ el next′ en after ea =
+    ap (sets l next) (spaced-next ns i m e h)
+    ∙ sets-append (decimal (getD ns i 0)) (cond (eqb i m) newline space ∷ spaced (drop (i + 1) ns)) l next
+    ∙ ap (λ j. sets (set (sets l next (decimal (getD ns i 0))) (next + length (decimal (getD ns i 0))) (cond (eqb i m) newline space)) j (spaced (drop (i + 1) ns)))
+    (sym (add-one (next + length (decimal (getD ns i 0)))))
+    ∙ ap (λ k. sets (set k (next + length (decimal (getD ns i 0))) (cond (eqb i m) newline space)) (next + length (decimal (getD ns i 0)) + 1) (spaced (drop (i + 1) ns))) (sym el)
+    ∙ ap₂ (λ j x. sets (set l′ j x) (j + 1) (spaced (drop (i + 1) ns))) (sym en) (sym ea)
+
+pub length-spaced : (ns : List ℕ) (i m : ℕ) → length ns ≡ suc m → i ≤ m
+    → length (spaced (drop i ns)) ≡ length (decimal (getD ns i 0)) + 1 + length (spaced (drop (i + 1) ns))
+length-spaced ns i m e h =
+    ap length (spaced-next ns i m e h)
+    ∙ length-append (decimal (getD ns i 0)) (cond (eqb i m) newline space ∷ spaced (drop (i + 1) ns))
+    ∙ one-more (length (decimal (getD ns i 0))) (length (spaced (drop (i + 1) ns)))
+  where
+    one-more : (a b : ℕ) → a + suc b ≡ a + 1 + b
+    one-more a b = omega arith
+
+-- ---- the last line
+
+module _ (frames bytes passed place : ℕ) (l : List ℕ) (p₁ : ℕ) (l₁ : List ℕ) (p₂ : ℕ) (l₂ : List ℕ) (p₃ : ℕ) (l₃ : List ℕ)
+    (at₁ : p₁ ≡ place + length (framesLabel ++ decimal frames)) (is₁ : l₁ ≡ sets l place (framesLabel ++ decimal frames))
+    (at₂ : p₂ ≡ p₁ + length (bytesLabel ++ decimal bytes)) (is₂ : l₂ ≡ sets l₁ p₁ (bytesLabel ++ decimal bytes))
+    (at₃ : p₃ ≡ p₂ + length (passedLabel ++ decimal passed)) (is₃ : l₃ ≡ sets l₂ p₂ (passedLabel ++ decimal passed)) where
+  end : List ℕ
+  end = newline ∷ []
+
+  pub last-stored : set l₃ p₃ newline ≡ sets l place (lastLine frames bytes passed)
+  unfolding end lastLine
+  last-stored =
+      sym (stored-then l (framesLabel ++ decimal frames) ((bytesLabel ++ decimal bytes) ++ ((passedLabel ++ decimal passed) ++ end)) place p₁ l₁ at₁ is₁
+      ∙ stored-then l₁ (bytesLabel ++ decimal bytes) ((passedLabel ++ decimal passed) ++ end) p₁ p₂ l₂ at₂ is₂
+      ∙ stored-then l₂ (passedLabel ++ decimal passed) end p₂ p₃ l₃ at₃ is₃)
+
+  pub last-place : p₃ + 1 ≡ place + length (lastLine frames bytes passed)
+  unfolding end lastLine
+  last-place =
+      omega (
+        arith,
+        at₁,
+        at₂,
+        at₃,
+        length-append (framesLabel ++ decimal frames) ((bytesLabel ++ decimal bytes) ++ ((passedLabel ++ decimal passed) ++ end)),
+        length-append (bytesLabel ++ decimal bytes) ((passedLabel ++ decimal passed) ++ end),
+        length-append (passedLabel ++ decimal passed) end,
+      )
+
+  pub last-length : length (set l₃ p₃ newline) ≡ length l
+  last-length =
+      length-marked l₂ p₂ (passedLabel ++ decimal passed) l₃ is₃ p₃ newline
+      ∙ length-stored l₁ p₁ (bytesLabel ++ decimal bytes) l₂ is₂ ∙ length-stored l place (framesLabel ++ decimal frames) l₁ is₁
+
+-- ---- health, of a state within its widths
+
+module _ (s : State) (inside : stateOutside s ≡ false) where
+  health-is : healthOf s ≡ Code (codeOf s)
+  health-is = ap (λ t. cond t (Refused 5) (Code (codeOf s))) inside
+
+  pub health-code : (h : ℕ) → healthOf s ≡ Code h → h ≡ codeOf s
+  health-code h e = let both = sym health-is ∙ e in cc
+
+  pub health-refused : (n : ℕ) → healthOf s ≡ Refused n → ⊥
+  health-refused n e = let both = sym health-is ∙ e in absurd (let z : _≡_ {A = ℕ} 0 1 = cc in omega arith)

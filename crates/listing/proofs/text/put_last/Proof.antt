@@ -1,0 +1,35 @@
+-- `put_last` meets its contract: three totals with their labels, and a newline. Assumes nothing.
+use mathlib.Core.Path.{_≡_, sym, _∙_}
+use Prim.Native.Nat.{_+_}
+use native.Mathlib.Omega.{arith}
+use lib.ListN.{length}
+use denote.Ref.{now}
+use borrow.Author.Needs.{needs}
+use Rattle.listing.specs.Text.{decimal, framesLabel, bytesLabel, passedLabel, lastLine}
+use Rattle.listing.proofs.TextLaws.{last-place, last-stored, last-length}
+use Rattle.listing.proofs.text.put_last.Statement.{statement}
+use Rattle.listing.proofs.text.put_last.Tie as tie
+
+same-length : tie.Need-same-length
+same-length c =
+    let three = c .before .before .put-total3 .ensures in
+    let two = c .before .before .before .before .before .before .before .put-total2 .ensures in
+    let one = c .before .before .before .before .before .before .before .before .before .before .before .before .put-total .ensures in
+    let a = c .before .before .before .before .before .before .before .before .before .before .before .before .before .before .before .before .args in
+    last-length (a .frames) (a .bytes) (a .passed) (a .place) (now (a .buffer)) _ _ _ _ _ _ (one .0 .0) (one .1) (two .0 .0) (two .1) (three .0 .0) (three .1)
+
+returns : tie.Need-returns
+returns c =
+    let three = c .before .before .put-total3 .ensures in
+    let two = c .before .before .before .before .before .before .before .put-total2 .ensures in
+    let one = c .before .before .before .before .before .before .before .before .before .before .before .before .put-total .ensures in
+    let a = c .before .before .before .before .before .before .before .before .before .before .before .before .before .before .before .before .args in (
+      (last-place (a .frames) (a .bytes) (a .passed) (a .place) (now (a .buffer)) _ _ _ _ _ _ (one .0 .0) (one .1) (two .0 .0) (two .1) (three .0 .0) (three .1), omega (arith, one .0 .1, two .0 .1, three .0 .1)),
+      last-stored (a .frames) (a .bytes) (a .passed) (a .place) (now (a .buffer)) _ _ _ _ _ _ (one .0 .0) (one .1) (two .0 .0) (two .1) (three .0 .0) (three .1),
+    )
+
+pub put-last-spec : {M : Type 1} → statement M
+put-last-spec =
+    tie.close
+    (tie.spec (λ c. search needs) (λ c κs. search needs) (λ c. search needs) (λ c κs. search needs)
+    (λ c. search needs) (λ c κs. search needs) (λ c. search needs) (λ c. search needs) same-length returns)

@@ -1,0 +1,85 @@
+-- THE TEXT of a stream: a line for each frame of its scan, in order, and a last line of totals, which are counted over the stream itself.
+-- Bytes are ASCII codes. Assumes nothing.
+use mathlib.Core.Bool.{cond}
+use mathlib.Core.List.{List, [], _∷_, _++_}
+use Prim.Native.Nat.{ℕ, zero, suc, _+_, _/_, _%_, _^_}
+use lib.Dec.{ltb}
+use lib.ListN.{length}
+use Rattle.line.specs.Line.{lineBits}
+use Rattle.frame.specs.Header.{codeOf}
+use Rattle.frame.specs.declared.Frame.{Frame}
+use Rattle.stream.specs.Standing.{Placed, framesIn}
+use Rattle.promises.specs.Demand3.{without}
+
+-- ---- a number
+
+-- the last k decimal digits, the highest first
+unfoldable pub lastDigits : ℕ → ℕ → List ℕ
+lastDigits zero n = []
+lastDigits (suc k) n = lastDigits k (n / 10) ++ ((48 + n % 10) ∷ [])
+
+-- how many digits a number has, counted up to k
+unfoldable pub digitsUpTo : ℕ → ℕ → ℕ
+digitsUpTo zero n = zero
+digitsUpTo (suc k) n =
+    let more = suc (digitsUpTo k (n / 10)) in
+    cond (ltb n 10) 1 more
+
+-- DECIMAL, with no zero before the first digit; every number below 2^64 has at most twenty digits
+unfoldable pub decimal : ℕ → List ℕ
+decimal n = lastDigits (digitsUpTo 20 n) n
+
+-- ---- lines
+
+abbrev pub space : ℕ
+space = 32
+
+abbrev pub newline : ℕ
+newline = 10
+
+-- what stands after a number: a space where another one follows, a newline after the last
+abbrev pub mark : List ℕ → ℕ
+mark [] = newline
+mark (n ∷ ns) = space
+
+-- a line of numbers
+unfoldable pub spaced : List ℕ → List ℕ
+spaced [] = []
+spaced (n ∷ ns) = decimal n ++ (mark ns ∷ spaced ns)
+
+-- A FRAME'S LINE: first bit position, type, station, Z count, sequence, N, health
+abbrev pub numbersOf : ℕ → Frame → List ℕ
+numbersOf at f =
+    let h = f .header in
+    at ∷ h .kind ∷ h .station ∷ h .z ∷ h .sequence ∷ f .n ∷ codeOf (h .state) ∷ []
+
+abbrev pub frameLine : ℕ → Frame → List ℕ
+frameLine at f = spaced (numbersOf at f)
+
+-- "frames ", " bytes ", " passed "
+abbrev pub framesLabel : List ℕ
+framesLabel = 102 ∷ 114 ∷ 97 ∷ 109 ∷ 101 ∷ 115 ∷ 32 ∷ []
+
+abbrev pub bytesLabel : List ℕ
+bytesLabel = 32 ∷ 98 ∷ 121 ∷ 116 ∷ 101 ∷ 115 ∷ 32 ∷ []
+
+abbrev pub passedLabel : List ℕ
+passedLabel = 32 ∷ 112 ∷ 97 ∷ 115 ∷ 115 ∷ 101 ∷ 100 ∷ 32 ∷ []
+
+-- THE LAST LINE: frames handed out, bytes read, bytes answered with refusal 1
+unfoldable pub lastLine : ℕ → ℕ → ℕ → List ℕ
+lastLine frames bytes passed =
+    (framesLabel ++ decimal frames) ++ ((bytesLabel ++ decimal bytes) ++ ((passedLabel ++ decimal passed) ++ (newline ∷ [])))
+
+-- ---- a whole stream
+
+-- the lines of frames, their positions modulo 2^32
+unfoldable pub linesIn : List Placed → List ℕ
+linesIn [] = []
+linesIn (h ∷ hs) = frameLine (h .at % 2 ^ 32) (h .frame) ++ linesIn hs
+
+-- THE TEXT of the bytes of a whole stream, each total modulo 2^64
+unfoldable pub textOf : List ℕ → List ℕ
+textOf bs =
+    let frames = framesIn (lineBits bs) in
+    linesIn frames ++ lastLine (length frames % 2 ^ 64) (length bs % 2 ^ 64) (without bs % 2 ^ 64)
