@@ -45,7 +45,7 @@ run-used (b ∷ bs) cells c = go (c .waits) (isData b) (run-used bs (stepCells c
     go false true on over = omega arith
     go false false on over = omega arith
 
-fed-used : (l : Listing) (bs : List ℕ) → fedOn l bs .used ≤ length bs
+pub fed-used : (l : Listing) (bs : List ℕ) → fedOn l bs .used ≤ length bs
 unfolding fedOn fedAllBy
 fed-used l bs = go (past (l .reader)) (l .reader .ended) (l .reader .candidate .waits)
   where

@@ -5,11 +5,10 @@ use mathlib.Core.List.{List, [], _∷_, _++_}
 use Prim.Native.Nat.{ℕ, zero, suc, _+_, _/_, _%_, _^_}
 use lib.Dec.{ltb}
 use lib.ListN.{length}
-use Rattle.line.specs.Line.{lineBits}
+use Rattle.line.specs.Line.{lineBits, without}
 use Rattle.frame.specs.Header.{codeOf}
 use Rattle.frame.specs.declared.Frame.{Frame}
 use Rattle.stream.specs.Standing.{Placed, framesIn}
-use Rattle.promises.specs.Demand3.{without}
 
 -- ---- a number
 

@@ -9,7 +9,7 @@ use native.Mathlib.Numerals.{one-add}
 use native.Mathlib.Omega.{arith}
 use lib.ListN.{length, take}
 use Rattle.bits.specs.Bits.{number}
-use Rattle.line.specs.Line.{isData, six}
+use Rattle.line.specs.Line.{isData, six, without}
 use Rattle.reader.specs.Reading.{past, stepCells, stepTo, pushed, fedBy, Run, runTo, spent, fedAllBy, endTo, endedBy, takeTo, takenBy}
 use Rattle.reader.specs.declared.Candidate.{Candidate}
 use Rattle.reader.specs.declared.Reader.{Reader}
@@ -20,7 +20,7 @@ use Rattle.reader.specs.declared.Taken.{Taken}
 use Rattle.reader.proofs.Accepted.{Accepted, to-accepted, from-accepted, length-step, accepted-step, accepted-end, accepted-take}
 use Rattle.reader.proofs.Running.{run-waits, run-on, run-over}
 use Rattle.promises.specs.Calls.{Call, feeds, feedsAll, ends, takes, after}
-use Rattle.promises.specs.Demand3.{feedEach, without, FeedAllIsFeed, NextIsAccepted}
+use Rattle.promises.specs.Demand3.{feedEach, FeedAllIsFeed, NextIsAccepted}
 use Rattle.promises.proofs.Runs.{going, given, fed-by, all-by, ended-by, taken-by}
 
 -- ---- a run over bytes

@@ -6,4 +6,8 @@ pub mod Opposed
 pub mod Turned
 pub mod EveryReader
 pub mod Demand2
+pub mod Telling
+pub mod Pieces
+pub mod Whole
+pub mod Progress
 pub mod Worked

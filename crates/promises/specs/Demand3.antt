@@ -6,7 +6,7 @@ use mathlib.Core.Bool.{Bool, true, false, not, cond}
 use mathlib.Core.List.{List, [], _∷_, _++_, map, List·Memᴰ}
 use Prim.Native.Nat.{ℕ, _+_, _*_, _≤_, _<_}
 use lib.ListN.{length, take, drop}
-use Rattle.line.specs.Line.{isData, six, lineBits}
+use Rattle.line.specs.Line.{isData, six, lineBits, without}
 use Rattle.stream.specs.Standing.{Stands, frameAt, Placed, placed, scan, framesIn}
 use Rattle.stream.specs.Verdict.{RightSoFar, decided}
 use Rattle.stream.specs.Places.{StandsIn, FoundOrCovered, Apart, Damaged}
@@ -91,11 +91,6 @@ pub record TurnedIsSame : Type 0 where
 unfoldable pub feedEach : Reader → List ℕ → Reader
 feedEach r [] = r
 feedEach r (b ∷ bs) = feedEach (fedBy r b .reader) bs
-
--- how many bytes carry no bit
-unfoldable pub without : List ℕ → ℕ
-without [] = 0
-without (b ∷ bs) = cond (isData b) 0 1 + without bs
 
 -- the reader that feeding bytes leaves is the one that feeding those used one by one leaves; `passed` of them carry no bit; and unless it is
 -- refused, all bytes are used or a frame waits. A reader's array has forty cells.

@@ -1,4 +1,5 @@
 pub mod Calls
 pub mod Demand2
 pub mod Demand3
+pub mod Course
 pub mod Worked

@@ -14,6 +14,7 @@ use Rattle.frame.specs.declared.Frame.{Frame}
 use Rattle.frame.specs.declared.State.the-variants.{Factor}
 use Rattle.stream.specs.Standing.{Placed}
 use Rattle.reader.specs.Reading.{started}
+use Rattle.listing.specs.Text.{textOf}
 use Rattle.record.specs.Stages.{saysCount}
 use Rattle.record.specs.Corrections.{countCorrections}
 use Rattle.value.specs.Values.{exactly, stop, upTo, dbHz, notTracked}
@@ -45,6 +46,12 @@ elevenFrame = record {
 abbrev pub readOut : List ℕ → List Placed
 readOut bs = handedOut started (served bs ++ (ends ∷ takesAll))
 
+-- its text: "6 6 5 100 3 0 0", "frames 1 bytes 11 passed 0", each with a newline
+unfoldable pub twoLines : List ℕ
+twoLines =
+    54 ∷ 32 ∷ 54 ∷ 32 ∷ 53 ∷ 32 ∷ 49 ∷ 48 ∷ 48 ∷ 32 ∷ 51 ∷ 32 ∷ 48 ∷ 32 ∷ 48 ∷ 10
+    ∷ 102 ∷ 114 ∷ 97 ∷ 109 ∷ 101 ∷ 115 ∷ 32 ∷ 49 ∷ 32 ∷ 98 ∷ 121 ∷ 116 ∷ 101 ∷ 115 ∷ 32 ∷ 49 ∷ 49 ∷ 32 ∷ 112 ∷ 97 ∷ 115 ∷ 115 ∷ 101 ∷ 100 ∷ 32 ∷ 48 ∷ 10 ∷ []
+
 -- a frame of type 1 with this Z count and this N
 abbrev pub typeOne : ℕ → ℕ → Frame
 typeOne z n = record { header = record { kind = 1; station = 5; z = z; sequence = 3; state = Factor 100 }; n = n; words = replicate 31 0 }
@@ -61,6 +68,9 @@ pub record WorkedValues : Type 0 where
   pub eleven : readOut elevenBytes ≡ elevenFrame ∷ []
   pub turned : readOut turnedBytes ≡ elevenFrame ∷ []
   pub ten : readOut tenBytes ≡ []
+  -- both list as the same two lines
+  pub eleven-text : textOf elevenBytes ≡ twoLines
+  pub turned-text : textOf turnedBytes ≡ twoLines
   -- byte 0x3F is refusal 1; byte 0x40 is six zero bits
   pub byte-3F : saysSix (sixOf 0x3F) ≡ refuses 1
   pub byte-40 : saysSix (sixOf 0x40) ≡ answers (replicate 6 false)

@@ -1,0 +1,74 @@
+-- How long lines are: at most 147 bytes each, so that the room that the calls ask for is enough. Assumes nothing.
+use mathlib.Core.Path.{_≡_, ap, _∙_}
+use mathlib.Core.List.{List, [], _∷_, _++_}
+use Prim.Native.Nat.{ℕ, zero, suc, _+_, _*_, _≤_}
+use native.Mathlib.Omega.{arith}
+use lib.ListN.{length, take, drop, length-append, length-drop}
+use lib.Seq.{sets, sets-eq, take-append-seam}
+use Rattle.frame.specs.declared.Frame.{Frame}
+use Rattle.reader.specs.Reading.{takenBy}
+use Rattle.reader.specs.declared.Answer.{Answer}
+use Rattle.reader.specs.declared.Answer.the-variants.{Done, Refused}
+use Rattle.listing.specs.Text.{decimal, newline, mark, spaced, numbersOf, frameLine, framesLabel, bytesLabel, passedLabel, lastLine}
+use Rattle.listing.specs.Listing.{fedOn, handedOn, Lines, lineThen, linesOf}
+use Rattle.listing.specs.declared.Listing.{Listing}
+use Rattle.listing.proofs.TextLaws.{digits-le, length-decimal}
+use Rattle.listing.proofs.LinesLaws.{fed-used}
+
+decimal-le : (n : ℕ) → length (decimal n) ≤ 20
+decimal-le n = omega (arith, length-decimal n, digits-le 20 n)
+
+spaced-le : (ns : List ℕ) → length (spaced ns) ≤ 21 * length ns
+unfolding spaced
+spaced-le [] = omega arith
+spaced-le (n ∷ ns) = omega (arith, length-append (decimal n) (mark ns ∷ spaced ns), decimal-le n, spaced-le ns)
+
+line-le : (at : ℕ) (f : Frame) → length (frameLine at f) ≤ 147
+line-le at f = spaced-le (numbersOf at f)
+
+pub last-le : (a b c : ℕ) → length (lastLine a b c) ≤ 147
+unfolding lastLine
+last-le a b c =
+    omega (
+      arith,
+      decimal-le a,
+      decimal-le b,
+      decimal-le c,
+      length-append framesLabel (decimal a),
+      length-append bytesLabel (decimal b),
+      length-append passedLabel (decimal c),
+      length-append (framesLabel ++ decimal a) ((bytesLabel ++ decimal b) ++ ((passedLabel ++ decimal c) ++ (newline ∷ []))),
+      length-append (bytesLabel ++ decimal b) ((passedLabel ++ decimal c) ++ (newline ∷ [])),
+      length-append (passedLabel ++ decimal c) (newline ∷ []),
+    )
+
+pub lines-le : (k : ℕ) (l : Listing) (bs : List ℕ) → length (linesOf k l bs .text) ≤ 147 * k
+unfolding linesOf
+lines-le zero l bs = omega arith
+lines-le (suc k) l bs =
+    go (takenBy (fedOn l bs .listing .reader) .answer) (frameLine (takenBy (fedOn l bs .listing .reader) .at) (takenBy (fedOn l bs .listing .reader) .frame)) (line-le (takenBy (fedOn l bs .listing .reader) .at) (takenBy (fedOn l bs .listing .reader) .frame))
+    (linesOf k (handedOn (fedOn l bs .listing) (takenBy (fedOn l bs .listing .reader) .reader)) (drop (fedOn l bs .used) bs))
+    (lines-le k (handedOn (fedOn l bs .listing) (takenBy (fedOn l bs .listing .reader) .reader)) (drop (fedOn l bs .used) bs))
+  where
+    go : (a : Answer) (line : List ℕ) → length line ≤ 147 → (rest : Lines) → length (rest .text) ≤ 147 * k → length (lineThen a (fedOn l bs) line rest .text) ≤ 147 * suc k
+    go Done line h rest later = omega (arith, length-append line (rest .text))
+    go (Refused n) line h rest later = omega arith
+
+-- no more bytes are used than there are
+pub lines-used : (k : ℕ) (l : Listing) (bs : List ℕ) → linesOf k l bs .used ≤ length bs
+unfolding linesOf
+lines-used zero l bs = omega arith
+lines-used (suc k) l bs =
+    go (takenBy (fedOn l bs .listing .reader) .answer) (frameLine (takenBy (fedOn l bs .listing .reader) .at) (takenBy (fedOn l bs .listing .reader) .frame))
+    (linesOf k (handedOn (fedOn l bs .listing) (takenBy (fedOn l bs .listing .reader) .reader)) (drop (fedOn l bs .used) bs)) (lines-used k _ _)
+  where
+    go : (a : Answer) (line : List ℕ) (rest : Lines) → rest .used ≤ length (drop (fedOn l bs .used) bs) → lineThen a (fedOn l bs) line rest .used ≤ length bs
+    go Done line rest later = omega (arith, length-drop (fedOn l bs .used) bs, fed-used l bs)
+    go (Refused n) line rest later = fed-used l bs
+
+-- what was stored at the start of a buffer stands there
+pub stored-text : (out t : List ℕ) → length t ≤ length out → take (length t) (sets out 0 t) ≡ t
+stored-text out t h = ap (take (length t)) (sets-eq t out 0 fits) ∙ take-append-seam t (drop (0 + length t) out)
+  where
+    fits : 0 + length t ≤ length out
+    fits = omega arith

@@ -1,0 +1,88 @@
+-- Piece after piece: what was written tells of the frames handed out, and what is left is what was not used. Assumes nothing.
+use mathlib.Core.Path.{_≡_, refl, sym, ap₂, subst₂, _∙_}
+use mathlib.Core.Bool.{Bool, true, false}
+use mathlib.Core.List.{List, [], _∷_, _++_, append-nil, append-assoc}
+use Prim.Native.Nat.{ℕ, _+_, _/_, _≤_}
+use native.Mathlib.Omega.{arith}
+use lib.Dec.{ltb}
+use lib.ListN.{length, take, drop, length-take, take-append-drop}
+use lib.Seq.{sets, take-take}
+use Rattle.answer.specs.Order.{inOrder}
+use Rattle.stream.specs.Standing.{Placed}
+use Rattle.reader.specs.Reading.{past}
+use Rattle.promises.specs.Calls.{after}
+use Rattle.listing.specs.Listing.{Lines, linesOf, lineRoom, refused, listed, pieceBy, pieceText}
+use Rattle.promises.specs.Course.{Piece, Course, courseOf}
+use Rattle.listing.specs.declared.Listing.{Listing}
+use Rattle.listing.specs.declared.Listed.{Listed}
+use Rattle.listing.proofs.Lengths.{lines-le, lines-used, stored-text}
+use Rattle.promises.proofs.Telling.{told, told-after, Told, tells}
+
+-- ---- a piece
+
+pub record PieceTells (used : List ℕ) (out : List Placed) (lent : List ℕ) (r : Listed) (buffer : List ℕ) : Type 0 where
+  pub more : List Placed
+  pub text : take (r .written) buffer ≡ told more
+  pub is : Told (used ++ take (r .used) lent) (out ++ more) (r .listing)
+  pub within : r .used ≤ length lent
+
+piece-tells : (used : List ℕ) (out : List Placed) (l : Listing) → Told used out l → (lent buffer : List ℕ)
+    → PieceTells used out lent (pieceBy l lent (length buffer)) (pieceText l lent buffer)
+unfolding pieceBy pieceText
+piece-tells used out l t lent buffer = go (past (l .reader)) (l .reader .ended) (ltb (length buffer) lineRoom)
+  where
+    x : Lines
+    x = linesOf (length buffer / 147) l lent
+
+    none : (n : ℕ) → PieceTells used out lent (refused l n) buffer
+    none n = record { more = []; text = (unfold told in refl); is = subst₂ (λ u o. Told u o l) (sym (append-nil used)) (sym (append-nil out)) t; within = omega arith }
+
+    go : (p e s : Bool) → PieceTells used out lent (inOrder ((p, 5) ∷ (e, 3) ∷ (s, 13) ∷ []) (refused l) (listed (linesOf (length buffer / 147) l lent)))
+        (inOrder ((p, 5) ∷ (e, 3) ∷ (s, 13) ∷ []) (λ n. buffer) (sets buffer 0 (linesOf (length buffer / 147) l lent .text)))
+    go true e s = none 5
+    go false true s = none 3
+    go false false true = none 13
+    go false false false =
+        let y = tells (length buffer / 147) l lent used out t in
+        record {
+          more = y .more;
+          text = stored-text buffer (x .text) (omega (arith, lines-le (length buffer / 147) l lent)) ∙ y .text;
+          is = y .is;
+          within = lines-used (length buffer / 147) l lent;
+        }
+
+-- ---- piece after piece
+
+pub record CourseTells (used : List ℕ) (out : List Placed) (bs : List ℕ) (c : Course) : Type 0 where
+  pub eaten : List ℕ
+  pub more : List Placed
+  pub split : eaten ++ c .left ≡ bs
+  pub text : c .text ≡ told more
+  pub is : Told (used ++ eaten) (out ++ more) (c .listing)
+
+pub course-tells : (ps : List Piece) (l : Listing) (bs used : List ℕ) (out : List Placed) → Told used out l → CourseTells used out bs (courseOf ps l bs)
+unfolding courseOf
+course-tells [] l bs used out t = record { eaten = []; more = []; split = refl; text = (unfold told in refl); is = subst₂ (λ u o. Told u o l) (sym (append-nil used)) (sym (append-nil out)) t }
+course-tells (p ∷ ps) l bs used out t = later (course-tells ps (r .listing) (drop (r .used) bs) _ _ (y .is))
+  where
+    lent : List ℕ
+    lent = take (p .0) bs
+
+    r : Listed
+    r = pieceBy l (take (p .0) bs) (length (p .1))
+
+    y : PieceTells used out (take (p .0) bs) (pieceBy l (take (p .0) bs) (length (p .1))) (pieceText l (take (p .0) bs) (p .1))
+    y = piece-tells used out l t (take (p .0) bs) (p .1)
+
+    few : r .used ≤ p .0
+    few = omega (arith, y .within, length-take (p .0) bs)
+
+    later : CourseTells (used ++ take (r .used) lent) (out ++ y .more) (drop (r .used) bs) (courseOf ps (r .listing) (drop (r .used) bs)) → CourseTells used out bs
+        (record { text = take (r .written) (pieceText l lent (p .1)) ++ courseOf ps (r .listing) (drop (r .used) bs) .text; left = courseOf ps (r .listing) (drop (r .used) bs) .left; listing = courseOf ps (r .listing) (drop (r .used) bs) .listing })
+    later z = record {
+      eaten = take (r .used) lent ++ z .eaten;
+      more = y .more ++ z .more;
+      split = append-assoc (take (r .used) lent) (z .eaten) _ ∙ ap₂ _++_ (take-take (r .used) (p .0) bs few) (z .split) ∙ take-append-drop (r .used) bs;
+      text = ap₂ _++_ (y .text) (z .text) ∙ sym (told-after (y .more) (z .more));
+      is = subst₂ (λ u o. Told u o (courseOf ps (r .listing) (drop (r .used) bs) .listing)) (append-assoc used (take (r .used) lent) (z .eaten)) (append-assoc out (y .more) (z .more)) (z .is);
+    }
