@@ -1,0 +1,22 @@
+//! Reference model of the RTCM version 2 line package, written from the rules
+//! alone: the slow definitions (`line`, `word`, `frame`, `scan`) and the calls.
+#![forbid(unsafe_code)]
+#![warn(missing_docs)]
+
+pub mod bits;
+pub mod frame;
+pub mod journal;
+pub mod line;
+pub mod listing;
+pub mod mangle;
+pub mod reader;
+pub mod record;
+pub mod refusal;
+pub mod rng;
+pub mod samples;
+pub mod scan;
+pub mod streams;
+pub mod trials;
+pub mod window;
+pub mod word;
+pub mod writer;

@@ -1,0 +1,79 @@
+//! The model's program: makes the trials and checks their files, and lists a
+//! stream from standard input.
+
+use rtcm2_model::listing;
+use rtcm2_model::trials::{self, File};
+use std::fs;
+use std::io::{self, BufWriter};
+use std::path::Path;
+use std::process::ExitCode;
+
+const USAGE: &str = "usage: rtcm2-model trials DIR | check DIR | list";
+
+fn main() -> ExitCode {
+    let arguments: Vec<String> = std::env::args().skip(1).collect();
+    let words: Vec<&str> = arguments.iter().map(String::as_str).collect();
+    let answer = match words.as_slice() {
+        ["trials", dir] => write_trials(Path::new(dir)),
+        ["check", dir] => check_trials(Path::new(dir)),
+        ["list"] => list(),
+        _ => Err(io::Error::other(USAGE)),
+    };
+    match answer {
+        Ok(true) => ExitCode::SUCCESS,
+        Ok(false) => ExitCode::from(1),
+        Err(error) => {
+            eprintln!("{error}");
+            ExitCode::from(2)
+        }
+    }
+}
+
+/// Prints the listing of standard input.
+fn list() -> io::Result<bool> {
+    let output = BufWriter::new(io::stdout().lock());
+    listing::through_reader(io::stdin().lock(), output)?;
+    Ok(true)
+}
+
+/// Writes the files of the trials.
+fn write_trials(dir: &Path) -> io::Result<bool> {
+    let files = trials::files();
+    fs::create_dir_all(dir.join(trials::DATA))?;
+    for file in &files {
+        fs::write(dir.join(&file.path), &file.bytes)?;
+    }
+    println!("{} files written", files.len());
+    Ok(true)
+}
+
+/// Compares the files in the folder with the trials made anew.
+fn check_trials(dir: &Path) -> io::Result<bool> {
+    let files = trials::files();
+    let is_as_made =
+        |file: &&File| fs::read(dir.join(&file.path)).is_ok_and(|bytes| bytes == file.bytes);
+    let changed = files.iter().filter(|file| !is_as_made(file));
+    let mut differ: Vec<String> = changed.map(|file| file.path.clone()).collect();
+    differ.extend(strangers(dir, &files)?);
+    for path in &differ {
+        println!("{path} differs");
+    }
+    if differ.is_empty() {
+        println!("{} files, all as made", files.len());
+    }
+    Ok(differ.is_empty())
+}
+
+/// Files among the streams that are not made here.
+fn strangers(dir: &Path, files: &[File]) -> io::Result<Vec<String>> {
+    let mut paths = Vec::new();
+    for entry in fs::read_dir(dir.join(trials::DATA))? {
+        let name = entry?.file_name();
+        let path = format!("{}/{}", trials::DATA, name.to_string_lossy());
+        if files.iter().all(|file| file.path != path) {
+            paths.push(path);
+        }
+    }
+    paths.sort();
+    Ok(paths)
+}

@@ -1,0 +1,69 @@
+//! What record fields mean: millimetres, millimetres a second, dBHz, minutes
+//! and the UDRE limit.
+
+use crate::frame::State;
+use crate::refusal::{refuse_if, Answer, Refusal};
+
+/// A correction's value.
+#[derive(Clone, Copy, Debug, PartialEq, Eq)]
+pub enum Value {
+    /// Stop using this satellite.
+    Stop,
+    /// So many mm, or mm/s.
+    Is(i32),
+}
+
+/// The step of a scale, or refusal 10.
+fn step(scale: u8, fine: i32, coarse: i32) -> Answer<i32> {
+    match scale {
+        0 => Ok(fine),
+        1 => Ok(coarse),
+        _ => Err(Refusal::OutsideRange),
+    }
+}
+
+/// PRC in mm, steps 20 or 320. Refuses with 10.
+pub fn prc_mm(scale: u8, prc: i16) -> Answer<Value> {
+    let step = step(scale, 20, 320)?;
+    Ok(match prc {
+        i16::MIN => Value::Stop,
+        _ => Value::Is(step * i32::from(prc)),
+    })
+}
+
+/// RRC in mm/s, steps 2 or 32. Refuses with 10.
+pub fn rrc_mm_s(scale: u8, rrc: i8) -> Answer<Value> {
+    let step = step(scale, 2, 32)?;
+    Ok(match rrc {
+        i8::MIN => Value::Stop,
+        _ => Value::Is(step * i32::from(rrc)),
+    })
+}
+
+/// The upper limit of a UDRE code in mm, none for code 3. Refuses with 5, 10.
+pub fn udre_limit_mm(state: State, udre: u8) -> Answer<Option<u32>> {
+    refuse_if(state.code().is_none(), Refusal::OutsideWidths)?;
+    let scaled = |limit: u32| Some(limit * u32::from(state.factor()) / 100);
+    match udre {
+        0 => Ok(scaled(1000)),
+        1 => Ok(scaled(4000)),
+        2 => Ok(scaled(8000)),
+        3 => Ok(None),
+        _ => Err(Refusal::OutsideRange),
+    }
+}
+
+/// C/N0 in dBHz, none when not tracked. Refuses with 10.
+pub fn cn0_dbhz(code: u8) -> Answer<Option<u8>> {
+    match code {
+        0 => Ok(None),
+        1..=31 => Ok(Some(24 + code)),
+        _ => Err(Refusal::OutsideRange),
+    }
+}
+
+/// The time code of type 5 in minutes. Refuses with 10.
+pub fn minutes(code: u8) -> Answer<u8> {
+    refuse_if(code > 15, Refusal::OutsideRange)?;
+    Ok(5 * code)
+}

@@ -1,0 +1,58 @@
+//! The sixteen refusal numbers of the rules' table.
+
+/// Why a call was refused; the discriminant is the rules' number.
+#[derive(Clone, Copy, Debug, PartialEq, Eq)]
+#[repr(u8)]
+pub enum Refusal {
+    /// Byte without top bits 01.
+    NotDataByte = 1,
+    /// Fed or ended while a frame waits.
+    FrameWaits = 2,
+    /// Fed or ended after end.
+    AfterEnd = 3,
+    /// Taking when no frame waits.
+    NoFrameWaits = 4,
+    /// Frame, header, reader state or carried bit outside its widths.
+    OutsideWidths = 5,
+    /// Frame is of another type.
+    AnotherType = 6,
+    /// Z count 6000 to 8191.
+    ZCount = 7,
+    /// N doesn't fit the type.
+    NDoesNotFit = 8,
+    /// Entry number not below the count.
+    NoSuchEntry = 9,
+    /// Record field outside its range.
+    OutsideRange = 10,
+    /// Forbidden character.
+    ForbiddenCharacter = 11,
+    /// No entry, or too many.
+    EntryCount = 12,
+    /// Lent buffer too short.
+    BufferTooShort = 13,
+    /// Fewer than two bytes, or the first two are not the journal mark.
+    NoJournalMark = 14,
+    /// Journal record cut short.
+    RecordCutShort = 15,
+    /// Journal N over 31, unequal to N of word 2, or wrong preamble.
+    JournalHeader = 16,
+}
+
+impl Refusal {
+    /// The number in the rules' table.
+    pub fn number(self) -> u8 {
+        self as u8
+    }
+}
+
+/// What a call that may be refused answers.
+pub type Answer<T> = Result<T, Refusal>;
+
+/// Refuses when the condition holds.
+pub fn refuse_if(condition: bool, refusal: Refusal) -> Answer<()> {
+    if condition {
+        Err(refusal)
+    } else {
+        Ok(())
+    }
+}

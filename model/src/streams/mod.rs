@@ -1,0 +1,72 @@
+//! Test streams with fixed seeds. Each stream's numbers come from its own name,
+//! so adding or dropping one changes no other.
+
+mod damage;
+mod false_starts;
+mod grid;
+mod hiding;
+mod mixed;
+mod noise;
+mod past_end;
+mod polarity;
+mod slips;
+mod small;
+mod strewn;
+mod valid;
+mod vectors;
+
+use crate::listing;
+use crate::rng::Rng;
+
+/// Makes the bytes of one stream.
+type Maker = fn(&mut Rng) -> Vec<u8>;
+
+/// A stream's name within its group, and its maker.
+type Entry = (&'static str, Maker);
+
+/// The groups; a group's place is the number its names start with.
+const GROUPS: [&[Entry]; 12] = [
+    valid::STREAMS,
+    slips::STREAMS,
+    polarity::STREAMS,
+    strewn::STREAMS,
+    false_starts::STREAMS,
+    past_end::STREAMS,
+    noise::STREAMS,
+    grid::STREAMS,
+    damage::STREAMS,
+    small::STREAMS,
+    mixed::STREAMS,
+    vectors::STREAMS,
+];
+
+/// A test stream.
+#[derive(Clone, Debug, PartialEq, Eq)]
+pub struct Stream {
+    /// Its name, such as `01-valid-a`.
+    pub name: String,
+    /// Its bytes.
+    pub bytes: Vec<u8>,
+}
+
+impl Stream {
+    /// The listing expected for it, by the definition.
+    pub fn expected(&self) -> String {
+        listing::by_definition(&self.bytes)
+    }
+}
+
+/// All test streams, in the order of their names.
+pub fn all() -> Vec<Stream> {
+    let mut streams = Vec::new();
+    for (i, group) in GROUPS.iter().enumerate() {
+        for (name, maker) in *group {
+            streams.push(Stream {
+                name: format!("{:02}-{name}", i + 1),
+                bytes: maker(&mut Rng::named(name)),
+            });
+        }
+    }
+    streams.sort_by(|a, b| a.name.cmp(&b.name));
+    streams
+}

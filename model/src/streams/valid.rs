@@ -1,0 +1,120 @@
+//! Correct streams: frames of all types back to back after the lead byte.
+
+use super::Entry;
+use crate::bits::Bits;
+use crate::frame::{Frame, State};
+use crate::rng::Rng;
+use crate::samples;
+
+pub(super) const STREAMS: &[Entry] = &[
+    ("valid-a", any),
+    ("valid-b", any),
+    ("valid-c", any),
+    ("valid-d", any),
+    ("valid-e", any),
+    ("valid-f", any),
+    ("valid-g", any),
+    ("valid-h", any),
+    ("corrections-1", |rng| corrections(rng, 1)),
+    ("corrections-9", |rng| corrections(rng, 9)),
+    ("positions", |rng| repeat(rng, 20, samples::position_frame)),
+    ("healths", healths),
+    ("nulls", |rng| repeat(rng, 40, samples::null_frame)),
+    ("texts", texts),
+    ("plain-a", |rng| repeat(rng, 20, samples::other_frame)),
+    ("plain-b", |rng| repeat(rng, 20, samples::other_frame)),
+    ("plain-c", |rng| repeat(rng, 20, samples::other_frame)),
+    ("every-type", every_type),
+    ("type-64", |rng| of_type(rng, 64)),
+    ("n-31", n_31),
+    ("every-n", every_n),
+    ("every-health", every_health),
+    ("z-over-5999", z_over_5999),
+];
+
+/// The stream of these frames.
+fn written(frames: &[Frame]) -> Vec<u8> {
+    let mut bits = Bits::opened();
+    bits.push_frames(frames);
+    bits.to_bytes()
+}
+
+fn repeat(rng: &mut Rng, count: usize, frame: fn(&mut Rng) -> Frame) -> Vec<u8> {
+    let frames: Vec<Frame> = (0..count).map(|_| frame(rng)).collect();
+    written(&frames)
+}
+
+fn any(rng: &mut Rng) -> Vec<u8> {
+    let count = 15 + rng.place(15);
+    written(&samples::frames(rng, count))
+}
+
+fn corrections(rng: &mut Rng, type_number: u16) -> Vec<u8> {
+    let make = |count| samples::correction_frame(rng, type_number, count);
+    written(&(1..=18).map(make).collect::<Vec<Frame>>())
+}
+
+fn healths(rng: &mut Rng) -> Vec<u8> {
+    let make = |count| samples::health_frame(rng, count);
+    written(&(1..=31).map(make).collect::<Vec<Frame>>())
+}
+
+fn texts(rng: &mut Rng) -> Vec<u8> {
+    let counts = [
+        1, 2, 3, 4, 5, 6, 7, 13, 29, 30, 31, 44, 60, 61, 62, 87, 88, 89, 90,
+    ];
+    let make = |count| samples::text_frame(rng, count);
+    written(&counts.into_iter().map(make).collect::<Vec<Frame>>())
+}
+
+fn every_type(rng: &mut Rng) -> Vec<u8> {
+    let make = |type_number| {
+        let n = rng.below(4) as u8;
+        samples::plain_frame(rng, type_number, n)
+    };
+    written(&(1..=64).map(make).collect::<Vec<Frame>>())
+}
+
+fn of_type(rng: &mut Rng, type_number: u16) -> Vec<u8> {
+    let make = |n| samples::plain_frame(rng, type_number, n);
+    written(&[0, 1, 2, 7, 31].map(make))
+}
+
+fn n_31(rng: &mut Rng) -> Vec<u8> {
+    let make = |type_number| samples::plain_frame(rng, type_number, 31);
+    written(&[1, 3, 5, 6, 9, 16, 18, 64].map(make))
+}
+
+fn every_n(rng: &mut Rng) -> Vec<u8> {
+    let make = |n| samples::plain_frame(rng, 2, n);
+    written(&(0..=31).map(make).collect::<Vec<Frame>>())
+}
+
+fn every_health(rng: &mut Rng) -> Vec<u8> {
+    let mut frames = Vec::new();
+    for code in 0..8 {
+        let mut three = [
+            samples::correction_frame(rng, 1, 2),
+            samples::null_frame(rng),
+            samples::text_frame(rng, 8),
+        ];
+        for frame in &mut three {
+            frame.header.state = State::of_code(code);
+        }
+        frames.extend(three);
+    }
+    written(&frames)
+}
+
+fn z_over_5999(rng: &mut Rng) -> Vec<u8> {
+    let mut frames = samples::frames(rng, 24);
+    for frame in &mut frames {
+        frame.header.z_count = match rng.below(4) {
+            0 => 5999,
+            1 => 6000,
+            2 => 8191,
+            _ => 6000 + rng.below(2192) as u16,
+        };
+    }
+    written(&frames)
+}

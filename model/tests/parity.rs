@@ -1,0 +1,166 @@
+//! The word: test and encoder against each other, the quick test against the
+//! slow one, and what one, two or three turned bits do.
+
+use rtcm2_model::bits::Bits;
+use rtcm2_model::line::{bits_of_byte, byte_of_bits};
+use rtcm2_model::rng::Rng;
+use rtcm2_model::samples;
+use rtcm2_model::scan::{standing, Standing};
+use rtcm2_model::window;
+use rtcm2_model::word::{bits_of, data_bits, encode, number_of, passes, Pair};
+
+/// The word and the pair in a window, D29* highest.
+fn apart(window: u32) -> ([bool; 30], Pair) {
+    let bit = |i: usize| (window >> (31 - i)) % 2 == 1;
+    let mut word = [false; 30];
+    for (i, place) in word.iter_mut().enumerate() {
+        *place = bit(i + 2);
+    }
+    let pair = Pair {
+        d29: bit(0),
+        d30: bit(1),
+    };
+    (word, pair)
+}
+
+fn slow_passes(window: u32) -> bool {
+    let (word, pair) = apart(window);
+    passes(&word, pair)
+}
+
+/// A window that passes.
+fn good_window(rng: &mut Rng) -> u32 {
+    let pair = Pair {
+        d29: rng.bit(),
+        d30: rng.bit(),
+    };
+    let word = encode(&bits_of(rng.word()), pair);
+    let all = [pair.d29, pair.d30].into_iter().chain(word);
+    all.fold(0, |sum, bit| sum << 1 | u32::from(bit))
+}
+
+#[test]
+fn every_byte_goes_both_ways() {
+    for byte in 0..=255_u8 {
+        match bits_of_byte(byte) {
+            Some(bits) => assert_eq!(byte_of_bits(bits), byte),
+            None => assert!(byte >> 6 != 1),
+        }
+    }
+}
+
+#[test]
+fn encoded_words_pass_and_give_their_data() {
+    let mut rng = Rng::named("encoded words");
+    for _ in 0..20_000 {
+        let window = good_window(&mut rng);
+        let (word, pair) = apart(window);
+        assert!(passes(&word, pair) && window::passes(window));
+        assert!(passes(&word.map(|bit| !bit), turned(pair)));
+        let data = number_of(&data_bits(&word, pair));
+        assert_eq!(window::data(window), data);
+        assert_eq!(encode(&bits_of(data), pair), word);
+        let turned_data = data_bits(&word.map(|bit| !bit), turned(pair));
+        assert_eq!(number_of(&turned_data), data);
+    }
+}
+
+fn turned(pair: Pair) -> Pair {
+    Pair {
+        d29: !pair.d29,
+        d30: !pair.d30,
+    }
+}
+
+#[test]
+fn the_quick_test_agrees() {
+    let mut rng = Rng::named("quick test");
+    for i in 0..32 {
+        assert!(!window::passes(1 << i) && !slow_passes(1 << i));
+    }
+    for round in 0..100_000 {
+        let near = good_window(&mut rng) ^ (rng.draw() & rng.draw() & rng.draw()) as u32;
+        let window = if round % 2 == 0 {
+            near
+        } else {
+            rng.draw() as u32
+        };
+        assert_eq!(window::passes(window), slow_passes(window));
+    }
+}
+
+#[test]
+fn one_two_or_three_turned_bits_never_pass() {
+    let mut rng = Rng::named("turned bits");
+    for _ in 0..20 {
+        let good = good_window(&mut rng);
+        for a in 0..32 {
+            for b in 0..=a {
+                for c in 0..=b {
+                    let turned = 1_u32 << a | 1 << b | 1 << c;
+                    assert!(!window::passes(good ^ turned));
+                }
+            }
+        }
+    }
+    for a in 0..32 {
+        for b in 0..=a {
+            assert!(!slow_passes(1 << a | 1 << b | 1));
+        }
+    }
+}
+
+/// Turns bits from the chosen word on, one to three in its own window.
+fn damage(bits: &mut Bits, rng: &mut Rng, word_at: usize) {
+    let count = 1 + rng.place(3);
+    let mut places: Vec<usize> = Vec::new();
+    while places.len() < count {
+        let at = word_at - 2 + rng.place(32);
+        if !places.contains(&at) {
+            places.push(at);
+        }
+    }
+    for at in places {
+        bits.turn(at);
+    }
+    for at in word_at + 30..bits.len() {
+        if rng.below(20) == 0 {
+            bits.turn(at);
+        }
+    }
+}
+
+#[test]
+fn nothing_begins_where_a_damaged_frame_began() {
+    let mut rng = Rng::named("damaged frames");
+    for _ in 0..4000 {
+        let mut bits = Bits::empty();
+        let before = 2 + rng.place(10);
+        bits.push_noise(&mut rng, before);
+        let frame = samples::any_frame(&mut rng);
+        let first = bits.push_frame(&frame);
+        let expected = Standing::Stands(Box::new(frame));
+        assert_eq!(standing(&bits.0, first), expected);
+        let word = rng.place(usize::from(frame.n) + 2);
+        if word > 0 {
+            // The two bits before a later word belong to the word before it.
+            damage_inside(&mut bits, &mut rng, first + 30 * word);
+        } else {
+            damage(&mut bits, &mut rng, first);
+        }
+        assert_eq!(standing(&bits.0, first), Standing::RuledOut);
+    }
+}
+
+/// As `damage`, leaving the two bits before the word alone.
+fn damage_inside(bits: &mut Bits, rng: &mut Rng, word_at: usize) {
+    let kept = bits.0[word_at - 2..word_at].to_vec();
+    loop {
+        let mut trial = bits.clone();
+        damage(&mut trial, rng, word_at);
+        if trial.0[word_at - 2..word_at] == kept[..] {
+            *bits = trial;
+            return;
+        }
+    }
+}

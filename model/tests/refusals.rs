@@ -1,0 +1,457 @@
+//! Refusals and their orders: every call is given all its faults at once, then
+//! they are mended one by one, first number first. Buffers stay.
+
+use rtcm2_model::frame::{check_frame, check_header, Frame, Header, State};
+use rtcm2_model::journal;
+use rtcm2_model::reader::Reader;
+use rtcm2_model::record::correction::{self, Correction};
+use rtcm2_model::record::health::{self, Health};
+use rtcm2_model::record::position::{self, Position};
+use rtcm2_model::record::values::{cn0_dbhz, minutes, prc_mm, rrc_mm_s, udre_limit_mm};
+use rtcm2_model::record::{layout, null, text, Layout};
+use rtcm2_model::refusal::Answer;
+use rtcm2_model::writer::{self, CarriedBits};
+
+fn number<T>(answer: Answer<T>) -> u8 {
+    answer.map_or_else(|refusal| refusal.number(), |_| 0)
+}
+
+fn header(type_number: u16) -> Header {
+    Header {
+        type_number,
+        station: 5,
+        z_count: 100,
+        sequence: 3,
+        state: State::Factor(100),
+    }
+}
+
+fn frame(type_number: u16, n: u8) -> Frame {
+    Frame {
+        header: header(type_number),
+        n,
+        words: [0; 31],
+    }
+}
+
+/// Faults 5, 6 and 7 in a header; the type is plain.
+fn bad_header() -> Header {
+    Header {
+        type_number: 2,
+        station: 1024,
+        z_count: 6000,
+        sequence: 3,
+        state: State::Factor(100),
+    }
+}
+
+/// Mends the first fault of `bad_header` that is left.
+fn mend(header: &mut Header, type_number: u16) {
+    if header.station > 1023 {
+        header.station = 1023;
+    } else if header.type_number != type_number {
+        header.type_number = type_number;
+    } else {
+        header.z_count = 5999;
+    }
+}
+
+#[test]
+fn five_for_headers() {
+    let good = header(64);
+    assert_eq!(number(check_header(&good)), 0);
+    let breaks: [fn(&mut Header); 8] = [
+        |header| header.type_number = 0,
+        |header| header.type_number = 65,
+        |header| header.station = 1024,
+        |header| header.z_count = 8192,
+        |header| header.sequence = 8,
+        |header| header.state = State::Factor(0),
+        |header| header.state = State::Factor(99),
+        |header| header.state = State::Factor(65535),
+    ];
+    for bad in breaks {
+        let mut header = good;
+        bad(&mut header);
+        assert_eq!(number(check_header(&header)), 5);
+        let whole = Frame {
+            header,
+            n: 0,
+            words: [0; 31],
+        };
+        assert_eq!(number(check_frame(&whole)), 5);
+    }
+}
+
+#[test]
+fn five_for_frames() {
+    assert_eq!(number(check_frame(&frame(1, 31))), 0);
+    assert_eq!(number(check_frame(&frame(1, 32))), 5);
+    assert_eq!(number(check_frame(&frame(1, 255))), 5);
+    for n in 0..=31_u8 {
+        for place in 0..31 {
+            let mut whole = frame(1, n);
+            whole.words[place] = 0xFF_FFFF;
+            let past = place >= usize::from(n);
+            assert_eq!(number(check_frame(&whole)), if past { 5 } else { 0 });
+            whole.words[place] = 0x100_0000;
+            assert_eq!(number(check_frame(&whole)), 5);
+        }
+    }
+}
+
+#[test]
+fn health_codes() {
+    for code in 0..8 {
+        assert_eq!(State::of_code(code).code(), Some(code));
+    }
+    let factors = (0..8).map(|code| State::of_code(code).factor());
+    let expected = [100, 75, 50, 30, 20, 10, 100, 100];
+    assert_eq!(factors.collect::<Vec<u16>>(), expected);
+    let known = (0..=u16::MAX).filter(|factor| State::Factor(*factor).code().is_some());
+    assert_eq!(known.count(), 6);
+}
+
+#[test]
+fn layouts() {
+    let listed = |layout_wanted| -> Vec<u16> {
+        let all = 0..=u16::MAX;
+        all.filter(|number| layout(*number) == layout_wanted)
+            .collect()
+    };
+    assert_eq!(listed(Layout::Correction), [1, 9]);
+    assert_eq!(listed(Layout::Position), [3]);
+    assert_eq!(listed(Layout::Health), [5]);
+    assert_eq!(listed(Layout::Null), [6]);
+    assert_eq!(listed(Layout::Text), [16]);
+    assert_eq!(listed(Layout::Plain).len(), 65536 - 6);
+}
+
+/// Reads with faults 5, 6, 7 and 8 mended one after the other.
+fn reading_order(type_number: u16, good_n: u8, bad_n: u8, read: fn(&Frame) -> u8) -> Vec<u8> {
+    let mut whole = Frame {
+        header: bad_header(),
+        n: bad_n,
+        words: [0; 31],
+    };
+    let mut numbers = vec![read(&whole)];
+    for _ in 0..3 {
+        mend(&mut whole.header, type_number);
+        numbers.push(read(&whole));
+    }
+    whole.n = good_n;
+    numbers.push(read(&whole));
+    numbers
+}
+
+#[test]
+fn reading_orders() {
+    let count = |whole: &Frame| number(correction::count(whole));
+    assert_eq!(reading_order(1, 2, 3, count), [5, 6, 7, 8, 0]);
+    let entry = |whole: &Frame| number(correction::entry(whole, 1));
+    assert_eq!(reading_order(9, 2, 0, entry), [5, 6, 7, 8, 9]);
+    let count = |whole: &Frame| number(health::count(whole));
+    assert_eq!(reading_order(5, 31, 0, count), [5, 6, 7, 8, 0]);
+    let entry = |whole: &Frame| number(health::entry(whole, usize::MAX));
+    assert_eq!(reading_order(5, 1, 0, entry), [5, 6, 7, 8, 9]);
+    let read = |whole: &Frame| number(position::read(whole));
+    assert_eq!(reading_order(3, 4, 5, read), [5, 6, 7, 8, 0]);
+    let read = |whole: &Frame| number(null::read(whole));
+    assert_eq!(reading_order(6, 0, 1, read), [5, 6, 7, 8, 0]);
+    let read = |whole: &Frame| number(text::read(whole, &mut []));
+    assert_eq!(reading_order(16, 1, 0, read), [5, 6, 7, 8, 11]);
+    assert_eq!(reading_order(16, 30, 31, read), [5, 6, 7, 8, 11]);
+}
+
+#[test]
+fn n_of_corrections() {
+    let fits = [
+        2, 4, 5, 7, 9, 10, 12, 14, 15, 17, 19, 20, 22, 24, 25, 27, 29, 30,
+    ];
+    for n in 0..=31 {
+        let whole = frame(1, n);
+        let place = fits.iter().position(|fit| *fit == n);
+        match place {
+            Some(place) => {
+                assert_eq!(correction::count(&whole), Ok(place + 1));
+                assert_eq!(number(correction::entry(&whole, place)), 0);
+                assert_eq!(number(correction::entry(&whole, place + 1)), 9);
+            }
+            None => assert_eq!(number(correction::entry(&whole, 99)), 8),
+        }
+    }
+}
+
+#[test]
+fn position_range() {
+    for place in 0..3 {
+        let mut numbers = [i32::MAX, 0, -i32::MAX];
+        numbers[place] = i32::MIN;
+        let [x, y, z] = numbers;
+        let made = position::make(&header(3), &Position { x, y, z });
+        assert_eq!(number(made), 10);
+    }
+    let outside = [
+        [0x80_0000, 0, 0, 0],
+        [0, 0x00_8000, 0, 0],
+        [0, 0, 0x00_0080, 0],
+    ];
+    for words in outside {
+        let mut whole = frame(3, 4);
+        whole.words[..4].copy_from_slice(&words);
+        assert_eq!(number(position::read(&whole)), 10);
+        whole.words[3] = 1;
+        whole.words[1] |= 1;
+        assert_eq!(
+            number(position::read(&whole)),
+            if words[0] == 0 { 0 } else { 10 }
+        );
+    }
+}
+
+#[test]
+fn texts_that_are_refused() {
+    let texts: [(&[u32], u8); 9] = [
+        (&[0x00_0000], 11),
+        (&[0x41_0041], 11),
+        (&[0x00_4141], 11),
+        (&[0x41_4243, 0x00_0000], 11),
+        (&[0x41_4200, 0x41_4243], 11),
+        (&[0x41_4280], 11),
+        (&[0xFF_4243], 11),
+        (&[0x41_0000], 13),
+        (&[0x01_7F00], 13),
+    ];
+    for (words, expected) in texts {
+        let mut whole = frame(16, words.len() as u8);
+        whole.words[..words.len()].copy_from_slice(words);
+        assert_eq!(number(text::read(&whole, &mut [])), expected);
+    }
+    let mut whole = frame(16, 1);
+    whole.words[0] = 0x41_4200;
+    let mut buffer = [0xEE; 1];
+    assert_eq!(number(text::read(&whole, &mut buffer)), 13);
+    assert_eq!(buffer, [0xEE]);
+    let mut buffer = [0xEE; 3];
+    assert_eq!(text::read(&whole, &mut buffer), Ok(2));
+    assert_eq!(buffer, [0x41, 0x42, 0xEE]);
+}
+
+/// Makes with faults 5, 6 and 7 mended one after the other.
+fn making_order(type_number: u16, make: impl Fn(&Header) -> u8) -> Vec<u8> {
+    let mut header = bad_header();
+    let mut numbers = vec![make(&header)];
+    for _ in 0..3 {
+        mend(&mut header, type_number);
+        numbers.push(make(&header));
+    }
+    numbers
+}
+
+#[test]
+fn making_orders() {
+    let bad = [Correction::default(); correction::MOST];
+    for (count, last) in [(0, 12), (19, 12), (usize::MAX, 12), (1, 10), (18, 10)] {
+        let make = |header: &Header| number(correction::make(header, &bad, count));
+        assert_eq!(making_order(1, make), [5, 6, 7, last]);
+        assert_eq!(making_order(9, make), [5, 6, 7, last]);
+    }
+    let bad = [Health::default(); health::MOST];
+    for (count, last) in [(0, 12), (32, 12), (usize::MAX, 12), (1, 10), (31, 10)] {
+        let make = |header: &Header| number(health::make(header, &bad, count));
+        assert_eq!(making_order(5, make), [5, 6, 7, last]);
+    }
+    for (codes, last) in [(&[][..], 12), (&[0; 91][..], 12), (&[0][..], 11)] {
+        let make = |header: &Header| number(text::make(header, codes));
+        assert_eq!(making_order(16, make), [5, 6, 7, last]);
+    }
+    let bad = Position {
+        x: i32::MIN,
+        y: 0,
+        z: 0,
+    };
+    let make = |header: &Header| number(position::make(header, &bad));
+    assert_eq!(making_order(3, make), [5, 6, 7, 10]);
+    let make = |header: &Header| number(null::make(header));
+    assert_eq!(making_order(6, make), [5, 6, 7, 0]);
+}
+
+#[test]
+fn entries_past_the_count_are_not_read() {
+    let good = Correction {
+        satellite: 32,
+        prc: -32768,
+        rrc: -128,
+        ..Correction::default()
+    };
+    let breaks: [fn(&mut Correction); 4] = [
+        |entry| entry.scale = 2,
+        |entry| entry.udre = 4,
+        |entry| entry.satellite = 0,
+        |entry| entry.satellite = 33,
+    ];
+    for bad in breaks {
+        for place in 0..correction::MOST {
+            let mut entries = [good; correction::MOST];
+            bad(&mut entries[place]);
+            let below = correction::make(&header(1), &entries, place + 1);
+            assert_eq!(number(below), 10);
+            if place > 0 {
+                assert_eq!(number(correction::make(&header(1), &entries, place)), 0);
+            }
+        }
+    }
+}
+
+#[test]
+fn health_fields_outside_their_range() {
+    let good = Health {
+        satellite: 1,
+        ..Health::default()
+    };
+    let breaks: [fn(&mut Health); 11] = [
+        |entry| entry.reserved_first = 2,
+        |entry| entry.satellite = 0,
+        |entry| entry.satellite = 33,
+        |entry| entry.iod_link = 2,
+        |entry| entry.health = 8,
+        |entry| entry.cn0 = 32,
+        |entry| entry.enable = 2,
+        |entry| entry.new_data = 2,
+        |entry| entry.loss_warning = 2,
+        |entry| entry.time = 16,
+        |entry| entry.reserved_last = 4,
+    ];
+    for bad in breaks {
+        let mut entries = [good; health::MOST];
+        bad(&mut entries[7]);
+        assert_eq!(number(health::make(&header(5), &entries, 8)), 10);
+        assert_eq!(number(health::make(&header(5), &entries, 7)), 0);
+    }
+}
+
+#[test]
+fn characters_that_are_refused() {
+    for code in 0..=255 {
+        let expected = if (1..=127).contains(&code) { 0 } else { 11 };
+        assert_eq!(number(text::make(&header(16), &[65, code, 65])), expected);
+    }
+    assert_eq!(number(text::make(&header(16), &[0; 90])), 11);
+}
+
+#[test]
+fn values_outside_their_range() {
+    assert_eq!(number(prc_mm(2, i16::MIN)), 10);
+    assert_eq!(number(rrc_mm_s(2, i8::MIN)), 10);
+    assert_eq!(number(udre_limit_mm(State::Factor(1), 4)), 5);
+    assert_eq!(number(udre_limit_mm(State::Factor(1), 3)), 5);
+    assert_eq!(number(udre_limit_mm(State::NotWorking, 4)), 10);
+    assert_eq!(number(cn0_dbhz(32)), 10);
+    assert_eq!(number(minutes(16)), 10);
+    assert_eq!(minutes(15), Ok(75));
+    let limits = [[1000, 4000, 8000], [750, 3000, 6000], [500, 2000, 4000]];
+    for (code, row) in limits.iter().enumerate() {
+        for (udre, limit) in row.iter().enumerate() {
+            let state = State::of_code(code as u32);
+            assert_eq!(udre_limit_mm(state, udre as u8), Ok(Some(*limit)));
+        }
+    }
+}
+
+#[test]
+fn writing_order() {
+    let zero = CarriedBits { d29: 0, d30: 0 };
+    let mut whole = frame(64, 1);
+    whole.header.z_count = 6000;
+    whole.header.station = 1024;
+    let mut buffer = [0xEE; 14];
+    assert_eq!(number(writer::write(&whole, zero, &mut buffer)), 5);
+    whole.header.station = 0;
+    for (d29, d30) in [(2, 0), (0, 2), (1, 255)] {
+        let carried = CarriedBits { d29, d30 };
+        assert_eq!(number(writer::write(&whole, carried, &mut buffer)), 5);
+    }
+    assert_eq!(number(writer::write(&whole, zero, &mut buffer)), 7);
+    whole.header.z_count = 5999;
+    assert_eq!(number(writer::write(&whole, zero, &mut buffer)), 13);
+    assert_eq!(buffer, [0xEE; 14]);
+    let mut buffer = [0xEE; 17];
+    assert_eq!(writer::write(&whole, zero, &mut buffer).unwrap().length, 15);
+    assert_eq!(buffer[15..], [0xEE; 2]);
+    assert_eq!(number(writer::open(&mut [])), 13);
+}
+
+#[test]
+fn journal_orders() {
+    let mut whole = frame(1, 1);
+    whole.header.z_count = 8191;
+    whole.words[1] = 1;
+    let mut buffer = [0xEE; 11];
+    assert_eq!(number(journal::keep(&whole, &mut buffer)), 5);
+    whole.words[1] = 0;
+    assert_eq!(number(journal::keep(&whole, &mut buffer)), 13);
+    assert_eq!(buffer, [0xEE; 11]);
+
+    let recall = |bytes: &[u8]| number(journal::recall(bytes));
+    for bytes in [
+        &[][..],
+        &[0x52],
+        &[0x32, 0x52],
+        &[0x52, 0x33, 0, 0],
+        &[0x51, 0x32, 40],
+    ] {
+        assert_eq!(recall(bytes), 14);
+    }
+    assert_eq!(recall(&[0x52, 0x32]), 15);
+    assert_eq!(recall(&[0x52, 0x32, 32]), 16);
+    assert_eq!(recall(&[0x52, 0x32, 255]), 16);
+    assert_eq!(recall(&[0x52, 0x32, 31]), 15);
+    assert_eq!(recall(&[0x52, 0x32, 0, 0x67, 0, 0, 0, 0]), 15);
+    assert_eq!(recall(&[0x52, 0x32, 0, 0x67, 0, 0, 0, 0, 0]), 16);
+    assert_eq!(recall(&[0x52, 0x32, 0, 0x66, 0, 0, 0, 0, 8]), 16);
+    assert_eq!(recall(&[0x52, 0x32, 0, 0x66, 0, 0, 0, 0, 7]), 0);
+    assert_eq!(recall(&[0x52, 0x32, 0, 0x66, 0, 0, 0, 0, 7, 0x52]), 0);
+}
+
+#[test]
+fn reader_orders() {
+    let stream = [
+        0x40, 0x66, 0x61, 0x41, 0x68, 0x7F, 0x7F, 0x6C, 0x73, 0x7F, 0x44,
+    ];
+    let mut reader = Reader::new();
+    assert_eq!(number(reader.take()), 4);
+    assert_eq!(number(reader.feed(0x80)), 1);
+    reader.feed_all(&stream).unwrap();
+    for byte in [0x40, 0x3F, 0xFF] {
+        assert_eq!(number(reader.feed(byte)), 2);
+    }
+    assert_eq!(number(reader.feed_all(&[])), 2);
+    assert_eq!(number(reader.end()), 2);
+    assert_eq!(number(reader.take()), 0);
+    assert_eq!(number(reader.take()), 4);
+    assert_eq!(number(reader.end()), 0);
+    for byte in [0x40, 0x3F] {
+        assert_eq!(number(reader.feed(byte)), 3);
+    }
+    assert_eq!(number(reader.feed_all(&[])), 3);
+    assert_eq!(number(reader.end()), 3);
+    assert_eq!(number(reader.take()), 4);
+}
+
+#[test]
+fn after_end_comes_before_a_waiting_frame() {
+    let null = [0x66, 0x61, 0x41, 0x68, 0x7F, 0x7F, 0x6C, 0x73, 0x7F, 0x44];
+    let mut bits = rtcm2_model::bits::Bits::opened();
+    bits.push_words(&rtcm2_model::frame::header_words(&header(1), 31));
+    bits.push_frame(&frame(6, 0));
+    let mut reader = Reader::new();
+    reader.feed_all(&bits.to_bytes()).unwrap();
+    assert!(!reader.waits());
+    reader.end().unwrap();
+    assert!(reader.waits());
+    assert_eq!(number(reader.feed(0x3F)), 3);
+    assert_eq!(number(reader.feed_all(&null)), 3);
+    assert_eq!(number(reader.end()), 3);
+    assert_eq!(reader.take().unwrap().position, 66);
+    assert_eq!(number(reader.take()), 4);
+}

@@ -1,0 +1,218 @@
+//! Round trips at random: records to frames and back, frames to bytes and back,
+//! frames to journal records and back.
+
+use rtcm2_model::frame::{check_frame, header_of, header_words, n_of, Frame, Header, State};
+use rtcm2_model::line::bits_of_bytes;
+use rtcm2_model::record::correction::{self, Correction};
+use rtcm2_model::record::health::{self, Health};
+use rtcm2_model::record::{layout, null, position, text, Layout};
+use rtcm2_model::refusal::Answer;
+use rtcm2_model::rng::Rng;
+use rtcm2_model::scan::scan;
+use rtcm2_model::writer::{self, CarriedBits};
+use rtcm2_model::{journal, samples};
+
+#[test]
+fn made_corrections_read_back_equal() {
+    let mut rng = Rng::named("corrections");
+    for round in 0..1000 {
+        let mut entries = [Correction::default(); correction::MOST];
+        entries.fill_with(|| samples::correction(&mut rng));
+        let count = 1 + round % correction::MOST;
+        let type_number = if rng.bit() { 1 } else { 9 };
+        let header = samples::header(&mut rng, type_number);
+        let frame = correction::make(&header, &entries, count).unwrap();
+        assert_eq!(usize::from(frame.n), correction::n_for(count));
+        assert_eq!(check_frame(&frame), Ok(()));
+        assert_eq!(correction::count(&frame), Ok(count));
+        assert_eq!(correction::fill_is_standard(&frame), Ok(true));
+        for (i, entry) in entries[..count].iter().enumerate() {
+            assert_eq!(correction::entry(&frame, i), Ok(*entry));
+        }
+    }
+}
+
+#[test]
+fn made_healths_read_back_equal() {
+    let mut rng = Rng::named("healths");
+    for round in 0..1000 {
+        let mut entries = [Health::default(); health::MOST];
+        entries.fill_with(|| samples::satellite_health(&mut rng));
+        let count = 1 + round % health::MOST;
+        let header = samples::header(&mut rng, 5);
+        let frame = health::make(&header, &entries, count).unwrap();
+        assert_eq!(check_frame(&frame), Ok(()));
+        assert_eq!(health::count(&frame), Ok(count));
+        for (i, entry) in entries[..count].iter().enumerate() {
+            assert_eq!(health::entry(&frame, i), Ok(*entry));
+        }
+    }
+}
+
+#[test]
+fn made_positions_nulls_and_texts_read_back_equal() {
+    let mut rng = Rng::named("positions and texts");
+    for round in 0..1000 {
+        let record = samples::position(&mut rng);
+        let frame = position::make(&samples::header(&mut rng, 3), &record).unwrap();
+        assert_eq!(position::read(&frame), Ok(record));
+
+        let frame = samples::null_frame(&mut rng);
+        assert_eq!(null::read(&frame), Ok(()));
+
+        let count = 1 + round % text::MOST;
+        let codes = samples::characters(&mut rng, count);
+        let frame = text::make(&samples::header(&mut rng, 16), &codes).unwrap();
+        assert_eq!(usize::from(frame.n), count.div_ceil(3));
+        let mut buffer = vec![0xEE; count];
+        assert_eq!(text::read(&frame, &mut buffer), Ok(count));
+        assert_eq!(buffer, codes);
+    }
+}
+
+/// Reads whatever record the frame has and makes the frame anew.
+fn made_anew(frame: &Frame) -> Answer<Frame> {
+    let header = &frame.header;
+    match layout(header.type_number) {
+        Layout::Correction => {
+            let count = correction::count(frame)?;
+            let mut entries = [Correction::default(); correction::MOST];
+            for (i, entry) in entries[..count].iter_mut().enumerate() {
+                *entry = correction::entry(frame, i)?;
+            }
+            correction::make(header, &entries, count)
+        }
+        Layout::Position => position::make(header, &position::read(frame)?),
+        Layout::Health => {
+            let count = health::count(frame)?;
+            let mut entries = [Health::default(); health::MOST];
+            for (i, entry) in entries[..count].iter_mut().enumerate() {
+                *entry = health::entry(frame, i)?;
+            }
+            health::make(header, &entries, count)
+        }
+        Layout::Null => null::read(frame).and_then(|()| null::make(header)),
+        Layout::Text => {
+            let mut buffer = [0; text::MOST];
+            let count = text::read(frame, &mut buffer)?;
+            text::make(header, &buffer[..count])
+        }
+        Layout::Plain => Ok(*frame),
+    }
+}
+
+fn written(frame: &Frame, carried: CarriedBits) -> Vec<u8> {
+    let mut buffer = vec![0; 165];
+    let written = writer::write(frame, carried, &mut buffer).unwrap();
+    buffer.truncate(written.length);
+    buffer
+}
+
+#[test]
+fn readable_frames_made_anew_give_their_own_bits() {
+    let mut rng = Rng::named("made anew");
+    let mut readable = 0;
+    for _ in 0..20_000 {
+        let types = [1, 9, 3, 5, 6, 16];
+        let type_number = types[rng.place(types.len())];
+        let n = rng.below(32) as u8;
+        let mut frame = samples::plain_frame(&mut rng, type_number, n);
+        if type_number == 16 {
+            for word in &mut frame.words {
+                *word &= 0x7F_7F7F;
+            }
+        }
+        let Ok(anew) = made_anew(&frame) else {
+            continue;
+        };
+        readable += 1;
+        let carried = CarriedBits {
+            d29: rng.below(2) as u8,
+            d30: rng.below(2) as u8,
+        };
+        let standard =
+            type_number != 1 && type_number != 9 || correction::fill_is_standard(&frame).unwrap();
+        let same = written(&frame, carried) == written(&anew, carried);
+        assert_eq!(same, standard);
+    }
+    assert!(readable > 5000, "only {readable} frames were readable");
+}
+
+#[test]
+fn sample_frames_made_anew_are_equal() {
+    let mut rng = Rng::named("samples made anew");
+    for _ in 0..5000 {
+        let frame = samples::record_frame(&mut rng);
+        assert_eq!(made_anew(&frame), Ok(frame));
+    }
+}
+
+#[test]
+fn header_words_go_both_ways() {
+    let mut rng = Rng::named("header words");
+    for _ in 0..20_000 {
+        let header = Header {
+            type_number: 1 + rng.below(64) as u16,
+            station: rng.below(1024) as u16,
+            z_count: rng.below(8192) as u16,
+            sequence: rng.below(8) as u8,
+            state: State::of_code(rng.below(8) as u32),
+        };
+        let n = rng.below(32) as u8;
+        let [first, second] = header_words(&header, n);
+        assert_eq!((header_of(first, second), n_of(second)), (header, n));
+        let any = [0x66_0000 | rng.word() & 0xFFFF, rng.word()];
+        assert_eq!(header_words(&header_of(any[0], any[1]), n_of(any[1])), any);
+    }
+}
+
+#[test]
+fn written_streams_give_their_frames() {
+    let mut rng = Rng::named("written streams");
+    for _ in 0..300 {
+        let frames = samples::frames(&mut rng, 6);
+        let mut bytes = vec![0];
+        let mut carried = writer::open(&mut bytes).unwrap().carried;
+        let mut expected = Vec::new();
+        for frame in &frames {
+            expected.push((6 * bytes.len(), *frame));
+            let mut buffer = [0; 165];
+            let written = writer::write(frame, carried, &mut buffer).unwrap();
+            assert_eq!(written.length, 5 * (usize::from(frame.n) + 2));
+            carried = written.carried;
+            bytes.extend(&buffer[..written.length]);
+        }
+        assert_eq!(scan(&bits_of_bytes(&bytes), true), expected);
+    }
+}
+
+#[test]
+fn journal_records_give_their_frames() {
+    let mut rng = Rng::named("journal");
+    for _ in 0..5000 {
+        let mut frame = samples::any_frame(&mut rng);
+        frame.header.z_count = rng.below(8192) as u16;
+        let mut buffer = [0xEE; 110];
+        let length = journal::keep(&frame, &mut buffer).unwrap();
+        assert_eq!(length, 3 * usize::from(frame.n) + 9);
+        assert!(buffer[length..].iter().all(|byte| *byte == 0xEE));
+        assert_eq!(journal::recall(&buffer), Ok((frame, length)));
+        assert_eq!(journal::recall(&buffer[..length]), Ok((frame, length)));
+    }
+}
+
+#[test]
+fn recalled_records_are_kept_as_they_were() {
+    let mut rng = Rng::named("recalled");
+    for _ in 0..5000 {
+        let n = rng.below(32) as u8;
+        let mut bytes = vec![0x52, 0x32, n, 0x66];
+        bytes.resize_with(3 * usize::from(n) + 9, || rng.byte());
+        bytes[8] = bytes[8] & 7 | n << 3;
+        let (frame, length) = journal::recall(&bytes).unwrap();
+        assert_eq!(check_frame(&frame), Ok(()));
+        let mut buffer = vec![0; length];
+        assert_eq!(journal::keep(&frame, &mut buffer), Ok(length));
+        assert_eq!(buffer, bytes);
+    }
+}
