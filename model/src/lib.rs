@@ -16,6 +16,7 @@ pub mod rng;
 pub mod samples;
 pub mod scan;
 pub mod streams;
+pub mod tally;
 pub mod trials;
 pub mod window;
 pub mod word;

@@ -1,7 +1,7 @@
 //! The files that the program `trials` is run on: the streams, their names as
 //! its arguments, and what it must print.
 
-use crate::streams;
+use crate::{streams, tally};
 
 /// The folder of the streams.
 pub const DATA: &str = "data";
@@ -23,7 +23,11 @@ pub fn files() -> Vec<File> {
     for stream in streams::all() {
         let name = format!("{}.bin", stream.name);
         arguments += &format!("{name}\n");
-        output += &format!("{name}\n{}", stream.expected());
+        output += &format!(
+            "{name}\n{}{}",
+            stream.expected(),
+            tally::line(&stream.bytes)
+        );
         files.push(file(&format!("{DATA}/{name}"), stream.bytes));
     }
     files.push(file("args", arguments.into_bytes()));

@@ -1,8 +1,12 @@
 // `trials FILE..` prints each file's name and the listing of its first 4096 bytes. They are listed twice, as one piece and in pieces of seven bytes,
-// and where the two texts differ, both are printed.
+// and where the two texts differ, both are printed. Then comes a line on what becomes of the frames.
 ghost use Prim.Native.Nat.{_≤_};
 ghost use lib.ListN.{length};
 ghost use Rattle.io.specs.Counts.{Counts};
+
+mod again;
+mod tally;
+
 use libc::STDOUT_FILENO;
 use listing::Listing;
 
@@ -97,6 +101,7 @@ fn try_file(i: usize) {
     let size = io::read_full(file, &mut bytes);
     libc::close(file);
     list_twice(&bytes[..size]);
+    tally::print_tally(&bytes[..size]);
 }
 
 fn main() {

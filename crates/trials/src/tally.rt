@@ -1,0 +1,196 @@
+// What becomes of the frames of a stream: each is kept and recalled, its record is read and made again, and it is written.
+use crate::again::made_again;
+use frame::Frame;
+use journal::Found;
+use libc::STDOUT_FILENO;
+use reader::Reader;
+use record::stage::Making;
+use writer::Carried;
+use writer::Written;
+
+// Frames counted, the sums of the bytes kept and written, and the bits carried on.
+struct Tally {
+    records: u64,
+    remade: u64,
+    kept: u64,
+    written: u64,
+    sum: Sum,
+    carried: Carried,
+}
+
+// A sum of bytes and the sum of all sums on the way, modulo 2^64: other bytes, or the same in another order, seldom have the same.
+struct Sum {
+    bytes: u64,
+    sums: u64,
+}
+
+// A reader, and what became of the frames that it has handed out.
+struct Run {
+    reader: Reader,
+    tally: Tally,
+}
+
+// One more, where it is so.
+fn counted(count: u64, is_so: bool) -> u64 {
+    std::num::wrapping_add_u64(count, is_so as u64)
+}
+
+// A number and a byte together, modulo 2^64.
+fn with_byte(number: u64, byte: u8) -> u64 {
+    std::num::wrapping_add_u64(number, byte as u64)
+}
+
+// A sum, with more bytes.
+fn summed(sum: Sum, more: &[u8]) -> Sum {
+    let mut bytes = sum.bytes;
+    let mut sums = sum.sums;
+    let mut i: usize = 0;
+    while i < more.len() {
+        bytes = with_byte(bytes, more[i]);
+        sums = std::num::wrapping_add_u64(sums, bytes);
+        i += 1;
+    }
+    Sum { bytes, sums }
+}
+
+// A frame's journal record, with zeros after it; zeros alone if it is refused.
+fn kept_bytes(frame: Frame) -> [u8; 102] {
+    let mut buffer = [0u8; 102];
+    journal::keep(frame, &mut buffer);
+    buffer
+}
+
+// Whether two frames have the same journal record.
+fn same_frame(a: Frame, b: Frame) -> bool {
+    let first = kept_bytes(a);
+    let second = kept_bytes(b);
+    check::same(&first, &second)
+}
+
+// Whether a frame's journal record gives the frame.
+fn is_kept(frame: Frame) -> bool {
+    let bytes = kept_bytes(frame);
+    let recalled = journal::recall(&bytes);
+    let answer = recalled.answer;
+    match answer {
+        Found::Record(_) => same_frame(frame, recalled.frame),
+        Found::Refused(_) => false,
+    }
+}
+
+// A tally, with a frame's journal record.
+fn with_kept(tally: Tally, frame: Frame) -> Tally {
+    let bytes = kept_bytes(frame);
+    let sum = summed(tally.sum, &bytes);
+    let carried = tally.carried;
+    Tally {
+        records: tally.records,
+        remade: tally.remade,
+        kept: counted(tally.kept, is_kept(frame)),
+        written: tally.written,
+        sum,
+        carried,
+    }
+}
+
+// A tally, with a frame's record.
+fn with_record(tally: Tally, frame: Frame) -> Tally {
+    let made = made_again(frame);
+    let answer = made.answer;
+    if let Making::Refused(_) = answer {
+        return tally;
+    }
+    let is_same = same_frame(frame, made.frame);
+    let sum = tally.sum;
+    let carried = tally.carried;
+    Tally {
+        records: counted(tally.records, true),
+        remade: counted(tally.remade, is_same),
+        kept: tally.kept,
+        written: tally.written,
+        sum,
+        carried,
+    }
+}
+
+// A tally, with a frame written after the bits carried on.
+fn with_written(tally: Tally, frame: Frame) -> Tally {
+    let mut buffer = [0u8; 165];
+    match writer::write(frame, tally.carried, &mut buffer) {
+        Written::Done { bytes: _, carried } => Tally {
+            records: tally.records,
+            remade: tally.remade,
+            kept: tally.kept,
+            written: counted(tally.written, true),
+            sum: summed(tally.sum, &buffer),
+            carried,
+        },
+        Written::Refused(_) => tally,
+    }
+}
+
+// Every waiting frame is taken; no more than sixteen fit into the bits that a reader holds.
+fn emptied(waiting: Reader, before: Tally) -> Run {
+    let mut reader = waiting;
+    let mut tally = before;
+    let mut k: usize = 0;
+    while k < 16 {
+        if !reader.candidate.waits {
+            break;
+        }
+        let taken = reader::take(reader);
+        let frame = taken.frame;
+        reader = taken.reader;
+        tally = with_written(with_record(with_kept(tally, frame), frame), frame);
+        k += 1;
+    }
+    Run { reader, tally }
+}
+
+// Nothing yet: a stream is opened with zero bits.
+fn nothing() -> Tally {
+    Tally {
+        records: 0,
+        remade: 0,
+        kept: 0,
+        written: 0,
+        sum: Sum { bytes: 0, sums: 0 },
+        carried: Carried { d29: 0, d30: 0 },
+    }
+}
+
+// What becomes of the frames of a whole stream.
+fn tally_of(bytes: &[u8]) -> Tally {
+    let mut reader = reader::new();
+    let mut tally = nothing();
+    let mut at: usize = 0;
+    while at < bytes.len() {
+        let fed = reader::feed(reader, bytes[at]);
+        let run = emptied(fed.reader, tally);
+        reader = run.reader;
+        tally = run.tally;
+        at += 1;
+    }
+    let ended = reader::end(reader);
+    let last = emptied(ended.reader, tally);
+    last.tally
+}
+
+// Writes a label and a number.
+fn print_number(label: &[u8], number: u64) {
+    io::write_all(STDOUT_FILENO, label);
+    io::print_decimal(STDOUT_FILENO, number);
+}
+
+// Writes the line of a stream.
+pub(crate) fn print_tally(bytes: &[u8]) {
+    let tally = tally_of(bytes);
+    print_number(b"records ", tally.records);
+    print_number(b" remade ", tally.remade);
+    print_number(b" kept ", tally.kept);
+    print_number(b" written ", tally.written);
+    let sum = tally.sum;
+    print_number(b" sum ", sum.bytes);
+    print_number(b" ", sum.sums);
+    io::write_all(STDOUT_FILENO, b"\n");
+}
