@@ -6,7 +6,7 @@ use Prim.Native.Nat.{ℕ, zero, suc, _+_, _%_, min, _<_}
 use native.Mathlib.Omega.{arith}
 use lib.ListN.{length, getD, replicate}
 use lib.Bits.{bitAnd, bitXor, and-step, xor-add-and}
-use Rattle.bits.specs.Bits.{_⊻_, _⊕_, odd, val, weight, isOne, isOdd}
+use Rattle.bits.specs.Bits.{_⊻_, _⊕_, odd, val, weight, isNonzero, isOdd}
 
 -- ---- ⊻
 
@@ -92,12 +92,12 @@ odd-xors (x ∷ a) (y ∷ b) = ap (λ r. x ⊻ y ⊻ r) (odd-xors a b) ∙ xor-f
 
 -- ---- bits as numbers
 
-pub one-val : (b : Bool) → isOne (val b) ≡ b
+pub one-val : (b : Bool) → isNonzero (val b) ≡ b
 one-val true = refl
 one-val false = refl
 
 pub val-inj : {a b : Bool} → val a ≡ val b → a ≡ b
-val-inj {a} {b} e = sym (one-val a) ∙ ap isOne e ∙ one-val b
+val-inj {a} {b} e = sym (one-val a) ∙ ap isNonzero e ∙ one-val b
 
 pub val-lt : (b : Bool) → val b < 2
 val-lt true = omega arith
@@ -106,7 +106,7 @@ val-lt false = omega arith
 pub val-odd : (n : ℕ) → val (isOdd n) ≡ n % 2
 val-odd n = val-one (n % 2) (omega arith)
   where
-    val-one : (m : ℕ) → m < 2 → val (isOne m) ≡ m
+    val-one : (m : ℕ) → m < 2 → val (isNonzero m) ≡ m
     val-one zero h = refl
     val-one (suc zero) h = refl
     val-one (suc (suc m)) h = absurd (omega arith)
@@ -124,7 +124,7 @@ val-and false true = refl
 val-and false false = refl
 
 pub odd-mod : (a b : ℕ) → a % 2 ≡ b % 2 → isOdd a ≡ isOdd b
-odd-mod a b e = ap isOne e
+odd-mod a b e = ap isNonzero e
 
 pub odd-add : (a b : ℕ) → isOdd (a + b) ≡ isOdd a ⊻ isOdd b
 odd-add a b = val-inj (omega (arith, val-odd (a + b), val-odd a, val-odd b, val-xor (isOdd a) (isOdd b)))

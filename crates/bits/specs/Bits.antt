@@ -22,6 +22,7 @@ abbrev pub odd : List Bool → Bool
 odd [] = false
 odd (b ∷ bs) = b ⊻ odd bs
 
+-- a bit as a number
 abbrev pub val : Bool → ℕ
 val true = 1
 val false = 0
@@ -35,12 +36,13 @@ weight (b ∷ bs) = val b + weight bs
 abbrev pub differ : List Bool → List Bool → ℕ
 differ v w = weight (v ⊕ w)
 
-abbrev pub isOne : ℕ → Bool
-isOne zero = false
-isOne (suc n) = true
+-- a number other than 0; of a bit held as a number, that it is 1
+abbrev pub isNonzero : ℕ → Bool
+isNonzero zero = false
+isNonzero (suc n) = true
 
 abbrev pub isOdd : ℕ → Bool
-isOdd n = isOne (n % 2)
+isOdd n = isNonzero (n % 2)
 
 -- the k lowest bits of n, highest first
 unfoldable pub bits : ℕ → ℕ → List Bool

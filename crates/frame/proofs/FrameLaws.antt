@@ -8,11 +8,11 @@ use native.Mathlib.Omega.{arith}
 use lib.ListN.{length, take, drop, getD, replicate, length-append, length-replicate, length-drop, take-append-drop}
 use lib.Seq.{length-take-le, take-append-seam, drop-append-seam}
 use borrow.Author.Tests.{ltb-false, le-ltb}
-use Rattle.bits.specs.Bits.{bits, number}
+use Rattle.bits.specs.Bits.{bits, number, isNonzero}
 use Rattle.bits.proofs.Numbers.{length-bits, number-bits, number-lt, bits-number}
 use Rattle.frame.specs.Header.{preambled, nOf, headerOf, firstWord, secondWord}
 use Rattle.frame.specs.Frames.{framed, dataWords, wordsOf, frameOf, Below}
-use Rattle.frame.specs.Widths.{anyOf, isWide, isNonzero, headerOutside, outside}
+use Rattle.frame.specs.Widths.{anyOf, isWide, headerOutside, outside}
 use Rattle.frame.specs.declared.Header.{Header}
 use Rattle.frame.specs.declared.Frame.{Frame}
 use Rattle.frame.proofs.HeaderLaws.{length-first, length-second, header-words, first-header, second-header, header-inside}

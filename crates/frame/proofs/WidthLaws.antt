@@ -1,16 +1,17 @@
 -- What refusals 5 and 7 say of an answer, of the numbers of a header and of a list of words. Assumes nothing.
 use mathlib.Core.Path.{_≡_, refl, sym, ap, ap₂, _∙_}
-use mathlib.Core.Bool.{Bool, true, false, not, _||_, cond, true≢false, and-eq-true-iff}
+use mathlib.Core.Bool.{Bool, true, false, _||_, cond, true≢false, and-eq-true-iff}
 use mathlib.Core.List.{List, [], _∷_, _++_}
 use Prim.Native.Nat.{ℕ, zero, suc, _+_, _^_, _≤_, _<_}
 use native.Mathlib.Numerals.{add-one}
 use native.Mathlib.Omega.{arith}
-use lib.Dec.{leb, eqb·suc-zero, leb·suc-suc, leb·zero}
+use lib.Dec.{leb, leb·suc-suc, leb·zero}
 use lib.ListN.{length, drop, getD, replicate, drop-of-length-le}
 use lib.Seq.{drop-cons}
-use borrow.Author.Tests.{leb-true, leb-false, ltb-false, eqb-true, le-leb, lt-leb, le-ltb, not-false}
+use borrow.Author.Tests.{leb-true, leb-false, ltb-false, le-leb, lt-leb, le-ltb, not-false}
 use Rattle.frame.specs.Frames.{Below}
-use Rattle.frame.specs.Widths.{anyOf, isWide, isNonzero, stateOutside, numbersOutside, headerOutside}
+use Rattle.bits.specs.Bits.{isNonzero}
+use Rattle.frame.specs.Widths.{anyOf, isWide, stateOutside, numbersOutside, headerOutside}
 use Rattle.frame.specs.declared.Header.{Header}
 use Rattle.frame.specs.declared.Widths.the-variants.{Within, Outside}
 use Rattle.frame.specs.declared.Clock.the-variants.{Hour, Late}
@@ -107,7 +108,7 @@ any-nonzero (w ∷ ws) = ap₂ _||_ (one w) (any-nonzero ws)
   where
     one : (n : ℕ) → isNonzero n ≡ leb 1 n
     one zero = refl
-    one (suc n) = ap not (eqb·suc-zero n) ∙ sym (leb·suc-suc 0 n ∙ leb·zero n)
+    one (suc n) = sym (leb·suc-suc 0 n ∙ leb·zero n)
 
 pub any-append : (p : ℕ → Bool) (a b : List ℕ) → anyOf p (a ++ b) ≡ anyOf p a || anyOf p b
 any-append p [] b = refl
@@ -133,4 +134,8 @@ pub zeros-any : (ws : List ℕ) → anyOf isNonzero ws ≡ false → ws ≡ repl
 zeros-any [] e = refl
 zeros-any (w ∷ ws) e =
     let n = both-false _ _ e in
-    ap₂ _∷_ (eqb-true w 0 (not-false _ (n .0))) (zeros-any ws (n .1))
+    ap₂ _∷_ (none w (n .0)) (zeros-any ws (n .1))
+  where
+    none : (m : ℕ) → isNonzero m ≡ false → m ≡ 0
+    none zero h = refl
+    none (suc m) h = absurd (true≢false h)

@@ -23,7 +23,7 @@ wordsOf f = number (firstWord (f .header)) ∷ number (secondWord (f .header) (f
 unfoldable pub frameOf : List ℕ → Frame
 frameOf ws = framed (headerOf (bits 24 (getD ws 0 0)) (bits 24 (getD ws 1 0))) (drop 2 ws)
 
--- what stands for a frame where there is none: every bit of its words is zero
+-- what stands for a frame where there is none: type 64, station 0, Z count 0, sequence 0, factor 1.00, N 0, as two words of zeros have it
 unfoldable pub blank : Frame
 unfolding frameOf
 blank = frameOf []

@@ -49,6 +49,7 @@ kindOf (suc c) = suc c
 unfoldable pub nOf : List Bool → ℕ
 nOf second = fieldAt 16 5 second
 
+-- a header from the data bits of words 1 and 2
 unfoldable pub headerOf : List Bool → List Bool → Header
 headerOf first second = record {
   kind = kindOf (fieldAt 8 6 first);
@@ -60,8 +61,10 @@ headerOf first second = record {
 
 -- ---- from header to words
 
+-- word 1: preamble, type, station
 unfoldable pub firstWord : Header → List Bool
 firstWord h = packed (8 ∷ 6 ∷ 10 ∷ []) (preamble ∷ h .kind % 64 ∷ h .station ∷ [])
 
+-- word 2: Z count, sequence, N, health
 unfoldable pub secondWord : Header → ℕ → List Bool
 secondWord h n = packed (13 ∷ 3 ∷ 5 ∷ 3 ∷ []) (h .z ∷ h .sequence ∷ n ∷ codeOf (h .state) ∷ [])

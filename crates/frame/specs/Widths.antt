@@ -5,6 +5,7 @@ use mathlib.Core.List.{List, [], _∷_}
 use Prim.Native.Nat.{ℕ, _^_}
 use lib.Dec.{ltb, leb, eqb}
 use lib.ListN.{drop}
+use Rattle.bits.specs.Bits.{isNonzero}
 use Rattle.frame.specs.Header.{factors}
 use Rattle.frame.specs.declared.State.{State}
 use Rattle.frame.specs.declared.State.the-variants.{Factor, Unmonitored, Down}
@@ -12,16 +13,13 @@ use Rattle.frame.specs.declared.Header.{Header}
 use Rattle.frame.specs.declared.Frame.{Frame}
 
 -- one of a list has a property
-abbrev pub anyOf : (ℕ → Bool) → List ℕ → Bool
+abbrev pub anyOf : {A : Type 0} → (A → Bool) → List A → Bool
 anyOf p [] = false
 anyOf p (x ∷ xs) = p x || anyOf p xs
 
 -- more than 24 bits
 abbrev pub isWide : ℕ → Bool
 isWide w = leb (2 ^ 24) w
-
-abbrev pub isNonzero : ℕ → Bool
-isNonzero w = not (eqb w 0)
 
 -- a factor other than the six
 unfoldable pub stateOutside : State → Bool
@@ -41,6 +39,6 @@ headerOutside h = numbersOutside (h .kind) (h .station) (h .z) (h .sequence) || 
 unfoldable pub outside : Frame → Bool
 outside f = headerOutside (f .header) || ltb 31 (f .n) || anyOf isWide (f .words) || anyOf isNonzero (drop (f .n) (f .words))
 
--- REFUSAL 7: the hour has 6000 steps of 0.6 s
+-- REFUSAL 7: the hour has 6000 steps of 0.6 s; over 8191 is 5, which every order asks first
 abbrev pub late : ℕ → Bool
 late z = leb 6000 z

@@ -22,7 +22,7 @@ pub enum State {
     Down,
 }
 
-// The header without N, which follows from the data words.
+// The header without N, which stands beside it in the frame.
 pub struct Header {
     pub kind: u8,
     pub station: u16,
@@ -124,7 +124,7 @@ pub fn header_of(first: u32, second: u32) -> Header
     }
 }
 
-// What stands for a frame where there is none: every bit of its words is zero.
+// What stands for a frame where there is none: what two words of zeros give, with N 0.
 pub fn no_frame() -> Frame
     ensures { λ r. ⌜ r ≡ blank ⌝ }
 {

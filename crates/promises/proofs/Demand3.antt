@@ -13,9 +13,9 @@ use Rattle.stream.specs.Standing.{Stands, Placed, placed, scan, framesIn, endOf
 use Rattle.stream.specs.Verdict.{decided}
 use Rattle.stream.specs.Places.{StandsIn, FoundOrCovered, Apart, Damaged}
 use Rattle.stream.proofs.Words.{unlike}
-use Rattle.stream.proofs.Verdicts.{verdict-waiting}
+use Rattle.stream.proofs.Verdicts.{verdict-undecided}
 use Rattle.stream.proofs.Scanning.{only, complete, apart}
-use Rattle.stream.proofs.Prefix.{decided-waiting}
+use Rattle.stream.proofs.Prefix.{decided-undecided}
 use Rattle.stream.proofs.InTime as stream
 use Rattle.stream.proofs.Hunting.{MayCome, Idle}
 use Rattle.stream.proofs.Damage.{damaged-nowhere}
@@ -102,8 +102,8 @@ module _ (bs : List ℕ) where
 
       nothing : decided 0 (2 + s .gone) d ≡ []
       nothing =
-          let w = verdict-waiting (afterAll started (served bs) .candidate .words) d (quiet .0) (quiet .1) in
-          decided-waiting (2 + s .gone) (w .0) d (w .1)
+          let w = verdict-undecided (afterAll started (served bs) .candidate .words) d (quiet .0) (quiet .1) in
+          decided-undecided (2 + s .gone) (w .0) d (w .1)
 
       all : decided 0 2 (lineBits bs) ≡ s .hits
       all =

@@ -21,12 +21,12 @@ pairAt cells j = getD cells j 0 % 2 ^ 32 * 2 ^ 32 + getD cells (j + 1) 0 % 2 ^ 3
 
 -- the same with six bits put in at bit `off` of the first: the bits before it, the six, zeros
 abbrev pub putPair : ℕ → ℕ → ℕ → ℕ
-putPair c off six = (c % 2 ^ 32 / 2 ^ (32 - off) * 64 + six) * 2 ^ (58 - off) % 2 ^ 64
+putPair c off sixBits = (c % 2 ^ 32 / 2 ^ (32 - off) * 64 + sixBits) * 2 ^ (58 - off) % 2 ^ 64
 
 -- six bits put in at bit `end`
 unfoldable pub putCells : List ℕ → ℕ → ℕ → List ℕ
-putCells cells end six =
-    let both = putPair (getD cells (end / 32) 0) (end % 32) six in
+putCells cells end sixBits =
+    let both = putPair (getD cells (end / 32) 0) (end % 32) sixBits in
     set (set cells (end / 32) (both / 2 ^ 32)) (end / 32 + 1) (both % 2 ^ 32)
 
 -- all cells moved down by k; the last k stay as they are
@@ -42,4 +42,4 @@ roomCells cells end held = cond (leb end 1216) cells (downCells cells ((end - he
 
 -- SIX BITS PUSHED
 unfoldable pub pushedCells : List ℕ → ℕ → ℕ → ℕ → List ℕ
-pushedCells cells end held six = putCells (roomCells cells end held) (roomEnd end held) six
+pushedCells cells end held sixBits = putCells (roomCells cells end held) (roomEnd end held) sixBits

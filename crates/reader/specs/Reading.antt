@@ -53,12 +53,12 @@ movedTo at end held s = record { end = end; held = s .left; words = s .words; at
 
 -- six bits more, as a number
 unfoldable pub stepCells : List ℕ → Candidate → ℕ → List ℕ
-stepCells cells c six = pushedCells cells (c .end) (c .held) six
+stepCells cells c sixBits = pushedCells cells (c .end) (c .held) sixBits
 
 unfoldable pub stepTo : List ℕ → Candidate → ℕ → Candidate
-stepTo cells c six =
+stepTo cells c sixBits =
     let end = roomEnd (c .end) (c .held) + 6 in
-    movedTo (c .at) end (c .held + 6) (huntOf (stepCells cells c six) end (c .held + 6) (c .words) false)
+    movedTo (c .at) end (c .held + 6) (huntOf (stepCells cells c sixBits) end (c .held + 6) (c .words) false)
 
 unfoldable pub pushed : Reader → ℕ → Reader
 pushed r b = record {
@@ -70,11 +70,14 @@ pushed r b = record {
 -- ---- FEED: 5, 3, 2, 1
 
 -- what feeding and ending have in common: 5, 3, 2
+abbrev pub busyBy : List ℕ → Candidate → Bool → List Check
+busyBy cells c ended = (pastOf cells c, 5) ∷ (ended, 3) ∷ (c .waits, 2) ∷ []
+
 abbrev pub busy : Reader → List Check
-busy r = (past r, 5) ∷ (r .ended, 3) ∷ (r .candidate .waits, 2) ∷ []
+busy r = busyBy (r .cells) (r .candidate) (r .ended)
 
 abbrev pub readyOf : List ℕ → Candidate → Bool → Ready
-readyOf cells c ended = inOrder ((pastOf cells c, 5) ∷ (ended, 3) ∷ (c .waits, 2) ∷ []) ready.Refused ready.Yes
+readyOf cells c ended = inOrder (busyBy cells c ended) ready.Refused ready.Yes
 
 unfoldable pub fedBy : Reader → ℕ → Next
 fedBy r b =

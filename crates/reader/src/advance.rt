@@ -46,12 +46,12 @@ pub(crate) fn step(cells: &mut [u32; 40], c: Candidate, six: u32) -> Candidate
     let end = push(cells, c.end, c.held, six);
     let left = seek(cells, end, held, words);
     if left < 32 + 30 * words {
-        let waiting = Stop {
+        let undecided = Stop {
             left,
             words,
             found: false,
         };
-        return moved(c.at, end, held, waiting);
+        return moved(c.at, end, held, undecided);
     }
     let stop = hunt(cells, end, left, words, false);
     moved(c.at, end, held, stop)
@@ -88,7 +88,7 @@ pub(crate) fn run(cells: &mut [u32; 40], from: Candidate, bytes: &[u8]) -> Ran
     }
 }
 
-// The frame whose N + 2 words stand from bit `first` of the buffer on, two bits after it.
+// The frame of the bits held, its N known.
 pub(crate) fn frame_from(cells: &[u32; 40], end: usize, held: usize, n: usize) -> Frame
     requires { ⌜ (length (now cells) ≡ 40) × (end ≤ 1280) × (held ≤ end) × (n ≡ nAt (heldBits (now cells) end held)) × (62 + 30 * n ≤ held) ⌝ }
     ensures { λ r. ⌜ r ≡ frameAt (heldBits (now (cells .entry)) end held) ⌝ }

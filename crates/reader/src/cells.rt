@@ -6,7 +6,7 @@ ghost use Rattle.bits.specs.Bits.{number};
 ghost use Rattle.reader.specs.Cells.{cellBits, pairAt, putCells, downCells, roomEnd, pushedCells};
 
 // A cell as a wider number.
-fn wide(x: u32) -> u64
+fn as_u64(x: u32) -> u64
     ensures { λ r. ⌜ r ≡ x % 2 ^ 32 ⌝ }
 {
     x as u64
@@ -20,7 +20,7 @@ fn cell(cells: &[u32; 40], j: usize) -> u64
     if 40 <= j {
         return 0;
     }
-    wide(cells[j])
+    as_u64(cells[j])
 }
 
 // The cell that has a bit and the one after it, as one number.
@@ -47,8 +47,8 @@ fn put(cells: &mut [u32; 40], end: usize, six: u32)
 {
     let j = end / 32;
     let off = (end % 32) as u32;
-    let kept = wide(cells[j]) >> (32 - off);
-    let both = (kept * 64 + wide(six)) << (58 - off);
+    let kept = as_u64(cells[j]) >> (32 - off);
+    let both = (kept * 64 + as_u64(six)) << (58 - off);
     cells[j] = (both / 4294967296) as u32;
     cells[j + 1] = (both % 4294967296) as u32;
 }

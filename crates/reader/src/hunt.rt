@@ -9,7 +9,8 @@ ghost use Rattle.word.specs.Word.{dataOf};
 ghost use Rattle.stream.specs.Standing.{right as rightly};
 ghost use Rattle.reader.specs.Hunting.{huntOf};
 
-// Where a hunt stops: the bits left from two before that position on, its words known right, and whether a frame stands there.
+// Where a hunt stops: the bits left from two before that position on, how many of its words are known right (0 where a frame stands), and whether
+// a frame stands there.
 pub struct Stop {
     pub left: usize,
     pub words: usize,

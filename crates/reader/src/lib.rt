@@ -21,7 +21,7 @@ use hunt::n_in;
 use line::Six;
 
 // The position that is looked at: the bits held are the `held` ones before bit `end` of the buffer and start two bits before it; `words` of its
-// words are known right; `at` is its place in the stream modulo 2^32; `waits` says that a frame stands there and waits to be taken.
+// words are known right; `at` is its position in the stream modulo 2^32; `waits` says that a frame stands there and waits to be taken.
 pub struct Candidate {
     pub end: usize,
     pub held: usize,
@@ -30,6 +30,7 @@ pub struct Candidate {
     pub waits: bool,
 }
 
+// The bits not yet decided, the position that is looked at, and whether the input has ended.
 pub struct Reader {
     pub cells: [u32; 40],
     pub candidate: Candidate,

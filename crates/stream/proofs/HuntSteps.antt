@@ -9,7 +9,7 @@ use lib.Dec.{leb}
 use lib.ListN.{length, drop}
 use borrow.Author.Tests.{le-leb, lt-leb, leb-true, leb-false}
 use Rattle.stream.specs.Standing.{wordAt, right, nAt, size}
-use Rattle.stream.specs.Verdict.{Verdict, out, standing, waiting, judged, verdictFrom, Hunted, huntBy, hunt}
+use Rattle.stream.specs.Verdict.{Verdict, out, standing, undecided, judged, verdictFrom, Hunted, huntBy, hunt}
 use Rattle.stream.proofs.Words.{unlike, n-lt}
 
 verdict-step : (k : ℕ) (d : List Bool) → k ≤ 32
@@ -71,8 +71,8 @@ hunt-short e k (b ∷ d) = go (verdictFrom (33 - k) k (b ∷ d)) e (hunt-short e
     go : (s : Verdict) (x : Bool) → length (hunt e 0 d .rest) ≤ length d → length (huntBy s x (b ∷ d) (hunt e 0 d) .rest) ≤ length (b ∷ d)
     go out x h = omega arith
     go standing x h = omega arith
-    go (waiting j) true h = omega arith
-    go (waiting j) false h = omega arith
+    go (undecided j) true h = omega arith
+    go (undecided j) false h = omega arith
 
 -- what is left is the end of what there was
 pub hunt-suffix : (e : Bool) (k : ℕ) (d : List Bool) → hunt e k d .rest ≡ drop (length d - length (hunt e k d .rest)) d
@@ -99,14 +99,14 @@ hunt-suffix e k (b ∷ d) = go (verdictFrom (33 - k) k (b ∷ d)) e (up (hunt-su
         → huntBy s x (b ∷ d) (hunt e 0 d) .rest ≡ drop (length (b ∷ d) - length (huntBy s x (b ∷ d) (hunt e 0 d) .rest)) (b ∷ d)
     go out x h = h
     go standing x h = none (b ∷ d)
-    go (waiting j) true h = h
-    go (waiting j) false h = none (b ∷ d)
+    go (undecided j) true h = h
+    go (undecided j) false h = none (b ∷ d)
 
 -- WHERE THE HUNT STOPS, whatever it began with: at a frame that has come whole, or with less than 992 bits held
 abbrev Low : List Bool → Verdict → Type 0
 Low d out = Unit {0}
 Low d standing = 2 + 30 * size d ≤ length d
-Low d (waiting j) = (length d < 32 + 30 * j) × (j ≤ 32)
+Low d (undecided j) = (length d < 32 + 30 * j) × (j ≤ 32)
 
 verdict-low : (n k : ℕ) (d : List Bool) → n + k ≡ 33 → k ≤ 32 → Low d (verdictFrom n k d)
 unfolding verdictFrom
@@ -135,5 +135,5 @@ hunt-bounded e k (b ∷ d) h = go (verdictFrom (33 - k) k (b ∷ d)) e (verdict-
     go : (v : Verdict) (x : Bool) → Low (b ∷ d) v → Bounded (hunt e 0 d) → Bounded (huntBy v x (b ∷ d) (hunt e 0 d))
     go out x l r = r
     go standing x l r = record { few = omega arith; free = λ f. unlike true refl f; come = λ f. l }
-    go (waiting j) true l r = r
-    go (waiting j) false l r = record { few = l .1; free = λ f. omega (arith, l .0, l .1); come = λ f. unlike false f refl }
+    go (undecided j) true l r = r
+    go (undecided j) false l r = record { few = l .1; free = λ f. omega (arith, l .0, l .1); come = λ f. unlike false f refl }

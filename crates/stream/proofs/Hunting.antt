@@ -8,9 +8,9 @@ use native.Mathlib.Nat.{add-suc, add-zero, zero-add, suc-add}
 use native.Mathlib.Omega.{arith}
 use lib.ListN.{length, drop, length-map}
 use Rattle.stream.specs.Standing.{nAt, size, Stands, Placed, scan}
-use Rattle.stream.specs.Verdict.{RuledOut, RightSoFar, Verdict, out, standing, waiting, verdictFrom, decided, Hunted, huntBy, hunt}
+use Rattle.stream.specs.Verdict.{RuledOut, RightSoFar, Verdict, out, standing, undecided, verdictFrom, decided, Hunted, huntBy, hunt}
 use Rattle.stream.proofs.Words.{unlike, n-lt}
-use Rattle.stream.proofs.Verdicts.{none-so-far, Judged, is-out, is-standing, is-waiting, judge, out-append, out-stays, waiting-falls}
+use Rattle.stream.proofs.Verdicts.{none-so-far, Judged, is-out, is-standing, is-undecided, judge, out-append, out-stays, undecided-falls}
 use Rattle.stream.proofs.Scanning.{scan-miss}
 use Rattle.stream.proofs.Prefix.{decided-out}
 use Rattle.stream.proofs.Turning.{verdict-turned}
@@ -74,9 +74,9 @@ hunts ended k (b ∷ d) p =
     go : (x : Bool) (v : Verdict) → Judged (b ∷ d) v → Hunts x d (hunt x 0 d) → Hunts x (b ∷ d) (huntBy v x (b ∷ d) (hunt x 0 d))
     go x v (is-out r) next = further x b d (hunt x 0 d) (λ e _. out-stays (b ∷ d) e r) (λ _. r) next
     go x v (is-standing t) next = stays x (b ∷ d) 0 true (λ e. t) (λ e. unlike true refl e) (omega arith)
-    go true v (is-waiting j q l t) next =
-        further true b d (hunt true 0 d) (λ e z u. waiting-falls j (b ∷ d) q l (rw (z, append-nil d) at u)) (λ e. unlike true refl e) next
-    go false v (is-waiting j q l t) next = stays false (b ∷ d) j false (λ e. unlike false e refl) (λ e. (q, l)) t
+    go true v (is-undecided j q l t) next =
+        further true b d (hunt true 0 d) (λ e z u. undecided-falls j (b ∷ d) q l (rw (z, append-nil d) at u)) (λ e. unlike true refl e) next
+    go false v (is-undecided j q l t) next = stays false (b ∷ d) j false (λ e. unlike false e refl) (λ e. (q, l)) t
 
 -- THE HUNT OVER BITS TURNED OVER goes the same way
 unfoldable pub turnedHunt : Hunted → Hunted
@@ -91,5 +91,5 @@ hunt-turned e k (b ∷ d) = rw (verdict-turned (33 - k) k (b ∷ d)) (go (verdic
         → huntBy v x (map not (b ∷ d)) (hunt e 0 (map not d)) ≡ turnedHunt (huntBy v x (b ∷ d) (hunt e 0 d))
     go out x ih = ih
     go standing x ih = refl
-    go (waiting j) true ih = ih
-    go (waiting j) false ih = refl
+    go (undecided j) true ih = ih
+    go (undecided j) false ih = refl

@@ -15,7 +15,7 @@ use Rattle.stream.specs.Verdict.{Verdict, verdict, decidedBy, decided}
 use Rattle.stream.specs.Places.{FoundOrCovered}
 use Rattle.stream.proofs.Words.{frame-n}
 use Rattle.stream.proofs.Stand.{stands-long}
-use Rattle.stream.proofs.Verdicts.{Judged, is-out, is-standing, is-waiting, judge-all, verdict-standing}
+use Rattle.stream.proofs.Verdicts.{Judged, is-out, is-standing, is-undecided, judge-all, verdict-standing}
 use Rattle.stream.proofs.Scanning.{later}
 
 pub in-time : (n p q : ℕ) (d : List Bool) → n ≤ q → Stands (drop q d) → q + 992 ≤ length d → FoundOrCovered (placed (p + q) (drop q d)) (decided n p d)
@@ -42,4 +42,4 @@ in-time zero p (suc q) (b ∷ d) l s t =
     go v (is-standing u) (yes x) f g = later sought (placed p (b ∷ d)) (decided past (suc p) d) (f x)
     go v (is-standing u) (no x) f g =
         inr (record { by = placed p (b ∷ d); there = List·Memᴰ·head refl; before = omega (arith, suc-add p q); beyond = omega (arith, x, suc-add p q, frame-n (b ∷ d)) })
-    go v (is-waiting k u h m) x f g = absurd (omega (arith, t, suc-add q 992))
+    go v (is-undecided k u h m) x f g = absurd (omega (arith, t, suc-add q 992))

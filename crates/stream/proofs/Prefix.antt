@@ -8,10 +8,10 @@ use native.Mathlib.Nat.{add-suc, add-zero, suc-add}
 use native.Mathlib.Omega.{arith}
 use lib.ListN.{length, drop, length-append}
 use Rattle.stream.specs.Standing.{wordAt, right, nAt, size, Stands, stands, Placed, placed, scan}
-use Rattle.stream.specs.Verdict.{RuledOut, Verdict, out, standing, waiting, verdict, decidedBy, decided}
+use Rattle.stream.specs.Verdict.{RuledOut, Verdict, out, standing, undecided, verdict, decidedBy, decided}
 use Rattle.stream.proofs.Words.{word-append, n-append}
 use Rattle.stream.proofs.Stand.{stands-long, stands-append, stands-test, not-test, placed-append}
-use Rattle.stream.proofs.Verdicts.{Judged, is-out, is-standing, is-waiting, judge-all, out-stays, out-append, verdict-standing, verdict-out}
+use Rattle.stream.proofs.Verdicts.{Judged, is-out, is-standing, is-undecided, judge-all, out-stays, out-append, verdict-standing, verdict-out}
 
 -- one list begins another
 pub record Begins (a b : List Placed) : Type 0 where
@@ -33,10 +33,10 @@ pub decided-out : (p : ℕ) (b : Bool) (d : List Bool) → RuledOut (b ∷ d) �
 unfolding decided
 decided-out p b d r = rw (verdict-out (b ∷ d) .1 r)
 
-pub decided-waiting : (p k : ℕ) (d : List Bool) → verdict d ≡ waiting k → decided 0 p d ≡ []
+pub decided-undecided : (p k : ℕ) (d : List Bool) → verdict d ≡ undecided k → decided 0 p d ≡ []
 unfolding decided
-decided-waiting p k [] e = refl
-decided-waiting p k (b ∷ d) e = rw e
+decided-undecided p k [] e = refl
+decided-undecided p k (b ∷ d) e = rw e
 
 pub decided-hit : (p : ℕ) (d : List Bool) → Stands d → decided 0 p d ≡ placed p d ∷ decided 0 (p + 30 * size d) (drop (30 * size d) d)
 unfolding decided
@@ -68,7 +68,7 @@ decided-begins zero p (b ∷ d) e =
     go v (is-standing s) f g =
         rw (stands-test (b ∷ (d ++ e)) (stands-append (b ∷ d) e s), placed-append p (b ∷ d) e s, n-append (b ∷ d) e (stands-long (b ∷ d) s))
         (after (placed p (b ∷ d)) (decided (30 * size (b ∷ d) - 1) (suc p) d) (scan (30 * size (b ∷ d) - 1) (suc p) (d ++ e)) f)
-    go v (is-waiting k q l h) f g = record { more = scan 0 p (b ∷ (d ++ e)); is = refl }
+    go v (is-undecided k q l h) f g = record { more = scan 0 p (b ∷ (d ++ e)); is = refl }
 
 -- .. and what is decided later
 pub decided-grows : (n p : ℕ) (d e : List Bool) → Begins (decided n p d) (decided n p (d ++ e))
@@ -89,4 +89,4 @@ decided-grows zero p (b ∷ d) e =
     go v (is-standing s) f g =
         rw (verdict-standing (b ∷ (d ++ e)) .1 (stands-append (b ∷ d) e s), placed-append p (b ∷ d) e s, n-append (b ∷ d) e (stands-long (b ∷ d) s))
         (after (placed p (b ∷ d)) (decided (30 * size (b ∷ d) - 1) (suc p) d) (decided (30 * size (b ∷ d) - 1) (suc p) (d ++ e)) f)
-    go v (is-waiting k q l h) f g = record { more = decided 0 p (b ∷ (d ++ e)); is = refl }
+    go v (is-undecided k q l h) f g = record { more = decided 0 p (b ∷ (d ++ e)); is = refl }

@@ -14,7 +14,7 @@ use Rattle.word.proofs.Linearity.{data-turned, passes-turned}
 use Rattle.frame.specs.Header.{preambled, nOf, headerOf}
 use Rattle.frame.specs.Frames.{framed}
 use Rattle.stream.specs.Standing.{wordAt, right, nAt, size, Stands, stands, dataFrom, frameAt, Placed, placed, scan}
-use Rattle.stream.specs.Verdict.{Verdict, out, standing, waiting, judged, verdictFrom, verdict, decidedBy, decided}
+use Rattle.stream.specs.Verdict.{Verdict, out, standing, undecided, judged, verdictFrom, verdict, decidedBy, decided}
 use Rattle.stream.proofs.Words.{unlike, word-long}
 use Rattle.stream.proofs.Stand.{stands-long, stands-test, test-stands, not-test}
 

@@ -12,7 +12,7 @@ use lib.ListN.{length, length-append}
 use borrow.Author.Count.{below-more}
 use borrow.Author.Tests.{leb-true, leb-false}
 use Rattle.stream.specs.Standing.{wordAt, right, nAt, size, Stands}
-use Rattle.stream.specs.Verdict.{RuledOut, RightSoFar, Verdict, out, standing, waiting, judged, verdictFrom, verdict}
+use Rattle.stream.specs.Verdict.{RuledOut, RightSoFar, Verdict, out, standing, undecided, judged, verdictFrom, verdict}
 use Rattle.stream.proofs.Words.{unlike, n-lt, word-append, n-append}
 
 -- ---- the words so far
@@ -62,19 +62,19 @@ pub out-stays : (d e : List Bool) → RuledOut d → Stands (d ++ e) → ⊥
 out-stays d e r = out-falls (d ++ e) (out-append d e r)
 
 -- a position whose next word has not come does not stand
-pub waiting-falls : (k : ℕ) (d : List Bool) → RightSoFar k d → length d < 32 + 30 * k → Stands d → ⊥
-waiting-falls k d p l s = omega (arith, p .inside, s .taken)
+pub undecided-falls : (k : ℕ) (d : List Bool) → RightSoFar k d → length d < 32 + 30 * k → Stands d → ⊥
+undecided-falls k d p l s = omega (arith, p .inside, s .taken)
 
 -- nor is it ruled out: a word that fails has come, so it would be one of the k that are right
-waiting-not-out : (k : ℕ) (d : List Bool) → RightSoFar k d → length d < 32 + 30 * k → RuledOut d → ⊥
-waiting-not-out k d p l r = unlike (right (r .k) (wordAt (r .k) d)) (p .good (r .k) (omega (arith, r .come))) (r .fails)
+undecided-not-out : (k : ℕ) (d : List Bool) → RightSoFar k d → length d < 32 + 30 * k → RuledOut d → ⊥
+undecided-not-out k d p l r = unlike (right (r .k) (wordAt (r .k) d)) (p .good (r .k) (omega (arith, r .come))) (r .fails)
 
 -- ---- the verdict
 
 pub data Judged (d : List Bool) : Verdict → Type 0 where
   is-out : RuledOut d → Judged d out
   is-standing : Stands d → Judged d standing
-  is-waiting : (k : ℕ) → RightSoFar k d → length d < 32 + 30 * k → k ≤ 32 → Judged d (waiting k)
+  is-undecided : (k : ℕ) → RightSoFar k d → length d < 32 + 30 * k → k ≤ 32 → Judged d (undecided k)
 
 pub judge : (n k : ℕ) (d : List Bool) → n + k ≡ 33 → RightSoFar k d → Judged d (verdictFrom n k d)
 unfolding verdictFrom
@@ -85,7 +85,7 @@ judge (suc n) k d e p =
   where
     go : (a : Bool) → leb (32 + 30 * k) (length d) ≡ a → (b : Bool) → right k (wordAt k d) ≡ b → (c : Bool) → leb (size d) (suc k) ≡ c
         → (RightSoFar (suc k) d → Judged d (verdictFrom n (suc k) d)) → Judged d (judged a b c k (verdictFrom n (suc k) d))
-    go false ea b eb c ec next = is-waiting k p (leb-false (32 + 30 * k) (length d) ea) (omega (arith, p .inside, n-lt d))
+    go false ea b eb c ec next = is-undecided k p (leb-false (32 + 30 * k) (length d) ea) (omega (arith, p .inside, n-lt d))
     go true ea false eb c ec next = is-out record { k = k; come = leb-true (32 + 30 * k) (length d) ea; inside = p .inside; fails = eb }
     go true ea true eb true ec next = is-standing record {
       taken = omega (arith, leb-true (32 + 30 * k) (length d) ea, leb-true (size d) (suc k) ec);
@@ -103,12 +103,12 @@ verdict-standing d = (λ e. there (verdict d) (judge-all d) e, λ s. back (verdi
     there : (v : Verdict) → Judged d v → v ≡ standing → Stands d
     there v (is-out r) e = absurd (let z : _≡_ {A = ℕ} 0 1 = cc in omega arith)
     there v (is-standing s) e = s
-    there v (is-waiting k p l h) e = absurd (let z : _≡_ {A = ℕ} 0 1 = cc in omega arith)
+    there v (is-undecided k p l h) e = absurd (let z : _≡_ {A = ℕ} 0 1 = cc in omega arith)
 
     back : (v : Verdict) → Judged d v → Stands d → v ≡ standing
     back v (is-out r) s = absurd (out-falls d r s)
     back v (is-standing t) s = refl
-    back v (is-waiting k p l h) s = absurd (waiting-falls k d p l s)
+    back v (is-undecided k p l h) s = absurd (undecided-falls k d p l s)
 
 -- RULED OUT exactly when the verdict says so
 pub verdict-out : (d : List Bool) → (verdict d ≡ out) ↔ RuledOut d
@@ -117,27 +117,27 @@ verdict-out d = (λ e. there (verdict d) (judge-all d) e, λ r. back (verdict d)
     there : (v : Verdict) → Judged d v → v ≡ out → RuledOut d
     there v (is-out r) e = r
     there v (is-standing s) e = absurd (let z : _≡_ {A = ℕ} 0 1 = cc in omega arith)
-    there v (is-waiting k p l h) e = absurd (let z : _≡_ {A = ℕ} 0 1 = cc in omega arith)
+    there v (is-undecided k p l h) e = absurd (let z : _≡_ {A = ℕ} 0 1 = cc in omega arith)
 
     back : (v : Verdict) → Judged d v → RuledOut d → v ≡ out
     back v (is-out q) r = refl
     back v (is-standing s) r = absurd (out-falls d r s)
-    back v (is-waiting k p l h) r = absurd (waiting-not-out k d p l r)
+    back v (is-undecided k p l h) r = absurd (undecided-not-out k d p l r)
 
 -- WAITING: the words that have come are right, and the next has not
-pub verdict-waiting : (k : ℕ) (d : List Bool) → RightSoFar k d → length d < 32 + 30 * k → (j : ℕ) × (verdict d ≡ waiting j)
-verdict-waiting k d p l = go (verdict d) (judge-all d)
+pub verdict-undecided : (k : ℕ) (d : List Bool) → RightSoFar k d → length d < 32 + 30 * k → (j : ℕ) × (verdict d ≡ undecided j)
+verdict-undecided k d p l = go (verdict d) (judge-all d)
   where
-    go : (v : Verdict) → Judged d v → (j : ℕ) × (v ≡ waiting j)
-    go v (is-out r) = absurd (waiting-not-out k d p l r)
-    go v (is-standing s) = absurd (waiting-falls k d p l s)
-    go v (is-waiting j q m h) = (j, refl)
+    go : (v : Verdict) → Judged d v → (j : ℕ) × (v ≡ undecided j)
+    go v (is-out r) = absurd (undecided-not-out k d p l r)
+    go v (is-standing s) = absurd (undecided-falls k d p l s)
+    go v (is-undecided j q m h) = (j, refl)
 
 -- DECIDED once 990 bits from the position, so 992 from two bits before it, have come
-pub decided-by-990 : (d : List Bool) → 992 ≤ length d → (k : ℕ) → verdict d ≡ waiting k → ⊥
+pub decided-by-990 : (d : List Bool) → 992 ≤ length d → (k : ℕ) → verdict d ≡ undecided k → ⊥
 decided-by-990 d l k e = go (verdict d) (judge-all d) e
   where
-    go : (v : Verdict) → Judged d v → v ≡ waiting k → ⊥
+    go : (v : Verdict) → Judged d v → v ≡ undecided k → ⊥
     go v (is-out r) f = let z : _≡_ {A = ℕ} 0 1 = cc in omega arith
     go v (is-standing s) f = let z : _≡_ {A = ℕ} 0 1 = cc in omega arith
-    go v (is-waiting j p h b) f = omega arith
+    go v (is-undecided j p h b) f = omega arith

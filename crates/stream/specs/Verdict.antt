@@ -24,18 +24,18 @@ pub record RightSoFar (k : ℕ) (d : List Bool) : Type 0 where
 pub data Verdict : Type 0 where
   out : Verdict
   standing : Verdict
-  waiting : ℕ → Verdict
+  undecided : ℕ → Verdict
 
 -- by: word k has come; it is right; it is the last
 abbrev pub judged : Bool → Bool → Bool → ℕ → Verdict → Verdict
-judged false r l k next = waiting k
+judged false r l k next = undecided k
 judged true false l k next = out
 judged true true true k next = standing
 judged true true false k next = next
 
 -- from word k on; a frame has at most 33 words, and n + k is 33
 unfoldable pub verdictFrom : ℕ → ℕ → List Bool → Verdict
-verdictFrom zero k d = waiting k
+verdictFrom zero k d = undecided k
 verdictFrom (suc n) k d =
     let next = verdictFrom n (suc k) d in
     judged (leb (32 + 30 * k) (length d)) (right k (wordAt k d)) (leb (size d) (suc k)) k next
@@ -47,7 +47,7 @@ verdict d = verdictFrom 33 0 d
 abbrev pub decidedBy : Verdict → List Placed → List Placed → List Placed
 decidedBy out found next = next
 decidedBy standing found next = found
-decidedBy (waiting k) found next = []
+decidedBy (undecided k) found next = []
 
 unfoldable pub decided : ℕ → ℕ → List Bool → List Placed
 decided skip p [] = []
@@ -58,7 +58,7 @@ decided zero p (b ∷ d) =
 decided (suc skip) p (b ∷ d) = decided skip (suc p) d
 
 -- THE HUNT from word k of a position on: what is left from two bits before the position where it stops, how many words of that position are
--- known right, and whether a frame stands there. After the end a position whose next word has not come is ruled out.
+-- known right (0 where a frame stands), and whether a frame stands there. After the end a position whose next word has not come is ruled out.
 pub record Hunted : Type 0 where
   pub rest : List Bool
   pub words : ℕ
@@ -67,8 +67,8 @@ pub record Hunted : Type 0 where
 abbrev pub huntBy : Verdict → Bool → List Bool → Hunted → Hunted
 huntBy out ended d next = next
 huntBy standing ended d next = record { rest = d; words = 0; found = true }
-huntBy (waiting j) true d next = next
-huntBy (waiting j) false d next = record { rest = d; words = j; found = false }
+huntBy (undecided j) true d next = next
+huntBy (undecided j) false d next = record { rest = d; words = j; found = false }
 
 unfoldable pub hunt : Bool → ℕ → List Bool → Hunted
 hunt ended k [] = record { rest = []; words = k; found = false }

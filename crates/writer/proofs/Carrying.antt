@@ -6,7 +6,7 @@ use Prim.Native.Nat.{ℕ, suc, _+_, _-_, _*_, _/_, _%_, _≤_, _<_}
 use native.Mathlib.Omega.{arith}
 use lib.ListN.{length, drop, getD, length-append}
 use lib.Seq.{getD-drop, getD-append-add}
-use Rattle.bits.specs.Bits.{val, isOne, isOdd, bits, number}
+use Rattle.bits.specs.Bits.{val, isNonzero, isOdd, bits, number}
 use Rattle.bits.proofs.Xor.{val-odd}
 use Rattle.bits.proofs.Numbers.{bits-number, bits-mod, bits-last}
 use Rattle.word.specs.Word.{nth, d29*, d30*, sent}
@@ -72,16 +72,16 @@ pair-lt c (w ∷ ws) h = pair-lt (pairAfter c (w ∷ [])) ws (omega arith)
 -- ---- the pair as two bits
 
 -- of a carried pair, both bits 0 or 1, to its number ..
-pub pair-29 : (a b : ℕ) → a ≤ 1 → b ≤ 1 → isOne a ≡ d29* (bits 2 (a * 2 + b))
+pub pair-29 : (a b : ℕ) → a ≤ 1 → b ≤ 1 → isNonzero a ≡ d29* (bits 2 (a * 2 + b))
 unfolding bits
-pair-29 a b p q = ap isOne high
+pair-29 a b p q = ap isNonzero high
   where
     high : a ≡ (a * 2 + b) / 2 % 2
     high = omega arith
 
-pub pair-30 : (a b : ℕ) → a ≤ 1 → b ≤ 1 → isOne b ≡ d30* (bits 2 (a * 2 + b))
+pub pair-30 : (a b : ℕ) → a ≤ 1 → b ≤ 1 → isNonzero b ≡ d30* (bits 2 (a * 2 + b))
 unfolding bits
-pair-30 a b p q = ap isOne low
+pair-30 a b p q = ap isNonzero low
   where
     low : b ≡ (a * 2 + b) / 1 % 2
     low = omega arith

@@ -8,7 +8,7 @@ use lib.ListN.{length, take, drop}
 use lib.Dec.{ltb}
 use borrow.Author.Tests.{le-ltb}
 use Rattle.answer.proofs.OrderLaws.{NoneApplies}
-use Rattle.bits.specs.Bits.{val, isOne}
+use Rattle.bits.specs.Bits.{val, isNonzero}
 use Rattle.bits.proofs.Xor.{one-val, val-lt}
 use Rattle.line.specs.Line.{lineBits}
 use Rattle.word.specs.Word.{d29*, d30*}
@@ -49,7 +49,7 @@ module _ (f : Frame) (full : length (f .words) ≡ 31) (c : Carried) (l : List �
   wrote-bits = ap lineBits wrote-front ∙ line-bytes (bytesOf f) (bitsAfter c f) (omega (arith, long, length-words f (none .1 .1 .0) full))
     where
       long : length (bitsAfter c f) ≡ 30 * length (wordsOf f)
-      long = length-sentFrom (isOne (c .d29)) (isOne (c .d30)) (wordsOf f)
+      long = length-sentFrom (isNonzero (c .d29)) (isNonzero (c .d30)) (wordsOf f)
 
 -- ---- WHAT `write` WRITES STANDS AND IS THAT FRAME
 
@@ -57,8 +57,8 @@ pub wrote : (f : Frame) → length (f .words) ≡ 31 → (c : Carried) (l : List
     → writtenBy f c l ≡ Done k c′ → Wrote f c l k c′
 wrote f full c l k c′ e = record {
   count = count;
-  stands = λ rest. subst Stands (sym (line rest)) (written-stands f (none .1 .1 .0) full (isOne (c .d29)) (isOne (c .d30)) rest);
-  is = λ rest. ap frameAt (line rest) ∙ written-is f (none .1 .1 .0) full (isOne (c .d29)) (isOne (c .d30)) rest;
+  stands = λ rest. subst Stands (sym (line rest)) (written-stands f (none .1 .1 .0) full (isNonzero (c .d29)) (isNonzero (c .d30)) rest);
+  is = λ rest. ap frameAt (line rest) ∙ written-is f (none .1 .1 .0) full (isNonzero (c .d29)) (isNonzero (c .d30)) rest;
   last = last ∙ ap carriedOn (sym bits);
   kept = ap (λ n. drop n (writtenTo f c l)) count ∙ wrote-back f full c l none ∙ ap (λ n. drop n l) (sym count);
 }
@@ -78,8 +78,8 @@ wrote f full c l k c′ e = record {
     bits : lineBits (take k (writtenTo f c l)) ≡ bitsAfter c f
     bits = ap (λ n. lineBits (take n (writtenTo f c l))) count ∙ wrote-bits f full c l none
 
-    line : (rest : List Bool) → lineAfter c (take k (writtenTo f c l)) rest ≡ isOne (c .d29) ∷ isOne (c .d30) ∷ (bitsAfter c f ++ rest)
-    line rest = ap (λ bs. isOne (c .d29) ∷ isOne (c .d30) ∷ (bs ++ rest)) bits
+    line : (rest : List Bool) → lineAfter c (take k (writtenTo f c l)) rest ≡ isNonzero (c .d29) ∷ isNonzero (c .d30) ∷ (bitsAfter c f ++ rest)
+    line rest = ap (λ bs. isNonzero (c .d29) ∷ isNonzero (c .d30) ∷ (bs ++ rest)) bits
 
 -- ---- A FRAME THAT STANDS, Z BELOW 6000, IS WRITTEN BACK, if the buffer has room for it
 

@@ -4,7 +4,7 @@ use mathlib.Core.Bool.{Bool}
 use mathlib.Core.List.{List, _∷_, _++_}
 use Prim.Native.Nat.{ℕ, _*_}
 use lib.ListN.{take, drop}
-use Rattle.bits.specs.Bits.{val, isOne}
+use Rattle.bits.specs.Bits.{val, isNonzero}
 use Rattle.line.specs.Line.{lineBits}
 use Rattle.word.specs.Word.{d29*, d30*}
 use Rattle.frame.specs.declared.Frame.{Frame}
@@ -16,7 +16,7 @@ use Rattle.writer.specs.declared.Written.the-variants.{Done}
 
 -- the stream from two carried bits on: the bits of bytes, and whatever follows
 abbrev pub lineAfter : Carried → List ℕ → List Bool → List Bool
-lineAfter c bytes rest = isOne (c .d29) ∷ isOne (c .d30) ∷ (lineBits bytes ++ rest)
+lineAfter c bytes rest = isNonzero (c .d29) ∷ isNonzero (c .d30) ∷ (lineBits bytes ++ rest)
 
 -- WRITTEN: k bytes at the front of the buffer, after the carried pair c; c′ is the pair carried on
 pub record Wrote (f : Frame) (c : Carried) (buffer : List ℕ) (k : ℕ) (c′ : Carried) : Type 0 where

@@ -3,7 +3,7 @@ use mathlib.Core.Bool.{Bool, false}
 use mathlib.Core.List.{List, [], _∷_, _++_}
 use Prim.Native.Nat.{ℕ, zero, suc, _+_, _-_, _*_, _%_}
 use lib.ListN.{length, take, drop, getD}
-use Rattle.bits.specs.Bits.{val, isOne, bits, number}
+use Rattle.bits.specs.Bits.{val, isNonzero, bits, number}
 use Rattle.line.specs.Line.{byteOf}
 use Rattle.word.specs.Word.{nth, d29*, d30*, sent}
 use Rattle.word.specs.Answer.{sentAt}
@@ -24,7 +24,7 @@ frameBits a b f = sentFrom a b (wordsOf f)
 
 -- the same after a carried pair
 abbrev pub bitsAfter : Carried → Frame → List Bool
-bitsAfter c f = frameBits (isOne (c .d29)) (isOne (c .d30)) f
+bitsAfter c f = frameBits (isNonzero (c .d29)) (isNonzero (c .d30)) f
 
 -- the pair that bits carry on: their last two
 abbrev pub carriedOn : List Bool → Carried

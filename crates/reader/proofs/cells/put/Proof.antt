@@ -8,19 +8,19 @@ use Rattle.reader.proofs.cells.put.Statement.{statement}
 use Rattle.reader.proofs.cells.put.Tie as tie
 
 mul-both : tie.Need-mul-both
-mul-both c = omega (arith, c .wide .ensures, div-le-self (c .wide .result) (2 ^ (32 - c .before .before .args .end % 32)))
+mul-both c = omega (arith, c .as-u64 .ensures, div-le-self (c .as-u64 .result) (2 ^ (32 - c .before .before .args .end % 32)))
 
 add-both : tie.Need-add-both
 add-both c =
-    omega (arith, c .before .wide .ensures, c .wide2 .ensures, div-le-self (c .before .wide .result) (2 ^ (32 - c .before .before .before .args .end % 32)))
+    omega (arith, c .before .as-u64 .ensures, c .as-u642 .ensures, div-le-self (c .before .as-u64 .result) (2 ^ (32 - c .before .before .before .args .end % 32)))
 
 returns : tie.Need-returns
 unfolding putCells
 returns c =
     let s = c .before .before .before in
     let small : s .args .six % 2 ^ 32 ≡ s .args .six = omega (arith, s .pre .2) in
-    let e : c .wide2 .result ≡ s .args .six = c .wide2 .ensures ∙ small in
-    rw (c .before .wide .ensures, e)
+    let e : c .as-u642 .result ≡ s .args .six = c .as-u642 .ensures ∙ small in
+    rw (c .before .as-u64 .ensures, e)
 
 pub put-spec : {M : Type 1} → statement M
 put-spec =
