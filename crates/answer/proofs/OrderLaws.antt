@@ -8,19 +8,7 @@ use Prim.Native.Nat.{ℕ, suc, _<_}
 use native.Mathlib.Omega.{arith}
 use lib.ListN.{length, take, drop, getD}
 use lib.Seq.{split-at}
-use Rattle.answer.specs.Order.{Says, refuses, answers, Check, inOrder}
-
--- no check applies
-abbrev pub NoneApplies : List Check → Type 0
-NoneApplies [] = Unit {0}
-NoneApplies (c ∷ cs) = (c .0 ≡ false) × NoneApplies cs
-
--- the first check that applies has the number n
-pub record FirstIs (cs : List Check) (n : ℕ) : Type 0 where
-  pub front : List Check
-  pub back : List Check
-  pub split : cs ≡ front ++ ((true, n) ∷ back)
-  pub none : NoneApplies front
+use Rattle.answer.specs.Order.{Says, refuses, answers, Check, inOrder, NoneApplies, FirstIs}
 
 module _ {A : Type 0} (refuse : ℕ → A) (answer : A) where
   pub order-answers : (cs : List Check) → NoneApplies cs → inOrder cs refuse answer ≡ answer

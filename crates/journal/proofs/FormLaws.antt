@@ -10,8 +10,8 @@ use lib.Dec.{ltb, eqb}
 use lib.ListN.{length, take, drop, getD, replicate, length-append, length-drop}
 use lib.Seq.{take-add}
 use borrow.Author.Tests.{ltb-false, eqb-true, not-false, le-ltb, eq-eqb}
-use Rattle.answer.specs.Order.{inOrder}
-use Rattle.answer.proofs.OrderLaws.{NoneApplies, order-answers, order-map, says-none}
+use Rattle.answer.specs.Order.{inOrder, NoneApplies}
+use Rattle.answer.proofs.OrderLaws.{order-answers, order-map, says-none}
 use Rattle.bits.specs.Fields.{Fit}
 use Rattle.frame.proofs.WidthLaws.{both-false}
 use Rattle.journal.specs.Bytes.{AreBytes, written, wordsIn}

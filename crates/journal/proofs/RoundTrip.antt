@@ -8,8 +8,8 @@ use native.Mathlib.Omega.{arith}
 use lib.Dec.{eqb}
 use lib.ListN.{length, take, drop, replicate}
 use borrow.Author.Tests.{eqb-true, not-false, le-ltb, eq-eqb}
-use Rattle.answer.specs.Order.{answers, refuses}
-use Rattle.answer.proofs.OrderLaws.{NoneApplies, order-answers, order-map, none-append, none-parts, says-none}
+use Rattle.answer.specs.Order.{answers, refuses, NoneApplies}
+use Rattle.answer.proofs.OrderLaws.{order-answers, order-map, none-append, none-parts, says-none}
 use Rattle.bits.specs.Bits.{bits, number}
 use Rattle.bits.specs.Fields.{Fit}
 use Rattle.bits.proofs.Numbers.{bits-number}

@@ -6,7 +6,7 @@ use lib.Dec.{ltb}
 use lib.ListN.{length, drop}
 use lib.Seq.{sets}
 use Rattle.answer.specs.Order.{Says, refuses, answers, Check, inOrder}
-use Rattle.reader.specs.Reading.{started, past, busy, fedAllBy, endedBy, takenBy}
+use Rattle.reader.specs.Reading.{started, past, busy, fedAllBy, endedBy, takenBy, saysAnswer, carrying}
 use Rattle.reader.specs.declared.Reader.{Reader}
 use Rattle.reader.specs.declared.Taken.{Taken}
 use Rattle.reader.specs.declared.Answer.{Answer}
@@ -116,3 +116,7 @@ finishBy l room = inOrder (endOrder l room) (refused l) (listed (finalLines l))
 
 unfoldable pub finishText : Listing → List ℕ → List ℕ
 finishText l out = inOrder (endOrder l (length out)) (λ n. out) (sets out 0 (finalLines l .text))
+
+-- ---- an answer in the table's terms: how many bytes were used, and how many written
+abbrev pub saysListed : Listed → Says (ℕ × ℕ)
+saysListed x = carrying (x .used, x .written) (saysAnswer (x .answer))

@@ -17,13 +17,8 @@ use Rattle.frame.specs.Widths.{headerOutside, outside}
 use Rattle.frame.specs.declared.Header.{Header}
 use Rattle.frame.specs.declared.Frame.{Frame}
 use Rattle.frame.proofs.FrameLaws.{data-framed, framed-inside, framed-again, words-below, below-take, length-data as length-data-words}
-use Rattle.pack.specs.Coding.{Coding, frameBits, entryIn, rowsOf, entryBits, frameWith, anyEntry}
+use Rattle.pack.specs.Coding.{Coding, frameBits, entryIn, rowsOf, entryBits, frameWith, anyEntry, Each}
 use Rattle.pack.proofs.Words.{below-cut, words-data}
-
--- each entry of a list
-abbrev pub Each : {A : Type 0} → (A → Type 0) → List A → Type 0
-Each P [] = Unit {0}
-Each P (e ∷ es) = P e × Each P es
 
 -- a good entry's codes fit their widths and mean it; codes that fit are those of what they mean
 pub record Faithful {A : Type 0} (k : Coding A) (Good : A → Type 0) : Type 0 where

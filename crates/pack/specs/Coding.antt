@@ -37,3 +37,8 @@ frameWith pattern k h es = framed h (wordsIn pattern (entryBits k es))
 abbrev pub anyEntry : {A : Type 0} → (A → Bool) → List A → Bool
 anyEntry p [] = false
 anyEntry p (e ∷ es) = p e || anyEntry p es
+
+-- each entry of a list
+abbrev pub Each : {A : Type 0} → (A → Type 0) → List A → Type 0
+Each P [] = Unit {0}
+Each P (e ∷ es) = P e × Each P es

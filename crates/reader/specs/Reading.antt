@@ -8,6 +8,7 @@ use Rattle.answer.specs.Order.{Says, refuses, answers, Check, inOrder}
 use Rattle.bits.specs.Bits.{number}
 use Rattle.line.specs.Line.{isData, six}
 use Rattle.frame.specs.Frames.{blank}
+use Rattle.frame.specs.declared.Frame.{Frame}
 use Rattle.stream.specs.Standing.{size, frameAt}
 use Rattle.reader.specs.Cells.{heldBits, roomEnd, pushedCells}
 use Rattle.reader.specs.Hunting.{huntOf}
@@ -143,3 +144,20 @@ takenBy r =
 abbrev pub saysAnswer : Answer → Says (Unit {0})
 saysAnswer Done = answers tt
 saysAnswer (Refused n) = refuses n
+
+-- other values in place of those that an answer has
+abbrev pub carrying : {A B : Type 0} → B → Says A → Says B
+carrying v (refuses n) = refuses n
+carrying v (answers a) = answers v
+
+-- feeding a byte and ending: no value
+abbrev pub saysNext : Next → Says (Unit {0})
+saysNext x = saysAnswer (x .answer)
+
+-- feeding bytes: how many were used, and how many of those carry no bit
+abbrev pub saysFedAll : FedAll → Says (ℕ × ℕ)
+saysFedAll x = carrying (x .used, x .passed) (saysAnswer (x .answer))
+
+-- taking: the position and the frame
+abbrev pub saysTaken : Taken → Says (ℕ × Frame)
+saysTaken x = carrying (x .at, x .frame) (saysAnswer (x .answer))

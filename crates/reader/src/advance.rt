@@ -36,6 +36,21 @@ pub(crate) fn moved(at: u32, end: usize, held: usize, stop: Stop) -> Candidate
     }
 }
 
+// Six bits more that bring no word to its end: they are held, and there is nothing to hunt for.
+fn hold(cells: &mut [u32; 40], c: Candidate, six: u32) -> Candidate
+    requires { ⌜ (length (now cells) ≡ 40) × (c .end ≤ 1280) × (c .held ≤ c .end) × (c .held ≤ 991) × (c .words ≤ 32) × (six < 64) × (c .held + 6 < 32 + 30 * c .words) ⌝ }
+    ensures { λ r. ⌜ (r ≡ stepTo (now (cells .entry)) c six) × (now (cells .exit) ≡ stepCells (now (cells .entry)) c six) ⌝ }
+{
+    let held = c.held + 6;
+    let end = push(cells, c.end, c.held, six);
+    let undecided = Stop {
+        left: held,
+        words: c.words,
+        found: false,
+    };
+    moved(c.at, end, held, undecided)
+}
+
 // Six bits more, and the hunt goes on; where the next word has not come there is nothing to hunt for.
 pub(crate) fn step(cells: &mut [u32; 40], c: Candidate, six: u32) -> Candidate
     requires { ⌜ (length (now cells) ≡ 40) × (c .end ≤ 1280) × (c .held ≤ c .end) × (c .held ≤ 991) × (c .words ≤ 32) × (six < 64) ⌝ }
@@ -76,7 +91,11 @@ pub(crate) fn run(cells: &mut [u32; 40], from: Candidate, bytes: &[u8]) -> Ran
         let line = line::six_of(bytes[used]);
         used += 1;
         if let Six::Bits(six) = line {
-            c = step(cells, c, six);
+            if c.held + 6 < 32 + 30 * c.words {
+                c = hold(cells, c, six);
+            } else {
+                c = step(cells, c, six);
+            }
         } else {
             passed += 1;
         }

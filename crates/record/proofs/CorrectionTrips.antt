@@ -1,8 +1,9 @@
--- Made then read, and read then made, for types 1 and 9: what the layout owes, and the two theorems. Assumes nothing.
-use mathlib.Core.Path.{_≡_, refl, ap, ap₂, _∙_}
-use mathlib.Core.Bool.{true, false, _||_}
+-- Types 1 and 9: what the layout owes; what can be sent is made, made then read, read then made; what a frame holds is read.
+-- Assumes nothing.
+use mathlib.Core.Path.{_≡_, ap, ap₂, _∙_}
+use mathlib.Core.Bool.{false, _||_}
 use mathlib.Core.List.{List, [], _∷_}
-use Prim.Native.Nat.{ℕ, zero, suc, _+_, _*_, _/_, _≤_, _<_}
+use Prim.Native.Nat.{ℕ, _+_, _*_, _/_, _≤_, _<_}
 use native.Mathlib.Omega.{arith}
 use lib.Dec.{ltb}
 use lib.ListN.{length, take, getD}
@@ -14,16 +15,17 @@ use Rattle.frame.specs.declared.Header.{Header}
 use Rattle.frame.specs.declared.Frame.{Frame}
 use Rattle.frame.specs.declared.Layout.the-variants as layout
 use Rattle.frame.proofs.WidthLaws.{both-false}
-use Rattle.pack.proofs.Round.{Each, Faithful}
+use Rattle.pack.specs.Coding.{frameWith, Each}
+use Rattle.pack.proofs.Round.{Faithful}
 use Rattle.record.specs.declared.stage.Count.the-variants as count
 use Rattle.record.specs.declared.correction.Correction.{Correction}
 use Rattle.record.specs.declared.correction.CorrectionRead.the-variants as read
 use Rattle.record.specs.Satellites.{satelliteOf}
-use Rattle.record.specs.Stages.{countIn, misfit, doneMade}
-use Rattle.record.specs.Corrections.{widths, meant, codes, coding, fill, StandardFill, numbersOut, outOfRange, countCorrections, correctionAt, makeCorrections, Typed, CorrectionsMade}
+use Rattle.record.specs.Stages.{countIn, doneMade, Sent}
+use Rattle.record.specs.Corrections.{widths, meant, codes, coding, fill, StandardFill, numbersOut, outOfRange, countCorrections, correctionAt, makeCorrections, Typed, CorrectionsMade, InRange, SendableCorrections, HoldsCorrections, ReadsCorrections}
 use Rattle.record.proofs.SatelliteLaws.{satellite-back, code-back, satellite-some, satellite-few}
-use Rattle.record.proofs.ListCode.{count-none, count-wrong, count-right}
-use Rattle.record.proofs.ListTrips.{made-then-read, read-then-made}
+use Rattle.record.proofs.ListTrips.{list-held, made-then-read, read-then-made}
+use Rattle.record.proofs.SentLaws.{list-made, list-told, list-read}
 
 -- what the types say of an entry, and what the range check adds
 pub record Good (e : Correction) : Type 0 where
@@ -33,18 +35,39 @@ pub record Good (e : Correction) : Type 0 where
   pub some : 0 < e .satellite
   pub few : e .satellite ≤ 32
 
-good : (e : Correction) → Typed e → outOfRange e ≡ false → Good e
+-- what refusal 10 says of an entry, both ways
+range-fine : (e : Correction) → InRange e → outOfRange e ≡ false
 unfolding numbersOut
-good e t o =
+range-fine e r =
+    rw (
+      le-ltb 1 (e .scale) (r .scale),
+      le-ltb 3 (e .udre) (r .udre),
+      le-ltb (e .satellite) 1 (r .least),
+      le-ltb 32 (e .satellite) (r .most),
+    )
+
+range-told : (e : Correction) → outOfRange e ≡ false → InRange e
+unfolding numbersOut
+range-told e o =
     let a = both-false (ltb 1 (e .scale) || ltb 3 (e .udre) || ltb (e .satellite) 1) (ltb 32 (e .satellite)) o in
     let b = both-false (ltb 1 (e .scale) || ltb 3 (e .udre)) (ltb (e .satellite) 1) (a .0) in
     let c = both-false (ltb 1 (e .scale)) (ltb 3 (e .udre)) (b .0) in
     record {
+      scale = ltb-false 1 (e .scale) (c .0);
+      udre = ltb-false 3 (e .udre) (c .1);
+      least = ltb-false (e .satellite) 1 (b .1);
+      most = ltb-false 32 (e .satellite) (a .1);
+    }
+
+good : (e : Correction) → Typed e → outOfRange e ≡ false → Good e
+good e t o =
+    let r = range-told e o in
+    record {
       typed = t;
-      scale = omega (arith, ltb-false 1 (e .scale) (c .0));
-      udre = omega (arith, ltb-false 3 (e .udre) (c .1));
-      some = omega (arith, ltb-false (e .satellite) 1 (b .1));
-      few = omega (arith, ltb-false 32 (e .satellite) (a .1));
+      scale = omega (arith, r .scale);
+      udre = omega (arith, r .udre);
+      some = omega (arith, r .least);
+      few = r .most;
     }
 
 -- ---- the three laws on codes
@@ -92,36 +115,7 @@ in-range (a ∷ b ∷ s ∷ vs) f =
 sized : (c : ℕ) → 0 < c → c ≤ 18 → (c * 40 ≤ 744) × (countIn 40 ((c * 40 + 23) / 24) ≡ c)
 sized c l h = (omega arith, omega arith)
 
--- ---- N as the paper writes it: 5k, 5k + 2, 5k + 4 words for 3k, 3k + 1, 3k + 2 satellites
-
-pub words-3k : (k : ℕ) → (3 * k * 40 + 23) / 24 ≡ 5 * k
-words-3k k = omega arith
-
-pub words-3k1 : (k : ℕ) → ((3 * k + 1) * 40 + 23) / 24 ≡ 5 * k + 2
-words-3k1 k = omega arith
-
-pub words-3k2 : (k : ℕ) → ((3 * k + 2) * 40 + 23) / 24 ≡ 5 * k + 4
-words-3k2 k = omega arith
-
--- and back: no other N fits
-pub count-5k : (k : ℕ) → 0 < k → (misfit 40 (5 * k) ≡ false) × (countIn 40 (5 * k) ≡ 3 * k)
-count-5k k h = (count-right 40 (5 * k) (λ z. omega arith) (omega arith), omega arith)
-
-pub count-5k2 : (k : ℕ) → (misfit 40 (5 * k + 2) ≡ false) × (countIn 40 (5 * k + 2) ≡ 3 * k + 1)
-count-5k2 k = (count-right 40 (5 * k + 2) (λ z. omega arith) (omega arith), omega arith)
-
-pub count-5k4 : (k : ℕ) → (misfit 40 (5 * k + 4) ≡ false) × (countIn 40 (5 * k + 4) ≡ 3 * k + 2)
-count-5k4 k = (count-right 40 (5 * k + 4) (λ z. omega arith) (omega arith), omega arith)
-
-pub misfit-0 : misfit 40 0 ≡ true
-misfit-0 = count-none 40 0 refl
-
-pub misfit-5k1 : (k : ℕ) → misfit 40 (5 * k + 1) ≡ true
-misfit-5k1 zero = count-none 40 1 refl
-misfit-5k1 (suc k) = count-wrong 40 (5 * suc k + 1) (λ z. omega arith) (λ z. omega arith)
-
-pub misfit-5k3 : (k : ℕ) → misfit 40 (5 * k + 3) ≡ true
-misfit-5k3 k = count-wrong 40 (5 * k + 3) (λ z. omega arith) (λ z. omega arith)
+-- ---- N as RULES 8 writes it: 5k, 5k + 2, 5k + 4 words for 3k, 3k + 1, 3k + 2 satellites
 
 -- ---- the theorems
 
@@ -142,3 +136,31 @@ corrections-read-made =
   where
     apart : (n : ℕ) (e : Correction) → read.Refused n ≡ read.Entry e → ⊥
     apart n e q = let z : _≡_ {A = ℕ} 0 1 = cc in omega arith
+
+-- SENT: what can be sent is made, not refused, and reads back
+pub corrections-sent : (h : Header) (es : List Correction) (c : ℕ) (d : Correction) → Each Typed (take c es) → SendableCorrections h es c d
+    → Sent (makeCorrections h es c) (CorrectionsMade h es c d)
+unfolding makeCorrections
+corrections-sent h es c d typed s =
+    let done = list-made layout.Correction coding fill 18 outOfRange InRange range-fine h es c d s in
+    record {
+      frame = frameWith fill coding h (take c es);
+      done = done;
+      reads = corrections-made-read h es c d (frameWith fill coding h (take c es)) (s .there) typed done;
+    }
+
+-- and only what can be sent is made
+pub corrections-told : (h : Header) (es : List Correction) (c : ℕ) (d : Correction) (f : Frame) → c ≤ length es
+    → makeCorrections h es c ≡ doneMade f → SendableCorrections h es c d
+unfolding makeCorrections
+corrections-told = list-told layout.Correction coding fill 18 outOfRange InRange range-told
+
+-- READ: of a frame that holds c corrections the count and every entry are read, not refused
+pub corrections-read : (f : Frame) (c : ℕ) → HoldsCorrections f c → ReadsCorrections f c
+unfolding countCorrections correctionAt
+corrections-read = list-read layout.Correction coding 18 read.Refused read.Entry (λ c l h. sized c l h .1)
+
+-- and a count is read of no other frame
+pub corrections-held : (f : Frame) (c : ℕ) → countCorrections f ≡ count.Of c → HoldsCorrections f c
+unfolding countCorrections
+corrections-held = list-held layout.Correction coding 18 (λ n h. omega arith)

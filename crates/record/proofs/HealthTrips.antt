@@ -1,8 +1,8 @@
--- Made then read, and read then made, for type 5: what the layout owes, and the two theorems. Assumes nothing.
+-- Type 5: what the layout owes; what can be sent is made, made then read, read then made; what a frame holds is read. Assumes nothing.
 use mathlib.Core.Path.{_≡_, ap}
 use mathlib.Core.Bool.{false, _||_}
 use mathlib.Core.List.{List, [], _∷_}
-use Prim.Native.Nat.{ℕ, _+_, _*_, _/_, _^_, _≤_, _<_}
+use Prim.Native.Nat.{ℕ, _+_, _*_, _/_, _≤_, _<_}
 use native.Mathlib.Omega.{arith}
 use lib.Dec.{ltb}
 use lib.ListN.{length, take, getD}
@@ -12,33 +12,43 @@ use Rattle.frame.specs.declared.Header.{Header}
 use Rattle.frame.specs.declared.Frame.{Frame}
 use Rattle.frame.specs.declared.Layout.the-variants as layout
 use Rattle.frame.proofs.WidthLaws.{both-false}
+use Rattle.pack.specs.Coding.{frameWith}
 use Rattle.pack.proofs.Round.{Faithful}
 use Rattle.record.specs.declared.stage.Count.the-variants as count
 use Rattle.record.specs.declared.health.SatelliteHealth.{SatelliteHealth}
 use Rattle.record.specs.declared.health.HealthRead.the-variants as read
 use Rattle.record.specs.Satellites.{satelliteOf}
-use Rattle.record.specs.Stages.{countIn, doneMade}
-use Rattle.record.specs.Healths.{widths, meant, codes, coding, fill, flagsOut, codesOut, outOfRange, countHealths, healthAt, makeHealths, HealthsMade}
+use Rattle.record.specs.Stages.{countIn, doneMade, Sent}
+use Rattle.record.specs.Healths.{widths, meant, codes, coding, fill, flagsOut, codesOut, outOfRange, countHealths, healthAt, makeHealths, HealthsMade, InRange, SendableHealths, HoldsHealths, ReadsHealths}
 use Rattle.record.proofs.SatelliteLaws.{satellite-back, code-back, satellite-some, satellite-few}
-use Rattle.record.proofs.ListTrips.{made-then-read, read-then-made, each-any, no-fill}
+use Rattle.record.proofs.ListTrips.{list-held, made-then-read, read-then-made, each-any, no-fill}
+use Rattle.record.proofs.SentLaws.{list-made, list-told, list-read}
 
--- what the range check says of an entry
-pub record Good (e : SatelliteHealth) : Type 0 where
-  pub reserved : e .reserved < 2 ^ 1
-  pub link : e .link < 2 ^ 1
-  pub health : e .health < 2 ^ 3
-  pub cn0 : e .cn0 < 2 ^ 5
-  pub enable : e .enable < 2 ^ 1
-  pub new : e .new_data < 2 ^ 1
-  pub loss : e .loss < 2 ^ 1
-  pub time : e .time < 2 ^ 4
-  pub spare : e .spare < 2 ^ 2
-  pub some : 0 < e .satellite
-  pub few : e .satellite ≤ 32
+-- the types say nothing of an entry that its range does not say
+abbrev pub Good : SatelliteHealth → Type 0
+Good = InRange
 
-good : (e : SatelliteHealth) → Unit {0} → outOfRange e ≡ false → Good e
+-- what refusal 10 says of an entry, both ways
+range-fine : (e : SatelliteHealth) → InRange e → outOfRange e ≡ false
 unfolding outOfRange flagsOut codesOut
-good e t o =
+range-fine e r =
+    rw (
+      le-ltb 1 (e .reserved) (omega (arith, r .reserved)),
+      le-ltb 1 (e .link) (omega (arith, r .link)),
+      le-ltb 1 (e .enable) (omega (arith, r .enable)),
+      le-ltb 1 (e .new_data) (omega (arith, r .new)),
+      le-ltb 1 (e .loss) (omega (arith, r .loss)),
+      le-ltb (e .satellite) 1 (r .some),
+      le-ltb 32 (e .satellite) (r .few),
+      le-ltb 7 (e .health) (omega (arith, r .health)),
+      le-ltb 31 (e .cn0) (omega (arith, r .cn0)),
+      le-ltb 15 (e .time) (omega (arith, r .time)),
+      le-ltb 3 (e .spare) (omega (arith, r .spare)),
+    )
+
+range-told : (e : SatelliteHealth) → outOfRange e ≡ false → InRange e
+unfolding outOfRange flagsOut codesOut
+range-told e o =
     let s = both-false (flagsOut (e .reserved) (e .link) (e .enable) (e .new_data) (e .loss))
     (codesOut (e .satellite) (e .health) (e .cn0) (e .time) (e .spare)) o in
     let a = both-false (ltb 1 (e .reserved) || ltb 1 (e .link) || ltb 1 (e .enable) || ltb 1 (e .new_data)) (ltb 1 (e .loss)) (s .0) in
@@ -64,6 +74,9 @@ good e t o =
       some = omega (arith, ltb-false (e .satellite) 1 (j .0));
       few = omega (arith, ltb-false 32 (e .satellite) (j .1));
     }
+
+good : (e : SatelliteHealth) → Unit {0} → outOfRange e ≡ false → Good e
+good e t o = range-told e o
 
 -- ---- the three laws on codes
 
@@ -156,3 +169,31 @@ healths-read-made f es c d full l n e =
   where
     apart : (n : ℕ) (e : SatelliteHealth) → read.Refused n ≡ read.Entry e → ⊥
     apart n e q = let z : _≡_ {A = ℕ} 0 1 = cc in omega arith
+
+-- SENT: what can be sent is made, not refused, and reads back
+pub healths-sent : (h : Header) (es : List SatelliteHealth) (c : ℕ) (d : SatelliteHealth) → SendableHealths h es c d
+    → Sent (makeHealths h es c) (HealthsMade h es c d)
+unfolding makeHealths
+healths-sent h es c d s =
+    let done = list-made layout.Health coding fill 31 outOfRange InRange range-fine h es c d s in
+    record {
+      frame = frameWith fill coding h (take c es);
+      done = done;
+      reads = healths-made-read h es c d (frameWith fill coding h (take c es)) (s .there) done;
+    }
+
+-- and only what can be sent is made
+pub healths-told : (h : Header) (es : List SatelliteHealth) (c : ℕ) (d : SatelliteHealth) (f : Frame) → c ≤ length es
+    → makeHealths h es c ≡ doneMade f → SendableHealths h es c d
+unfolding makeHealths
+healths-told = list-told layout.Health coding fill 31 outOfRange InRange range-told
+
+-- READ: of a frame that holds c healths the count and every entry are read, not refused
+pub healths-read : (f : Frame) (c : ℕ) → HoldsHealths f c → ReadsHealths f c
+unfolding countHealths healthAt
+healths-read = list-read layout.Health coding 31 read.Refused read.Entry (λ c l h. sized c l h .1)
+
+-- and a count is read of no other frame
+pub healths-held : (f : Frame) (c : ℕ) → countHealths f ≡ count.Of c → HoldsHealths f c
+unfolding countHealths
+healths-held = list-held layout.Health coding 31 (λ n h. omega arith)

@@ -1,5 +1,6 @@
 pub mod StageLaws
 pub mod ListCode
+pub mod SentLaws
 pub mod ListTrips
 pub mod SatelliteLaws
 pub mod CorrectionCode
@@ -11,6 +12,7 @@ pub mod PositionTrips
 pub mod NullTrips
 pub mod TextCode
 pub mod TextLaws
+pub mod TextHeld
 pub mod TextTrips
 pub mod TextAgain
 pub mod Worked

@@ -3,33 +3,34 @@
 use mathlib.Core.Path.{_≡_, refl, sym, ap, subst, _∙_}
 use mathlib.Core.Bool.{Bool, false, _||_}
 use mathlib.Core.List.{List, [], _∷_, map}
-use Prim.Native.Nat.{ℕ, zero, suc, _+_, _*_, _/_, _≤_, _<_}
+use Prim.Native.Nat.{ℕ, _+_, _*_, _/_, _≤_, _<_}
 use native.Mathlib.Omega.{arith}
 use lib.Dec.{ltb, leb, eqb}
 use lib.ListN.{length, take, drop, getD, length-take, drop-of-length-le}
 use lib.Seq.{getD-take}
-use borrow.Author.Tests.{ltb-false, eqb-false, lt-leb, le-ltb, ne-eqb}
-use Rattle.answer.specs.Order.{Check}
-use Rattle.answer.proofs.OrderLaws.{NoneApplies, order-answers, order-told}
+use borrow.Author.Tests.{leb-false}
+use Rattle.answer.specs.Order.{NoneApplies}
+use Rattle.answer.proofs.OrderLaws.{order-answers, order-told}
 use Rattle.bits.specs.Fields.{span, Fit}
 use Rattle.bits.specs.Bits.{bits}
 use Rattle.bits.specs.Rows.{dataBits, rowsAt, fillOf, FillAfter}
 use Rattle.bits.proofs.RowLaws.{fits-rows}
 use Rattle.bits.proofs.WordLaws.{length-data}
 use Rattle.frame.specs.Frames.{framed, dataWords}
-use Rattle.frame.specs.Widths.{headerOutside, outside, late}
+use Rattle.frame.specs.Widths.{outside, late}
 use Rattle.frame.specs.declared.Header.{Header}
 use Rattle.frame.specs.declared.Frame.{Frame}
 use Rattle.frame.specs.declared.Layout.{Layout}
 use Rattle.frame.proofs.FrameLaws.{header-within, n-within, length-data as length-data-words}
 use Rattle.frame.proofs.WidthLaws.{both-false}
-use Rattle.pack.specs.Coding.{Coding, frameBits, entryIn, frameWith, anyEntry}
-use Rattle.pack.proofs.Round.{Each, Faithful, made-n, made-inside, made-fill, made-entry, entries-read, made-again, none-read}
+use Rattle.pack.specs.Coding.{Coding, frameBits, entryIn, frameWith, anyEntry, Each}
+use Rattle.pack.proofs.Round.{Faithful, made-n, made-inside, made-fill, made-entry, entries-read, made-again, none-read}
 use Rattle.record.specs.declared.stage.Count.the-variants as count
 use Rattle.record.specs.Stages.{otherLayout, countIn, misfit, readOrder, makeOrder, refusedMade, doneMade}
-use Rattle.record.specs.Lists.{listCount, listEntry, listMade, MadeReads}
-use Rattle.record.proofs.ListCode.{fitting, count-right}
-use Rattle.record.proofs.StageLaws.{done-apart, done-frame, of-apart}
+use Rattle.record.specs.Lists.{listCount, listEntry, listMade, MadeReads, Sendable, Holding, ListRead}
+use Rattle.record.proofs.ListCode.{fitting}
+use Rattle.record.proofs.SentLaws.{told-layout, frame-for, some-few, none-taken, list-made, list-told, list-read}
+use Rattle.record.proofs.StageLaws.{done-frame, of-apart}
 
 -- what every value has, each entry has
 pub each-any : {A : Type 0} (P : A → Type 0) → ((e : A) → P e) → (es : List A) → Each P es
@@ -63,6 +64,23 @@ count-read asked k f c e = record { inside = t .0 .0; same = t .0 .1 .0; hour = 
     fit : (0 < c) × ((c * w + 23) / 24 ≡ f .n)
     fit = let s = fitting w (f .n) (t .0 .1 .1 .1 .0) in subst (λ m. (0 < m) × ((m * w + 23) / 24 ≡ f .n)) held (s .some, s .up)
 
+-- and what is read held a list
+pub list-held : {A : Type 0} (asked : Layout) (k : Coding A) (most : ℕ) → ((n : ℕ) → n ≤ 31 → countIn (span (k .widths)) n ≤ most)
+    → (f : Frame) (c : ℕ) → listCount asked k f ≡ count.Of c → Holding asked k most f c
+list-held asked k most bounded f c e = record {
+  frame = record {
+    inside = r .inside;
+    kind = told-layout asked (f .header .kind) (r .same);
+    hour = leb-false 6000 (f .header .z) (r .hour);
+  };
+  some = r .some;
+  few = subst (λ m. m ≤ most) (r .held) (bounded (f .n) (n-within f (r .inside)));
+  n = sym (r .up);
+}
+  where
+    r : CountRead asked k f c
+    r = count-read asked k f c e
+
 -- entries that end with a word leave nothing to fill
 pub no-fill : {A : Type 0} (asked : Layout) (k : Coding A) (pattern : ℕ) (f : Frame) (c : ℕ) → length (f .words) ≡ 31
     → listCount asked k f ≡ count.Of c
@@ -95,9 +113,7 @@ module _ {A B : Type 0} (asked : Layout) (k : Coding A) (pattern most : ℕ) (ou
     (Typed Good : A → Type 0) (law : Faithful k Good)
     (good : (e : A) → Typed e → out e ≡ false → Good e)
     (sized : (c : ℕ) → 0 < c → c ≤ most → (c * span (k .widths) ≤ 744) × (countIn (span (k .widths)) ((c * span (k .widths) + 23) / 24) ≡ c)) where
-  module _ (h : Header) (es : List A) (c : ℕ) (d : A) (long : c ≤ length es) (typed : Each Typed (take c es))
-      (inside : headerOutside h ≡ false) (same : otherLayout asked (h .kind) ≡ false) (hour : late (h .z) ≡ false)
-      (some : 0 < c) (few : c ≤ most) (right : anyEntry out (take c es) ≡ false) where
+  module _ (h : Header) (es : List A) (c : ℕ) (d : A) (typed : Each Typed (take c es)) (s : Sendable asked most (λ e. out e ≡ false) h es c d) where
     abbrev made : Frame
     made = frameWith pattern k h (take c es)
 
@@ -105,7 +121,7 @@ module _ {A B : Type 0} (asked : Layout) (k : Coding A) (pattern most : ℕ) (ou
     w = span (k .widths)
 
     size : length (take c es) ≡ c
-    size = omega (arith, length-take c es)
+    size = omega (arith, length-take c es, s .there)
 
     header-is : made .header ≡ h
     unfolding frameWith framed
@@ -114,47 +130,37 @@ module _ {A B : Type 0} (asked : Layout) (k : Coding A) (pattern most : ℕ) (ou
     n-is : made .n ≡ (c * w + 23) / 24
     n-is = made-n k pattern h (take c es) ∙ ap (λ m. (m * w + 23) / 24) size
 
-    held : countIn w (made .n) ≡ c
-    held = ap (countIn w) n-is ∙ sized c some few .1
-
-    fits : misfit w (made .n) ≡ false
-    fits = count-right _ _ (λ z. omega (arith, held ∙ refl, z)) (ap (λ m. (m * w + 23) / 24) held ∙ sym n-is)
-
     within : outside made ≡ false
-    within = made-inside k pattern h (take c es) inside (subst (λ m. m * w ≤ 744) (sym size) (sized c some few .0))
+    within = made-inside k pattern h (take c es) (s .header .inside) (subst (λ m. m * w ≤ 744) (sym size) (sized c (s .some) (s .few) .0))
+
+    -- the frame holds the list, so its count and entries are read
+    reading : ListRead k (listCount asked k) (listEntry asked k refuse entry) entry made c
+    reading =
+        list-read asked k most refuse entry (λ m l h. sized m l h .1) made c
+        record { frame = frame-for asked made h header-is within (s .header); some = s .some; few = s .few; n = n-is }
+
+    goods : Each Good (take c es)
+    goods = each-good out Typed Good good (take c es) typed (none-taken out es c d (s .ranges))
 
     made-reads : MadeReads asked k pattern refuse entry h es c d made
     made-reads = record {
       header = header-is;
       inside = within;
-      counts = order-answers count.Refused _ (readOrder asked made _ []) (stages [] tt) ∙ ap count.Of held;
+      counts = reading .counts;
       entries = λ i l.
-          order-answers refuse _ (readOrder asked made _ ((leb (countIn w (made .n)) i, 9) ∷ []))
-          (stages ((leb (countIn w (made .n)) i, 9) ∷ []) (ap (λ m. leb m i) held ∙ lt-leb c i l, tt))
-          ∙ ap entry
-          (made-entry k Good law pattern h (take c es) i d (each-good out Typed Good good (take c es) typed right) (omega (arith, size))
-          ∙ getD-take c es i d l);
+          reading .entries i l
+          ∙ ap entry (made-entry k Good law pattern h (take c es) i d goods (omega (arith, size)) ∙ getD-take c es i d l);
       n = n-is;
       fill = subst (λ m. FillAfter pattern (m * w) (frameBits made)) size (made-fill k pattern h (take c es));
     }
-      where
-        stages : (more : List Check) → NoneApplies more → NoneApplies (readOrder asked made (misfit w (made .n)) more)
-        stages more none = (within, (ap (λ x. otherLayout asked (x .kind)) header-is ∙ same, (ap (λ x. late (x .z)) header-is ∙ hour, (fits, none))))
 
   -- MADE, THEN READ
   pub made-then-read : (h : Header) (es : List A) (c : ℕ) (d : A) (f : Frame) → c ≤ length es → Each Typed (take c es)
       → listMade asked k pattern most out h es c ≡ doneMade f → MadeReads asked k pattern refuse entry h es c d f
   made-then-read h es c d f long typed e =
-      let t = order-told refusedMade (doneMade (frameWith pattern k h (take c es))) (doneMade f) (λ n. done-apart n f)
-      (makeOrder asked h ((eqb c 0 || ltb most c, 12) ∷ (anyEntry out (take c es), 10) ∷ [])) e in
-      let s = both-false (eqb c 0) (ltb most c) (t .0 .1 .1 .1 .0) in
-      subst (MadeReads asked k pattern refuse entry h es c d) (done-frame (t .1))
-      (made-reads h es c d long typed (t .0 .0) (t .0 .1 .0) (t .0 .1 .1 .0) (positive c (eqb-false c 0 (s .0))) (ltb-false most c (s .1))
-      (t .0 .1 .1 .1 .1 .0))
-    where
-      positive : (m : ℕ) → (m ≡ 0 → ⊥) → 0 < m
-      positive zero z = absurd (z refl)
-      positive (suc m) z = omega arith
+      let s = list-told asked k pattern most out (λ x. out x ≡ false) (λ x o. o) h es c d f long e in
+      subst (MadeReads asked k pattern refuse entry h es c d)
+      (done-frame (sym (list-made asked k pattern most out (λ x. out x ≡ false) (λ x o. o) h es c d s) ∙ e)) (made-reads h es c d typed s)
 
   -- READ, THEN MADE
   module _ (none : (vs : List ℕ) → Fit (k .widths) vs → out (k .meant vs) ≡ false)
@@ -185,8 +191,7 @@ module _ {A B : Type 0} (asked : Layout) (k : Coding A) (pattern most : ℕ) (ou
         r = count-read asked k f c n
 
         count-fits : eqb c 0 || ltb most c ≡ false
-        count-fits = rw
-            (ne-eqb c 0 (λ z. omega (arith, r .some, z)), le-ltb most c (subst (λ m. m ≤ most) (r .held) (bounded (f .n) (n-within f (r .inside)))))
+        count-fits = some-few c most (r .some) (subst (λ m. m ≤ most) (r .held) (bounded (f .n) (n-within f (r .inside))))
 
         at : (i : ℕ) → i < c → getD (take c es) i d ≡ entryIn k i (frameBits f)
         at i h =

@@ -2,13 +2,14 @@
 use mathlib.Core.Path.{_≡_, refl, sym, ap, ap₂, _∙_}
 use mathlib.Core.Bool.{Bool, false, _||_}
 use mathlib.Core.List.{List, [], _∷_, _++_}
-use Prim.Native.Nat.{ℕ, zero, suc, _+_, _*_, _-_, _≤_, _<_}
+use Prim.Native.Nat.{ℕ, zero, suc, _+_, _*_, _≤_, _<_}
 use native.Mathlib.Omega.{arith}
 use lib.Dec.{ltb, eqb}
 use lib.ListN.{length, take, drop, replicate, length-drop}
 use lib.Seq.{take-all, take-at}
 use borrow.Author.Tests.{le-ltb, ne-eqb}
-use Rattle.answer.proofs.OrderLaws.{NoneApplies, order-answers, order-told}
+use Rattle.answer.specs.Order.{NoneApplies}
+use Rattle.answer.proofs.OrderLaws.{order-answers, order-told}
 use Rattle.bits.specs.Fields.{fieldAt}
 use Rattle.bits.specs.Rows.{packedRows, rowsAt, fillOf, FillAfter}
 use Rattle.bits.proofs.RowLaws.{put-rows}
@@ -24,7 +25,8 @@ use Rattle.record.specs.declared.stage.Count.the-variants as count
 use Rattle.record.specs.Stages.{makeOrder, refusedMade, doneMade}
 use Rattle.record.specs.Texts.{widths, coding, fill, characters, lengthIn, textIn, forbidden, textOrder, readText, bufferAfter, makeText}
 use Rattle.record.proofs.StageLaws.{of-apart}
-use Rattle.record.proofs.TextCode.{length-characters, Ends, none, one, two, ends, length-le, some-words}
+use Rattle.record.proofs.TextCode.{length-characters, length-le, some-words}
+use Rattle.record.proofs.TextHeld.{closing}
 use Rattle.record.proofs.TextLaws.{Good, faithful, zeros-fill}
 
 -- rows of one character each, from bit o on, all of them 0
@@ -47,7 +49,7 @@ module _ (f : Frame) (full : length (f .words) ≡ 31) (inside : outside f ≡ f
 
   -- what is no text is zeros
   fills : FillAfter fill (lengthIn f * 8) (frameBits f)
-  fills = by (ends (3 * f .n) (frameBits f))
+  fills = let z = closing (3 * f .n) (frameBits f) (omega (arith, n)) in close (z .zeros) (z .size) (z .few) (z .at)
     where
       D : List Bool
       D = frameBits f
@@ -68,25 +70,6 @@ module _ (f : Frame) (full : length (f .words) ≡ 31) (inside : outside f ≡ f
               ∙ sym (put-rows widths k (lengthIn f * 8) D (omega (arith, long)))
               ∙ ap (packedRows widths) (zero-rows k (lengthIn f * 8) D (λ j b. ap (λ p. fieldAt p 8 D) (sym (at j)) ∙ z j b))
               ∙ sym (zeros-fill k l)
-
-      by : Ends (3 * f .n) (frameBits f) → FillAfter fill (lengthIn f * 8) (frameBits f)
-      by (none e) = close 0 (omega arith) (omega arith) (λ j b. absurd (omega arith))
-      by (one e z) = close 1 (omega arith) (omega arith) (λ j b. ap (λ i. entryIn coding i D) (last j b) ∙ z)
-        where
-          last : (j : ℕ) → j < 1 → lengthIn f + j ≡ 3 * f .n - 1
-          last j b = omega arith
-      by (two e z y) = close 2 (omega arith) (omega arith) each
-        where
-          first-is : lengthIn f + 0 ≡ 3 * f .n - 2
-          first-is = omega arith
-
-          second-is : lengthIn f + 1 ≡ 3 * f .n - 1
-          second-is = omega arith
-
-          each : (j : ℕ) → j < 2 → entryIn coding (lengthIn f + j) D ≡ 0
-          each zero b = ap (λ i. entryIn coding i D) first-is ∙ y
-          each (suc zero) b = ap (λ i. entryIn coding i D) second-is ∙ z
-          each (suc (suc j)) b = absurd (omega arith)
 
   pub text-again : frameWith fill coding (f .header) (textIn f) ≡ f
   unfolding characters

@@ -12,8 +12,8 @@ use Rattle.bits.specs.Fields.{Fit}
 use Rattle.bits.specs.Rows.{packedRows, AllFit, fillOf}
 use Rattle.frame.specs.Widths.{anyOf}
 use Rattle.frame.proofs.WidthLaws.{both-false}
-use Rattle.pack.specs.Coding.{rowsOf}
-use Rattle.pack.proofs.Round.{Each, Faithful}
+use Rattle.pack.specs.Coding.{rowsOf, Each}
+use Rattle.pack.proofs.Round.{Faithful}
 use Rattle.record.specs.Texts.{widths, meant, codes, coding, fill, forbidden}
 
 -- ---- the three laws on codes

@@ -1,37 +1,55 @@
--- Made then read, for type 16. Assumes nothing.
-use mathlib.Core.Path.{_≡_, refl, sym, ap, ap₂, subst, _∙_}
-use mathlib.Core.Bool.{Bool, false, _||_}
+-- Type 16: what can be sent is made, and made then read. Assumes nothing.
+use mathlib.Core.Path.{_≡_, refl, sym, ap, subst, _∙_}
+use mathlib.Core.Bool.{false, _||_}
 use mathlib.Core.List.{List, [], _∷_, _++_, append-nil}
-use Prim.Native.Nat.{ℕ, zero, suc, _+_, _*_, _-_, _/_, _%_, _≤_, _<_}
+use Prim.Native.Nat.{ℕ, _+_, _*_, _-_, _/_, _%_, _≤_, _<_}
 use native.Mathlib.Omega.{arith}
 use lib.Dec.{ltb, eqb}
-use lib.ListN.{length, drop, getD, replicate, length-map, length-replicate}
-use lib.Seq.{ext-getD}
-use borrow.Author.Tests.{ltb-false, eqb-false, le-ltb, ne-eqb}
-use Rattle.answer.proofs.OrderLaws.{NoneApplies, order-answers, order-told}
+use lib.ListN.{length, getD, replicate, length-map, length-replicate}
+use Rattle.answer.specs.Order.{Check, NoneApplies}
+use Rattle.answer.proofs.OrderLaws.{order-answers, order-told}
 use Rattle.bits.specs.Fields.{fieldsAt}
 use Rattle.bits.specs.Rows.{packedRows, fillOf, filled}
 use Rattle.bits.proofs.RowLaws.{rows-put}
 use Rattle.frame.specs.Frames.{framed}
-use Rattle.frame.specs.Widths.{anyOf, headerOutside, outside, late}
+use Rattle.frame.specs.Widths.{anyOf, outside}
 use Rattle.frame.specs.declared.Header.{Header}
 use Rattle.frame.specs.declared.Frame.{Frame}
 use Rattle.frame.specs.declared.Layout.the-variants as layout
-use Rattle.frame.proofs.WidthLaws.{both-false}
 use Rattle.pack.specs.Coding.{frameBits, entryIn, rowsOf, entryBits, frameWith}
 use Rattle.pack.proofs.Round.{fill-left, length-entries, made-bits, made-n, made-inside, made-fill, made-entry}
-use Rattle.record.specs.declared.stage.Count.the-variants as count
-use Rattle.record.specs.Stages.{otherLayout, makeOrder, refusedMade, doneMade}
-use Rattle.record.specs.Texts.{widths, meant, codes, coding, fill, characters, textLength, lengthIn, textIn, wrongWords, forbidden, textOrder, readText, bufferAfter, makeText, TextMade}
+use Rattle.record.specs.Stages.{makeOrder, refusedMade, doneMade, Sent}
+use Rattle.record.specs.Texts.{widths, meant, codes, coding, fill, characters, forbidden, makeText, TextMade, SendableText, HoldsText}
 use Rattle.record.proofs.StageLaws.{done-apart, done-frame}
-use Rattle.record.proofs.TextCode.{length-characters, character-at, length-all, length-less, length-least}
-use Rattle.record.proofs.TextLaws.{Good, faithful, all-good, not-zero, zeros-fit, zeros-at, zeros-fill}
+use Rattle.record.proofs.SentLaws.{make-passes, make-passed, frame-for, some-few, told-some-few}
+use Rattle.record.proofs.TextHeld.{allowed-fine, allowed-told, characters-are, characters-zeros, text-read}
+use Rattle.record.proofs.TextLaws.{Good, faithful, all-good, zeros-fit, zeros-at, zeros-fill}
 
 abbrev made : Header → List ℕ → Frame
 made h t = frameWith fill coding h t
 
-module _ (h : Header) (t : List ℕ) (inside : headerOutside h ≡ false) (same : otherLayout layout.Text (h .kind) ≡ false) (hour : late (h .z) ≡ false)
-    (some : 0 < length t) (few : length t ≤ 90) (right : anyOf forbidden t ≡ false) where
+module _ (h : Header) (t : List ℕ) where
+  -- the checks of making after 7
+  abbrev checks : List Check
+  checks = (eqb (length t) 0 || ltb 90 (length t), 12) ∷ (anyOf forbidden t, 11) ∷ []
+
+  told : (f : Frame) → makeText h t ≡ doneMade f → NoneApplies (makeOrder layout.Text h checks) × (doneMade (made h t) ≡ doneMade f)
+  unfolding makeText
+  told f e = order-told refusedMade (doneMade (made h t)) (doneMade f) (λ n. done-apart n f) (makeOrder layout.Text h checks) e
+
+  -- only what can be sent is made
+  pub text-told : (f : Frame) → makeText h t ≡ doneMade f → SendableText h t
+  text-told f e =
+      let o = told f e .0 in
+      let s = told-some-few (length t) 90 (o .1 .1 .1 .0) in
+      record {
+        header = make-passed layout.Text h checks o;
+        some = s .0;
+        few = s .1;
+        allowed = allowed-told t (o .1 .1 .1 .1 .0);
+      }
+
+module _ (h : Header) (t : List ℕ) (s : SendableText h t) where
   header-is : made h t .header ≡ h
   unfolding frameWith framed
   header-is = refl
@@ -40,7 +58,7 @@ module _ (h : Header) (t : List ℕ) (inside : headerOutside h ≡ false) (same 
   n-is = made-n coding fill h t
 
   at-text : (i : ℕ) → i < length t → entryIn coding i (frameBits (made h t)) ≡ getD t i 0
-  at-text i l = made-entry coding Good faithful fill h t i 0 (all-good t right) l
+  at-text i l = made-entry coding Good faithful fill h t i 0 (all-good t (allowed-fine t (s .allowed))) l
 
   at-fill : (k j : ℕ) → 3 * made h t .n ≡ length t + k → k ≤ 2 → j < k → entryIn coding (length t + j) (frameBits (made h t)) ≡ 0
   unfolding filled
@@ -66,99 +84,52 @@ module _ (h : Header) (t : List ℕ) (inside : headerOutside h ≡ false) (same 
           ∙ ap (λ bs. entryBits coding t ++ bs)
           (ap (fillOf fill) size ∙ zeros-fill k l ∙ sym (append-nil (packedRows widths (rowsOf coding (replicate k 0)))))
 
-  length-is : lengthIn (made h t) ≡ length t
-  length-is = go (3 * made h t .n - length t) (omega (arith, n-is)) (omega (arith, n-is))
-    where
-      D : List Bool
-      D = frameBits (made h t)
+  -- the zeros that close the last word
+  abbrev zeros : ℕ
+  zeros = 3 * made h t .n - length t
 
-      last : (i : ℕ) → suc i ≡ length t → entryIn coding i D ≡ 0 → ⊥
-      last i e z = not-zero t i right (omega arith) (sym (at-text i (omega arith)) ∙ z)
+  size : 3 * made h t .n ≡ length t + zeros
+  size = omega (arith, n-is)
 
-      go : (k : ℕ) → 3 * made h t .n ≡ length t + k → k ≤ 2 → textLength (3 * made h t .n) D ≡ length t
-      go zero e l = length-all (3 * made h t .n) D (last (3 * made h t .n - 1) (omega arith)) ∙ rest
-        where
-          rest : 3 * made h t .n ≡ length t
-          rest = omega arith
-      go (suc zero) e l =
-          length-less (3 * made h t .n) D (ap (λ i. entryIn coding i D) one-is ∙ at-fill 1 0 e (omega arith) (omega arith))
-          (last (3 * made h t .n - 2) (omega arith)) ∙ rest
-        where
-          one-is : 3 * made h t .n - 1 ≡ length t + 0
-          one-is = omega arith
+  two : zeros ≤ 2
+  two = omega (arith, n-is)
 
-          rest : 3 * made h t .n - 1 ≡ length t
-          rest = omega arith
-      go (suc (suc zero)) e l =
-          length-least (3 * made h t .n) D (ap (λ i. entryIn coding i D) one-is ∙ at-fill 2 1 e (omega arith) (omega arith))
-          (ap (λ i. entryIn coding i D) two-is ∙ at-fill 2 0 e (omega arith) (omega arith)) ∙ rest
-        where
-          one-is : 3 * made h t .n - 1 ≡ length t + 1
-          one-is = omega arith
+  within : outside (made h t) ≡ false
+  within = made-inside coding fill h t (s .header .inside) (omega (arith, s .few))
 
-          two-is : 3 * made h t .n - 2 ≡ length t + 0
-          two-is = omega arith
-
-          rest : 3 * made h t .n - 2 ≡ length t
-          rest = omega arith
-      go (suc (suc (suc k))) e l = absurd (omega arith)
-
-  text-is : textIn (made h t) ≡ t
-  text-is =
-      ap (λ m. characters m (frameBits (made h t))) length-is
-      ∙ ext-getD 0 (characters (length t) (frameBits (made h t))) t (length-characters (length t) (frameBits (made h t)))
-      (λ i l. each i (omega (arith, length-characters (length t) (frameBits (made h t)))))
-    where
-      each : (i : ℕ) → i < length t → getD (characters (length t) (frameBits (made h t))) i 0 ≡ getD t i 0
-      each i l = character-at (length t) i (frameBits (made h t)) l ∙ at-text i l
-
-  stages : (buffer : List ℕ) → length t ≤ length buffer → NoneApplies (textOrder (made h t) buffer)
-  stages buffer l = (
-    within,
-    (
-      ap (λ x. otherLayout layout.Text (x .kind)) header-is ∙ same,
-      (
-        ap (λ x. late (x .z)) header-is ∙ hour,
-        (
-          words,
-          (ap (anyOf forbidden) text-is ∙ right, (ap (ltb (length buffer)) length-is ∙ le-ltb (length buffer) (length t) l, tt)),
-        ),
-      ),
-    ),
-  )
-    where
-      within : outside (made h t) ≡ false
-      within = made-inside coding fill h t inside (omega arith)
-
-      words : wrongWords (made h t .n) ≡ false
-      words = rw (ne-eqb (made h t .n) 0 (λ z. omega (arith, n-is, z)), le-ltb 30 (made h t .n) (omega (arith, n-is)))
+  -- the frame holds the text
+  holds : HoldsText (made h t) t zeros
+  holds = record {
+    frame = frame-for layout.Text (made h t) h header-is within (s .header);
+    some = omega (arith, n-is, s .some);
+    few = omega (arith, n-is, s .few);
+    zeros = two;
+    says = ap (λ m. characters m (frameBits (made h t))) size
+        ∙ characters-zeros (length t) zeros (frameBits (made h t)) (λ j l. at-fill zeros j size two l)
+        ∙ ap (λ cs. cs ++ replicate zeros 0) (characters-are t (frameBits (made h t)) at-text);
+    allowed = s .allowed;
+  }
 
   made-reads : TextMade h t (made h t)
-  unfolding readText bufferAfter
   made-reads = record {
     header = header-is;
-    inside = made-inside coding fill h t inside (omega arith);
-    reads = λ buffer l.
-        order-answers count.Refused (count.Of (lengthIn (made h t))) (textOrder (made h t) buffer) (stages buffer l)
-        ∙ ap count.Of length-is;
-    writes = λ buffer l.
-        order-answers (λ k. buffer) (textIn (made h t) ++ drop (lengthIn (made h t)) buffer) (textOrder (made h t) buffer) (stages buffer l)
-        ∙ ap₂ (λ cs m. cs ++ drop m buffer) text-is length-is;
+    inside = within;
+    reads = text-read (made h t) t zeros holds .reads;
+    writes = text-read (made h t) t zeros holds .writes;
     n = n-is;
     fills = made-fill coding fill h t;
   }
 
+  -- SENT: what can be sent is made, not refused, and reads back
+  pub text-sent : Sent (makeText h t) (TextMade h t)
+  unfolding makeText
+  text-sent = record {
+    frame = made h t;
+    done = order-answers refusedMade (doneMade (made h t)) (makeOrder layout.Text h (checks h t))
+        (make-passes layout.Text h (checks h t) (s .header) (some-few (length t) 90 (s .some) (s .few), (allowed-fine t (s .allowed), tt)));
+    reads = made-reads;
+  }
+
 -- MADE, THEN READ
 pub text-made-read : (h : Header) (t : List ℕ) (f : Frame) → makeText h t ≡ doneMade f → TextMade h t f
-unfolding makeText
-text-made-read h t f e =
-    let o = order-told refusedMade (doneMade (frameWith fill coding h t)) (doneMade f) (λ n. done-apart n f)
-    (makeOrder layout.Text h ((eqb (length t) 0 || ltb 90 (length t), 12) ∷ (anyOf forbidden t, 11) ∷ [])) e in
-    let s = both-false (eqb (length t) 0) (ltb 90 (length t)) (o .0 .1 .1 .1 .0) in
-    subst (TextMade h t) (done-frame (o .1))
-    (made-reads h t (o .0 .0) (o .0 .1 .0) (o .0 .1 .1 .0) (positive (length t) (eqb-false (length t) 0 (s .0))) (ltb-false 90 (length t) (s .1))
-    (o .0 .1 .1 .1 .1 .0))
-  where
-    positive : (m : ℕ) → (m ≡ 0 → ⊥) → 0 < m
-    positive zero z = absurd (z refl)
-    positive (suc m) z = omega arith
+text-made-read h t f e = subst (TextMade h t) (done-frame (told h t f e .1)) (made-reads h t (text-told h t f e))

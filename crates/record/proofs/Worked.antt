@@ -1,42 +1,143 @@
--- Worked records: the data words that they make. Assumes nothing.
+-- Worked records, one of each type: what the makers answer, and what the readers answer of these frames, in the table's terms.
+-- Assumes nothing.
 use mathlib.Core.Path.{_≡_, refl}
-use mathlib.Core.List.{[], _∷_}
+use mathlib.Core.List.{List, [], _∷_}
+use Prim.Native.Nat.{ℕ}
 use lib.IntN.{pos, negsuc}
+use lib.ListN.{replicate}
+use Rattle.answer.specs.Order.{refuses, answers}
 use Rattle.bits.specs.Bits.{bits, number}
-use Rattle.bits.specs.Rows.{cutWords, fillOf, filled, wordsIn}
-use Rattle.bits.specs.Signed.{code}
-use Rattle.pack.specs.Coding.{entryBits}
+use Rattle.bits.specs.Rows.{dataBits, cutWords, fillOf, filled, wordsIn}
+use Rattle.bits.specs.Signed.{signed, code}
+use Rattle.frame.specs.Frames.{framed}
+use Rattle.frame.specs.Header.{factors}
+use Rattle.frame.specs.Layout.{layoutOf}
+use Rattle.frame.specs.Widths.{stateOutside, numbersOutside, headerOutside, outside}
+use Rattle.frame.specs.declared.Header.{Header}
+use Rattle.frame.specs.declared.Frame.{Frame}
+use Rattle.frame.specs.declared.State.the-variants.{Factor}
+use Rattle.pack.specs.Coding.{frameBits, entryBits, frameWith}
+use Rattle.record.specs.declared.correction.Correction.{Correction}
+use Rattle.record.specs.declared.health.SatelliteHealth.{SatelliteHealth}
+use Rattle.record.specs.declared.position.Position.{Position}
+use Rattle.record.specs.Stages.{layoutNumber, otherLayout, misfit, refusedMade, doneMade, saysCount, saysMade}
 use Rattle.record.specs.Corrections as corrections
-use Rattle.record.specs.Texts as texts
+use Rattle.record.specs.Corrections.{numbersOut, countCorrections, correctionAt, makeCorrections, saysCorrectionRead}
 use Rattle.record.specs.Positions as positions
+use Rattle.record.specs.Positions.{tooLow, outOfRange as positionOut, readPosition, makePosition, saysPositionRead}
 use Rattle.record.specs.Healths as healths
+use Rattle.record.specs.Healths.{flagsOut, codesOut, outOfRange as healthOut, countHealths, healthAt, makeHealths, saysHealthRead}
+use Rattle.record.specs.Nulls.{readNull, makeNull, saysNullRead}
+use Rattle.record.specs.Texts as texts
+use Rattle.record.specs.Texts.{characters, textLength, readText, bufferAfter, makeText}
 
--- scale 0, UDRE 0, satellite 3, PRC 1000, RRC -5, IOD 77
-pub correction-words :
-    wordsIn corrections.fill
-    (entryBits corrections.coding (record { scale = 0; udre = 0; satellite = 3; prc = pos 1000; rrc = negsuc 4; iod = 77 } ∷ []))
-    ≡ 0x0303E8 ∷ 0xFB4DAA ∷ []
-unfolding wordsIn filled cutWords fillOf entryBits bits number code
-correction-words = refl
+-- the header of a type: station 5, Z count 100, sequence 3, health 0
+abbrev pub header : ℕ → Header
+header kind = record { kind = kind; station = 5; z = 100; sequence = 3; state = Factor 100 }
 
--- reserved 1, satellite 32, link 1, health 7, C/N0 31, enable 1, new 0, loss 1, time 15, reserved 3; then a plainer one
-pub health-words :
-    wordsIn healths.fill
-    (entryBits healths.coding
-    (record { reserved = 1; satellite = 32; link = 1; health = 7; cn0 = 31; enable = 1; new_data = 0; loss = 1; time = 15; spare = 3 }
-    ∷ record { reserved = 0; satellite = 1; link = 0; health = 4; cn0 = 0; enable = 0; new_data = 0; loss = 1; time = 3; spare = 2 } ∷ []))
-    ≡ 0x83FF7F ∷ 0x05004E ∷ []
-unfolding wordsIn filled cutWords fillOf entryBits bits number
-health-words = refl
+-- ---- types 1 and 9: scale 0, UDRE 0, satellite 3, PRC 1000, RRC -5, IOD 77
 
--- X 123456789, Y -987654321, Z 2147483647
-pub position-words :
-    wordsIn positions.fill (entryBits positions.coding (record { x = pos 123456789; y = negsuc 987654320; z = pos 2147483647 } ∷ []))
-    ≡ 0x075BCD ∷ 0x15C521 ∷ 0x974F7F ∷ 0xFFFFFF ∷ []
-unfolding wordsIn filled cutWords fillOf entryBits bits number code
-position-words = refl
+abbrev pub correction : Correction
+correction = record { scale = 0; udre = 0; satellite = 3; prc = pos 1000; rrc = negsuc 4; iod = 77 }
 
--- QUICK, and one zero that closes the last word
-pub text-words : wordsIn texts.fill (entryBits texts.coding (81 ∷ 85 ∷ 73 ∷ 67 ∷ 75 ∷ [])) ≡ 0x515549 ∷ 0x434B00 ∷ []
-unfolding wordsIn filled cutWords fillOf entryBits bits number
-text-words = refl
+abbrev pub correctionFrame : ℕ → Frame
+correctionFrame kind = framed (header kind) (0x0303E8 ∷ 0xFB4DAA ∷ [])
+
+pub correction-1-made : saysMade (makeCorrections (header 1) (correction ∷ []) 1) ≡ answers (correctionFrame 1)
+unfolding factors stateOutside numbersOutside headerOutside layoutOf layoutNumber otherLayout doneMade refusedMade framed frameWith wordsIn filled cutWords fillOf entryBits bits number code numbersOut makeCorrections
+correction-1-made = refl
+
+pub correction-9-made : saysMade (makeCorrections (header 9) (correction ∷ []) 1) ≡ answers (correctionFrame 9)
+unfolding factors stateOutside numbersOutside headerOutside layoutOf layoutNumber otherLayout doneMade refusedMade framed frameWith wordsIn filled cutWords fillOf entryBits bits number code numbersOut makeCorrections
+correction-9-made = refl
+
+pub correction-1-count : saysCount (countCorrections (correctionFrame 1)) ≡ answers 1
+unfolding factors stateOutside numbersOutside headerOutside layoutOf layoutNumber otherLayout framed outside frameBits dataBits misfit countCorrections
+correction-1-count = refl
+
+pub correction-1-read : saysCorrectionRead (correctionAt (correctionFrame 1) 0) ≡ answers correction
+unfolding factors stateOutside numbersOutside headerOutside layoutOf layoutNumber otherLayout framed outside frameBits dataBits bits number signed misfit correctionAt
+correction-1-read = refl
+
+-- ---- type 3: X 123456789, Y -987654321, Z 2147483647
+
+abbrev pub position : Position
+position = record { x = pos 123456789; y = negsuc 987654320; z = pos 2147483647 }
+
+abbrev pub positionFrame : Frame
+positionFrame = framed (header 3) (0x075BCD ∷ 0x15C521 ∷ 0x974F7F ∷ 0xFFFFFF ∷ [])
+
+pub position-3-made : saysMade (makePosition (header 3) position) ≡ answers positionFrame
+unfolding factors stateOutside numbersOutside headerOutside layoutOf layoutNumber otherLayout doneMade refusedMade framed frameWith wordsIn filled cutWords fillOf entryBits bits number code tooLow positionOut makePosition
+position-3-made = refl
+
+pub position-3-read : saysPositionRead (readPosition positionFrame) ≡ answers position
+unfolding factors stateOutside numbersOutside headerOutside layoutOf layoutNumber otherLayout framed outside frameBits dataBits bits number signed tooLow positionOut readPosition
+position-3-read = refl
+
+-- ---- type 5: reserved 1, satellite 32, link 1, health 7, C/N0 31, enable 1, new 0, loss 1, time 15, reserved 3; then a plainer one
+
+abbrev pub highest : SatelliteHealth
+highest = record { reserved = 1; satellite = 32; link = 1; health = 7; cn0 = 31; enable = 1; new_data = 0; loss = 1; time = 15; spare = 3 }
+
+abbrev pub plainer : SatelliteHealth
+plainer = record { reserved = 0; satellite = 1; link = 0; health = 4; cn0 = 0; enable = 0; new_data = 0; loss = 1; time = 3; spare = 2 }
+
+abbrev pub healthFrame : Frame
+healthFrame = framed (header 5) (0x83FF7F ∷ 0x05004E ∷ [])
+
+pub health-5-made : saysMade (makeHealths (header 5) (highest ∷ plainer ∷ []) 2) ≡ answers healthFrame
+unfolding factors stateOutside numbersOutside headerOutside layoutOf layoutNumber otherLayout doneMade refusedMade framed frameWith wordsIn filled cutWords fillOf entryBits bits number flagsOut codesOut healthOut makeHealths
+health-5-made = refl
+
+pub health-5-count : saysCount (countHealths healthFrame) ≡ answers 2
+unfolding factors stateOutside numbersOutside headerOutside layoutOf layoutNumber otherLayout framed outside frameBits dataBits misfit countHealths
+health-5-count = refl
+
+pub health-5-read-0 : saysHealthRead (healthAt healthFrame 0) ≡ answers highest
+unfolding factors stateOutside numbersOutside headerOutside layoutOf layoutNumber otherLayout framed outside frameBits dataBits bits number misfit healthAt
+health-5-read-0 = refl
+
+pub health-5-read-1 : saysHealthRead (healthAt healthFrame 1) ≡ answers plainer
+unfolding factors stateOutside numbersOutside headerOutside layoutOf layoutNumber otherLayout framed outside frameBits dataBits bits number misfit healthAt
+health-5-read-1 = refl
+
+-- ---- type 6: no data word
+
+pub null-6-made : saysMade (makeNull (header 6)) ≡ answers (framed (header 6) [])
+unfolding factors stateOutside numbersOutside headerOutside layoutOf layoutNumber otherLayout doneMade refusedMade framed makeNull
+null-6-made = refl
+
+pub null-6-read : saysNullRead (readNull (framed (header 6) [])) ≡ answers tt
+unfolding factors stateOutside numbersOutside headerOutside layoutOf layoutNumber otherLayout framed outside readNull
+null-6-read = refl
+
+-- ---- type 16: QUICK, and one zero that closes the last word
+
+abbrev pub quick : List ℕ
+quick = 81 ∷ 85 ∷ 73 ∷ 67 ∷ 75 ∷ []
+
+abbrev pub textFrame : Frame
+textFrame = framed (header 16) (0x515549 ∷ 0x434B00 ∷ [])
+
+pub text-16-made : saysMade (makeText (header 16) quick) ≡ answers textFrame
+unfolding factors stateOutside numbersOutside headerOutside layoutOf layoutNumber otherLayout doneMade refusedMade framed frameWith wordsIn filled cutWords fillOf entryBits bits number makeText
+text-16-made = refl
+
+-- read into a buffer of six: the characters, and what stood behind them
+pub text-16-read : saysCount (readText textFrame (replicate 6 9)) ≡ answers 5
+unfolding factors stateOutside numbersOutside headerOutside layoutOf layoutNumber otherLayout framed outside frameBits dataBits bits number characters textLength readText
+text-16-read = refl
+
+pub text-16-written : bufferAfter textFrame (replicate 6 9) ≡ 81 ∷ 85 ∷ 73 ∷ 67 ∷ 75 ∷ 9 ∷ []
+unfolding factors stateOutside numbersOutside headerOutside layoutOf layoutNumber otherLayout framed outside frameBits dataBits bits number characters textLength bufferAfter
+text-16-written = refl
+
+-- 90 characters have N 30; 91 are refusal 12
+pub text-16-of-90 : saysMade (makeText (header 16) (replicate 90 65)) ≡ answers (framed (header 16) (replicate 30 0x414141))
+unfolding factors stateOutside numbersOutside headerOutside layoutOf layoutNumber otherLayout doneMade refusedMade framed frameWith wordsIn filled cutWords fillOf entryBits bits number makeText
+text-16-of-90 = refl
+
+pub text-16-of-91 : saysMade (makeText (header 16) (replicate 91 65)) ≡ refuses 12
+unfolding factors stateOutside numbersOutside headerOutside layoutOf layoutNumber otherLayout refusedMade makeText
+text-16-of-91 = refl

@@ -1,7 +1,7 @@
 -- Types 1 and 9: the layout as data, what its codes mean, and the answers in their orders. Assumes nothing.
 use mathlib.Core.Bool.{Bool, _||_}
 use mathlib.Core.List.{List, [], _∷_}
-use Prim.Native.Nat.{ℕ, _*_, _^_, _<_}
+use Prim.Native.Nat.{ℕ, _*_, _^_, _≤_, _<_}
 use lib.Signed.{mag}
 use lib.Dec.{ltb}
 use lib.ListN.{getD}
@@ -18,7 +18,7 @@ use Rattle.record.specs.declared.correction.Correction.{Correction}
 use Rattle.record.specs.declared.correction.CorrectionRead.{CorrectionRead}
 use Rattle.record.specs.declared.correction.CorrectionRead.the-variants as read
 use Rattle.record.specs.Satellites.{satelliteOf, satelliteCode}
-use Rattle.record.specs.Lists.{listCount, listEntry, listMade, MadeReads}
+use Rattle.record.specs.Lists.{listCount, listEntry, listMade, MadeReads, Sendable, Holding, ListRead}
 
 -- THE LAYOUT, 40 bits: scale 1, UDRE 2, satellite 5, PRC 16, RRC 8, IOD 8
 abbrev pub widths : List ℕ
@@ -78,7 +78,7 @@ saysCorrectionRead (read.Refused n) = refuses n
 
 -- ---- what the round trip says
 
--- what the types of the fields say of every entry
+-- what the types of the fields say of every entry; `mag z` is n for n and for -(n + 1), so -32768 and -128 are inside
 pub record Typed (e : Correction) : Type 0 where
   pub prc : mag (e .prc) < 2 ^ 15
   pub rrc : mag (e .rrc) < 2 ^ 7
@@ -87,3 +87,21 @@ pub record Typed (e : Correction) : Type 0 where
 -- made, then read
 abbrev pub CorrectionsMade : Header → List Correction → ℕ → Correction → Frame → Type 0
 CorrectionsMade = MadeReads layout.Correction coding fill read.Refused read.Entry
+
+-- IN RANGE: scale 0 or 1, UDRE 0 to 3, satellite 1 to 32; any PRC, RRC and IOD of their types may be sent
+pub record InRange (e : Correction) : Type 0 where
+  pub scale : e .scale ≤ 1
+  pub udre : e .udre ≤ 3
+  pub least : 1 ≤ e .satellite
+  pub most : e .satellite ≤ 32
+
+-- c corrections that can be sent: 1 to 18
+abbrev pub SendableCorrections : Header → List Correction → ℕ → Correction → Type 0
+SendableCorrections = Sendable layout.Correction 18 InRange
+
+-- a frame that holds c corrections, and what is read of it
+abbrev pub HoldsCorrections : Frame → ℕ → Type 0
+HoldsCorrections = Holding layout.Correction coding 18
+
+abbrev pub ReadsCorrections : Frame → ℕ → Type 0
+ReadsCorrections = ListRead coding countCorrections correctionAt read.Entry

@@ -1,7 +1,7 @@
 -- Type 5: the layout as data, what its codes mean, and the answers in their orders. Assumes nothing.
 use mathlib.Core.Bool.{Bool, _||_}
 use mathlib.Core.List.{List, [], _∷_}
-use Prim.Native.Nat.{ℕ}
+use Prim.Native.Nat.{ℕ, _^_, _≤_, _<_}
 use lib.Dec.{ltb}
 use lib.ListN.{getD}
 use Rattle.answer.specs.Order.{Says, refuses, answers}
@@ -15,7 +15,7 @@ use Rattle.record.specs.declared.health.SatelliteHealth.{SatelliteHealth
 use Rattle.record.specs.declared.health.HealthRead.{HealthRead}
 use Rattle.record.specs.declared.health.HealthRead.the-variants as read
 use Rattle.record.specs.Satellites.{satelliteOf, satelliteCode}
-use Rattle.record.specs.Lists.{listCount, listEntry, listMade, MadeReads}
+use Rattle.record.specs.Lists.{listCount, listEntry, listMade, MadeReads, Sendable, Holding, ListRead}
 
 -- THE LAYOUT, 24 bits: reserved 1, satellite 5, IOD link 1, health 3, C/N0 5, enable 1, new data 1, loss warning 1, time 4, reserved 2
 abbrev pub widths : List ℕ
@@ -78,7 +78,33 @@ abbrev pub saysHealthRead : HealthRead → Says SatelliteHealth
 saysHealthRead (read.Entry e) = answers e
 saysHealthRead (read.Refused n) = refuses n
 
--- ---- what the round trip says: made, then read
+-- ---- what the round trip says
 
+-- made, then read
 abbrev pub HealthsMade : Header → List SatelliteHealth → ℕ → SatelliteHealth → Frame → Type 0
 HealthsMade = MadeReads layout.Health coding fill read.Refused read.Entry
+
+-- IN RANGE: every field within its width, satellite 1 to 32
+pub record InRange (e : SatelliteHealth) : Type 0 where
+  pub reserved : e .reserved < 2 ^ 1
+  pub link : e .link < 2 ^ 1
+  pub health : e .health < 2 ^ 3
+  pub cn0 : e .cn0 < 2 ^ 5
+  pub enable : e .enable < 2 ^ 1
+  pub new : e .new_data < 2 ^ 1
+  pub loss : e .loss < 2 ^ 1
+  pub time : e .time < 2 ^ 4
+  pub spare : e .spare < 2 ^ 2
+  pub some : 0 < e .satellite
+  pub few : e .satellite ≤ 32
+
+-- c healths that can be sent: 1 to 31
+abbrev pub SendableHealths : Header → List SatelliteHealth → ℕ → SatelliteHealth → Type 0
+SendableHealths = Sendable layout.Health 31 InRange
+
+-- a frame that holds c healths, and what is read of it
+abbrev pub HoldsHealths : Frame → ℕ → Type 0
+HoldsHealths = Holding layout.Health coding 31
+
+abbrev pub ReadsHealths : Frame → ℕ → Type 0
+ReadsHealths = ListRead coding countHealths healthAt read.Entry

@@ -11,7 +11,7 @@ use Rattle.frame.specs.declared.Layout.the-variants as layout
 use Rattle.record.specs.declared.stage.Made.{Made}
 use Rattle.record.specs.declared.null.NullRead.{NullRead}
 use Rattle.record.specs.declared.null.NullRead.the-variants as read
-use Rattle.record.specs.Stages.{wrongSize, readOrder, makeOrder, refusedMade, doneMade}
+use Rattle.record.specs.Stages.{wrongSize, readOrder, makeOrder, refusedMade, doneMade, HeaderFor, FrameFor}
 
 -- READING: 5, 6, 7, 8
 unfoldable pub readNull : Frame → NullRead
@@ -31,4 +31,13 @@ pub record NullMade (h : Header) (f : Frame) : Type 0 where
   pub header : f .header ≡ h
   pub inside : outside f ≡ false
   pub reads : readNull f ≡ read.Null
+  pub n : f .n ≡ 0
+
+-- A NULL FRAME CAN BE SENT under every header that is for it
+abbrev pub SendableNull : Header → Type 0
+SendableNull = HeaderFor layout.Null
+
+-- A FRAME THAT IS NULL: it is for the layout, and N is 0
+pub record HoldsNull (f : Frame) : Type 0 where
+  pub frame : FrameFor layout.Null f
   pub n : f .n ≡ 0

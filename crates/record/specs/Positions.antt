@@ -17,7 +17,7 @@ use Rattle.record.specs.declared.stage.Made.{Made}
 use Rattle.record.specs.declared.position.Position.{Position}
 use Rattle.record.specs.declared.position.PositionRead.{PositionRead}
 use Rattle.record.specs.declared.position.PositionRead.the-variants as read
-use Rattle.record.specs.Stages.{wrongSize, readOrder, makeOrder, refusedMade, doneMade}
+use Rattle.record.specs.Stages.{wrongSize, readOrder, makeOrder, refusedMade, doneMade, HeaderFor, FrameFor}
 
 -- THE LAYOUT, 96 bits: X, Y, Z, two's complement of 32 bits each
 abbrev pub widths : List ℕ
@@ -66,7 +66,7 @@ saysPositionRead (read.Refused n) = refuses n
 
 -- ---- what the round trip says
 
--- what the types of the fields say of every position
+-- what the types of the fields say of every position; `mag z` is n for n and for -(n + 1), so -2147483648 is inside
 pub record Typed (p : Position) : Type 0 where
   pub x : mag (p .x) < 2 ^ 31
   pub y : mag (p .y) < 2 ^ 31
@@ -78,3 +78,24 @@ pub record PositionMade (h : Header) (p : Position) (f : Frame) : Type 0 where
   pub inside : outside f ≡ false
   pub reads : readPosition f ≡ read.At p
   pub n : f .n ≡ 4
+
+-- -2147483648, outside the range
+abbrev pub lowest : ℤ
+lowest = negsuc 2147483647
+
+-- IN RANGE: no coordinate is -2147483648
+pub record InRange (p : Position) : Type 0 where
+  pub x : p .x ≡ lowest → ⊥
+  pub y : p .y ≡ lowest → ⊥
+  pub z : p .z ≡ lowest → ⊥
+
+-- A POSITION THAT CAN BE SENT
+pub record SendablePosition (h : Header) (p : Position) : Type 0 where
+  pub header : HeaderFor layout.Position h
+  pub range : InRange p
+
+-- A FRAME THAT HOLDS A POSITION: it is for the layout, N is 4, and no coordinate that its bits say is -2147483648
+pub record HoldsPosition (f : Frame) : Type 0 where
+  pub frame : FrameFor layout.Position f
+  pub n : f .n ≡ 4
+  pub range : InRange (positionIn f)

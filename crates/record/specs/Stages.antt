@@ -1,7 +1,9 @@
--- The orders of refusals that reading and making share, and what each answer says in the table's terms. Assumes nothing.
-use mathlib.Core.Bool.{Bool, not, _||_, cond}
+-- The orders of refusals that reading and making share, what passes their first checks, and what each answer says in the table's terms.
+-- Assumes nothing.
+use mathlib.Core.Path.{_≡_}
+use mathlib.Core.Bool.{Bool, false, not, _||_, cond}
 use mathlib.Core.List.{List, _∷_}
-use Prim.Native.Nat.{ℕ, _+_, _*_, _/_}
+use Prim.Native.Nat.{ℕ, _+_, _*_, _/_, _<_}
 use lib.Dec.{eqb}
 use Rattle.answer.specs.Order.{Says, refuses, answers, Check}
 use Rattle.frame.specs.Frames.{blank}
@@ -74,6 +76,26 @@ refusedMade n = record { answer = making.Refused n; frame = blank }
 
 unfoldable pub doneMade : Frame → Made
 doneMade f = record { answer = making.Done; frame = f }
+
+-- ---- what passes the first checks
+
+-- a header under which a record of a layout can be sent: within its widths, of a type of that layout, Z count below 6000
+pub record HeaderFor (asked : Layout) (h : Header) : Type 0 where
+  pub inside : headerOutside h ≡ false
+  pub kind : layoutOf (h .kind) ≡ asked
+  pub hour : h .z < 6000
+
+-- a frame of which such a record can be read: the same, and its words within their widths
+pub record FrameFor (asked : Layout) (f : Frame) : Type 0 where
+  pub inside : outside f ≡ false
+  pub kind : layoutOf (f .header .kind) ≡ asked
+  pub hour : f .header .z < 6000
+
+-- the answer to making is a frame, not a refusal, and this is said of it
+pub record Sent (m : Made) (Reads : Frame → Type 0) : Type 0 where
+  pub frame : Frame
+  pub done : m ≡ doneMade frame
+  pub reads : Reads frame
 
 -- ---- in the table's terms
 

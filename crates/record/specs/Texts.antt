@@ -2,9 +2,9 @@
 use mathlib.Core.Path.{_≡_}
 use mathlib.Core.Bool.{Bool, _||_, cond, false}
 use mathlib.Core.List.{List, [], _∷_, _++_, map}
-use Prim.Native.Nat.{ℕ, _*_, _-_, _+_, _/_, _≤_}
+use Prim.Native.Nat.{ℕ, _*_, _-_, _+_, _/_, _≤_, _<_}
 use lib.Dec.{ltb, eqb}
-use lib.ListN.{length, drop, getD}
+use lib.ListN.{length, drop, getD, replicate}
 use Rattle.answer.specs.Order.{Check, inOrder}
 use Rattle.bits.specs.Rows.{rowsAt, FillAfter}
 use Rattle.frame.specs.Widths.{anyOf, outside}
@@ -17,7 +17,7 @@ use Rattle.record.specs.declared.stage.Size.the-variants.{Right, Wrong}
 use Rattle.record.specs.declared.stage.Count.{Count}
 use Rattle.record.specs.declared.stage.Count.the-variants as count
 use Rattle.record.specs.declared.stage.Made.{Made}
-use Rattle.record.specs.Stages.{readOrder, makeOrder, refusedMade, doneMade}
+use Rattle.record.specs.Stages.{readOrder, makeOrder, refusedMade, doneMade, HeaderFor, FrameFor}
 
 -- THE LAYOUT: a character is 8 bits, three a word
 abbrev pub widths : List ℕ
@@ -92,3 +92,28 @@ pub record TextMade (h : Header) (t : List ℕ) (f : Frame) : Type 0 where
   pub writes : (buffer : List ℕ) → length t ≤ length buffer → bufferAfter f buffer ≡ t ++ drop (length t) buffer
   pub n : f .n ≡ (length t * 8 + 23) / 24
   pub fills : FillAfter fill (length t * 8) (frameBits f)
+
+-- characters 1 to 127
+abbrev pub Allowed : List ℕ → Type 0
+Allowed t = (i : ℕ) → i < length t → (1 ≤ getD t i 0) × (getD t i 0 ≤ 127)
+
+-- A TEXT THAT CAN BE SENT: 1 to 90 characters, each 1 to 127
+pub record SendableText (h : Header) (t : List ℕ) : Type 0 where
+  pub header : HeaderFor layout.Text h
+  pub some : 1 ≤ length t
+  pub few : length t ≤ 90
+  pub allowed : Allowed t
+
+-- A FRAME THAT HOLDS A TEXT: N is 1 to 30; its 3N characters are the text, each 1 to 127, and behind it k zeros, none, one or two
+pub record HoldsText (f : Frame) (t : List ℕ) (k : ℕ) : Type 0 where
+  pub frame : FrameFor layout.Text f
+  pub some : 1 ≤ f .n
+  pub few : f .n ≤ 30
+  pub zeros : k ≤ 2
+  pub says : characters (3 * f .n) (frameBits f) ≡ t ++ replicate k 0
+  pub allowed : Allowed t
+
+-- it is read: the number of its characters, and they stand in the buffer before what stood behind them
+pub record ReadsText (f : Frame) (t : List ℕ) : Type 0 where
+  pub reads : (buffer : List ℕ) → length t ≤ length buffer → readText f buffer ≡ count.Of (length t)
+  pub writes : (buffer : List ℕ) → length t ≤ length buffer → bufferAfter f buffer ≡ t ++ drop (length t) buffer

@@ -92,7 +92,7 @@ fn print_frame(frame: Frame) {
 }
 
 // Writes the words of a made frame, or the refusal's number.
-fn print_made(made: Made) {
+pub(crate) fn print_made(made: Made) {
     let answer = made.answer;
     let frame = made.frame;
     match answer {

@@ -1,5 +1,6 @@
 // Type 16: text, made from its characters and read from its words.
 use crate::print::print;
+use crate::print::print_made;
 use crate::print::print_number;
 use crate::print::print_refusal;
 use crate::print::print_vector;
@@ -47,7 +48,24 @@ fn show(name: &[u8], text: &[u8], read: Frame) {
     print_text(read);
 }
 
-// The vectors of type 16: one zero closes the last word, two zeros, none.
+// The longest text, 90 characters, has N 30; one character more is refused.
+fn longest() {
+    let data = [0x414243u32; 30];
+    show(
+        b"V16d",
+        b"ABCABCABCABCABCABCABCABCABCABCABCABCABCABCABCABCABCABCABCABCABCABCABCABCABCABCABCABCABCABC",
+        frame_of(0x664005, 0x0323F0, &data),
+    );
+    let header = header_with(16);
+    let made = record::text::make_text(
+        header,
+        b"ABCABCABCABCABCABCABCABCABCABCABCABCABCABCABCABCABCABCABCABCABCABCABCABCABCABCABCABCABCABCD",
+    );
+    print(b"V16e 91 characters\n");
+    print_made(made);
+}
+
+// The vectors of type 16: one zero closes the last word, two zeros, none; the longest text.
 pub(crate) fn run() {
     let one = [0x515549u32, 0x434B00];
     show(b"V16a", b"QUICK", frame_of(0x664005, 0x032310, &one));
@@ -59,4 +77,5 @@ pub(crate) fn run() {
         b"\x01\x7F\x20",
         frame_of(0x664005, 0x032308, &none),
     );
+    longest();
 }

@@ -8,8 +8,8 @@ use native.Mathlib.Omega.{arith}
 use lib.ListN.{length, take, drop, getD}
 use lib.Seq.{sets, split-at}
 use borrow.Author.Tests.{ltb-false}
-use Rattle.answer.specs.Order.{Check, inOrder}
-use Rattle.answer.proofs.OrderLaws.{NoneApplies, first-at, order-answers, order-refuses, order-told, order-keeps}
+use Rattle.answer.specs.Order.{Check, inOrder, NoneApplies}
+use Rattle.answer.proofs.OrderLaws.{first-at, order-answers, order-refuses, order-told, order-keeps}
 use Rattle.bits.specs.Bits.{number}
 use Rattle.frame.specs.Header.{firstWord, secondWord}
 use Rattle.frame.specs.Frames.{wordsOf, Below}

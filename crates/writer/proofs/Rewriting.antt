@@ -12,7 +12,7 @@ use Rattle.word.proofs.Sending.{data-number, only-sent}
 use Rattle.stream.specs.Standing.{wordAt, size, Stands, dataFrom, frameAt}
 use Rattle.stream.proofs.Words.{right-passes}
 use Rattle.stream.proofs.Stand.{stands-long}
-use Rattle.stream.proofs.Turning.{take-turned, drop-turned, stands-turned, n-turned, frame-turned}
+use Rattle.stream.proofs.Turning.{take-turned, drop-turned, n-turned}
 use Rattle.stream.proofs.Data.{word-later, data-later, words-standing}
 use Rattle.writer.specs.Sending.{sentFrom, frameBits}
 use Rattle.writer.specs.OneFrame.{itsBits}
@@ -68,8 +68,3 @@ bits-turned d s =
     ap (λ n. take (30 * (2 + n)) (drop 2 (map not d))) (n-turned d (stands-long d s))
     ∙ ap (take (30 * size d)) (drop-turned 2 d)
     ∙ take-turned (30 * size d) (drop 2 d)
-
--- the same frame, after its own two bits turned over, gives its own bits turned over
-pub rewritten-turned : (d : List Bool) → Stands d → frameBits (d29* (map not d)) (d30* (map not d)) (frameAt d) ≡ map not (itsBits d)
-rewritten-turned d s =
-    ap (frameBits (d29* (map not d)) (d30* (map not d))) (sym (frame-turned d s)) ∙ rewritten (map not d) (stands-turned d s) ∙ bits-turned d s

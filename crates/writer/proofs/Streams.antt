@@ -6,7 +6,7 @@ use Prim.Native.Nat.{ℕ, suc, _+_, _*_, _/_, _%_, _≤_, _<_}
 use native.Mathlib.Omega.{arith}
 use lib.ListN.{length, take, drop, replicate, length-append, length-drop}
 use borrow.Author.Tests.{le-ltb}
-use Rattle.answer.proofs.OrderLaws.{NoneApplies}
+use Rattle.answer.specs.Order.{NoneApplies}
 use Rattle.bits.specs.Bits.{bits}
 use Rattle.line.specs.Line.{six, lineBits}
 use Rattle.frame.specs.Frames.{wordsOf}

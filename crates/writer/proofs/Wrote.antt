@@ -7,7 +7,7 @@ use native.Mathlib.Omega.{arith}
 use lib.ListN.{length, take, drop}
 use lib.Dec.{ltb}
 use borrow.Author.Tests.{le-ltb}
-use Rattle.answer.proofs.OrderLaws.{NoneApplies}
+use Rattle.answer.specs.Order.{NoneApplies}
 use Rattle.bits.specs.Bits.{val, isNonzero}
 use Rattle.bits.proofs.Xor.{one-val, val-lt}
 use Rattle.line.specs.Line.{lineBits}

@@ -6,8 +6,7 @@ use native.Mathlib.Omega.{arith}
 use lib.ListN.{length, take}
 use borrow.Author.Needs.{needs}
 use borrow.Author.Tests.{lt-ltb, le-ltb}
-use Rattle.answer.specs.Order.{Check}
-use Rattle.answer.proofs.OrderLaws.{NoneApplies}
+use Rattle.answer.specs.Order.{Check, NoneApplies}
 use Rattle.frame.specs.Widths.{outside}
 use Rattle.frame.proofs.WidthLaws.{told-outside, told-within, told-late, told-hour}
 use Rattle.frame.proofs.FrameLaws.{n-within, words-below}
