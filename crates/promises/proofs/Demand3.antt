@@ -1,42 +1,49 @@
 -- DEMAND 3 holds: only frames that stand, as soon as they do, each once and none lost, never 5, and nothing where a damaged frame began.
 -- Assumes nothing.
 use mathlib.Core.Path.{_≡_, refl, sym, ap, ap₂, subst, _∙_}
-use mathlib.Core.Bool.{Bool, true, false}
+use mathlib.Core.Bool.{Bool, true, false, cond}
 use mathlib.Core.List.{List, [], _∷_, _++_, map, append-nil, List·Memᴰ, List·Memᴰ·not-nil, List·Memᴰ·cases-cons, Memᴰ·append-left}
 use mathlib.Core.Logic.{_⊎_, inl, inr}
-use Prim.Native.Nat.{ℕ, _+_, _*_, _≤_, _<_}
+use Prim.Native.Nat.{ℕ, _+_}
 use native.Mathlib.Omega.{arith}
 use lib.ListN.{length, take, drop, length-map}
 use lib.Seq.{take-at}
-use Rattle.line.specs.Line.{isData, six, lineBits}
+use Rattle.answer.specs.Order.{Says, refuses, answers}
+use Rattle.line.specs.Line.{isData, lineBits}
+use Rattle.frame.specs.Widths.{outside}
+use Rattle.frame.specs.declared.Frame.{Frame}
 use Rattle.stream.specs.Standing.{Stands, Placed, placed, scan, framesIn, endOf}
 use Rattle.stream.specs.Verdict.{decided}
-use Rattle.stream.specs.Places.{StandsIn, FoundOrCovered, Apart, Damaged}
-use Rattle.stream.proofs.Words.{unlike}
+use Rattle.stream.specs.Places.{StandsIn, Apart}
 use Rattle.stream.proofs.Verdicts.{verdict-undecided}
 use Rattle.stream.proofs.Scanning.{only, complete, apart}
-use Rattle.stream.proofs.Prefix.{decided-undecided}
+use Rattle.stream.proofs.Data.{frame-within}
+use Rattle.stream.proofs.Prefix.{decided-undecided, decided-begins}
 use Rattle.stream.proofs.InTime as stream
 use Rattle.stream.proofs.Hunting.{MayCome, Idle}
 use Rattle.stream.proofs.Damage.{damaged-nowhere}
-use Rattle.reader.specs.Reading.{bitsOf, started, past, fedBy, fedAllBy, endedBy, takenBy, pushed}
+use Rattle.reader.specs.Reading.{bitsOf, started, past, fedBy, endedBy, pushed, saysNext, saysFedAll, saysTaken}
 use Rattle.reader.specs.declared.Reader.{Reader}
-use Rattle.reader.specs.declared.Answer.{Answer}
-use Rattle.reader.specs.declared.Answer.the-variants.{Done, Refused}
+use Rattle.reader.specs.declared.Answer.the-variants.{Done}
 use Rattle.reader.specs.declared.Next.{Next}
 use Rattle.reader.specs.declared.FedAll.{FedAll}
 use Rattle.reader.specs.declared.Taken.{Taken}
-use Rattle.promises.specs.Calls.{Call, feeds, feedsAll, ends, takes, Reply, replied, answerOf, replyTo, after, bitsGiven, afterAll, replies, bitsTaken, handedOut, reported, takesAll, served}
-use Rattle.promises.specs.Demand3.{found, OnlyFrames, AsSoonAs, HandedOut, NeverFive, DamageBeginsNothing}
+use Rattle.promises.specs.Calls.{Call, feeds, feedsAll, ends, takes, Reply, replied, used, took, answerOf, replyTo, after, bitsGiven, afterAll, replies, bitsTaken, handedOut, reported, takesAll, served}
+use Rattle.promises.specs.Demand3.{found, OnlyFrames, AsSoonAs, NothingLost, HandedOut, NeverFive, DamageBeginsNothing}
 use Rattle.promises.proofs.Kept.{Kept, kept-started}
-use Rattle.promises.proofs.Runs.{given, fed-by, all-by, ended-by, taken-by, never-past, kept-call, kept-calls, kept}
-use Rattle.promises.proofs.Serving.{after-append, bits-append, takes-no-bit, takes-ended, none-waits, Served, serves}
+use Rattle.promises.proofs.Runs.{given, fed-by, all-by, ended-by, taken-by, never-past, kept-call, kept}
+use Rattle.promises.proofs.Serving.{after-append, bits-append, takes-no-bit, takes-ended, none-waits, byte-held, Served, serves}
 
 -- ---- what was handed out is the first frames of the scan
 
 none-comes : (t : Bool) → MayCome t []
 none-comes false = tt
 none-comes true = refl
+
+-- the first of frames that are apart are apart
+front : (l : List Placed) (p : ℕ) (m : List Placed) → Apart p (l ++ m) → Apart p l
+front [] p m a = tt
+front (h ∷ l) p m a = (a .0, front l (endOf h) m (a .1))
 
 module _ (cs : List Call) where
   abbrev k : Kept (bitsTaken started cs) (handedOut started cs) (afterAll started cs)
@@ -53,20 +60,20 @@ module _ (cs : List Call) where
       ap (λ l. take (length (handedOut started cs)) l) scanned
       ∙ take-at (k .hits) (scan 0 (2 + k .gone) (bitsOf (afterAll started cs))) (length (handedOut started cs)) (sym (ap length (k .given) ∙ length-map (k .hits) reported))
 
+  stood : (h : Placed) → List·Memᴰ h (found cs) → StandsIn 2 (bitsTaken started cs) h
+  stood h m = only 0 2 (bitsTaken started cs) h (subst (List·Memᴰ h) (sym scanned) (Memᴰ·append-left (scan 0 (2 + k .gone) (bitsOf (afterAll started cs))) (subst (List·Memᴰ h) found-is m)))
+
   -- "Only frames by the definition are ever handed out"
   pub only-frames : OnlyFrames cs
   only-frames = record {
     given = k .given ∙ ap (map reported) (sym found-is);
-    stand = λ h m. only 0 2 (bitsTaken started cs) h (subst (List·Memᴰ h) (sym scanned) (Memᴰ·append-left (scan 0 (2 + k .gone) (bitsOf (afterAll started cs))) (subst (List·Memᴰ h) found-is m)));
+    stand = stood;
+    within = λ h m. ap (λ (x : Placed). outside (x .frame)) (stood h m .is) ∙ (unfold placed in frame-within (drop (stood h m .off) (bitsTaken started cs)));
     once = subst (Apart 2) (sym found-is) (front (k .hits) 2 _ (subst (Apart 2) scanned (apart 0 2 (bitsTaken started cs))));
   }
-    where
-      front : (l : List Placed) (p : ℕ) (m : List Placed) → Apart p (l ++ m) → Apart p l
-      front [] p m a = tt
-      front (h ∷ l) p m a = (a .0, front l (endOf h) m (a .1))
 
   -- "as soon as"
-  pub as-soon-as : afterAll started cs .ended ≡ false → AsSoonAs cs
+  pub as-soon-as : AsSoonAs cs
   as-soon-as e = record {
     gone = k .gone;
     held = k .stage .split;
@@ -75,11 +82,37 @@ module _ (cs : List Call) where
     hunts = λ w. subst (Idle false (afterAll started cs .candidate .words)) (k .stage .split) (subst (λ t. Idle t (afterAll started cs .candidate .words) (bitsOf (afterAll started cs))) e (k .idle w));
   }
 
+  -- "nothing lost"
+  pub nothing-lost : NothingLost cs
+  nothing-lost w = found-is ∙ go (afterAll started cs .ended) refl
+    where
+      s : List Bool
+      s = bitsTaken started cs
+
+      d : List Bool
+      d = bitsOf (afterAll started cs)
+
+      quiet : (e : Bool) → afterAll started cs .ended ≡ e → Idle e (afterAll started cs .candidate .words) d
+      quiet e x = subst (λ t. Idle t (afterAll started cs .candidate .words) d) x (k .idle w)
+
+      go : (e : Bool) → afterAll started cs .ended ≡ e → k .hits ≡ cond e (framesIn s) (decided 0 2 s)
+      go true x = sym (scanned ∙ ap (λ l. k .hits ++ scan 0 (2 + k .gone) l) (quiet true x) ∙ (unfold scan in append-nil (k .hits)))
+      go false x =
+          let q = quiet false x in
+          let v = verdict-undecided (afterAll started cs .candidate .words) d (q .0) (q .1) in
+          sym (ap (decided 0 2) (sym (append-nil s)) ∙ k .stage .decides x [] ∙ ap (λ l. k .hits ++ decided 0 (2 + k .gone) l) (append-nil d)
+          ∙ ap (λ l. k .hits ++ l) (decided-undecided (2 + k .gone) (v .0) d (v .1)) ∙ append-nil (k .hits))
+
   -- "nothing begins where that frame began"
   pub damage-begins-nothing : DamageBeginsNothing cs
   damage-begins-nothing g g′ pre post e x cut h m =
       damaged-nowhere g g′ pre post (bitsTaken started cs) e x cut h
       (subst (List·Memᴰ h) (sym scanned) (Memᴰ·append-left (scan 0 (2 + k .gone) (bitsOf (afterAll started cs))) (subst (List·Memᴰ h) found-is m)))
+
+  -- all that was handed out, where none waits
+  pub out-is : (e : Bool) → afterAll started cs .ended ≡ e → afterAll started cs .candidate .waits ≡ false → (s : List Bool) → bitsTaken started cs ≡ s
+      → handedOut started cs ≡ map reported (cond e (framesIn s) (decided 0 2 s))
+  out-is e x w s b = only-frames .given ∙ ap (map reported) (nothing-lost w ∙ ap₂ (λ t l. cond t (framesIn l) (decided 0 2 l)) x b)
 
 -- ---- every waiting frame taken at once
 
@@ -87,127 +120,94 @@ module _ (bs : List ℕ) where
   v : Served started bs
   v = serves bs [] [] started kept-started (unfold started in refl) (unfold started in refl)
 
-  -- "handed out .. at latest when 990 bits from its first have been taken": what is out is what is decided
-  decided-out : handedOut started (served bs) ≡ map reported (decided 0 2 (lineBits bs))
-  decided-out = s .given ∙ ap (map reported) (sym all)
-    where
-      s : Kept (bitsTaken started (served bs)) (handedOut started (served bs)) (afterAll started (served bs))
-      s = kept (served bs)
+  abbrev all : List Call
+  all = served bs ++ (ends ∷ takesAll)
 
-      d : List Bool
-      d = bitsOf (afterAll started (served bs))
-
-      quiet : Idle false (afterAll started (served bs) .candidate .words) d
-      quiet = subst (λ t. Idle t (afterAll started (served bs) .candidate .words) d) (v .goes) (s .idle (v .none))
-
-      nothing : decided 0 (2 + s .gone) d ≡ []
-      nothing =
-          let w = verdict-undecided (afterAll started (served bs) .candidate .words) d (quiet .0) (quiet .1) in
-          decided-undecided (2 + s .gone) (w .0) d (w .1)
-
-      all : decided 0 2 (lineBits bs) ≡ s .hits
-      all =
-          ap (decided 0 2) (sym (v .bits) ∙ sym (append-nil (bitsTaken started (served bs))))
-          ∙ s .stage .decides (v .goes) []
-          ∙ ap (λ l. s .hits ++ decided 0 (2 + s .gone) l) (append-nil d) ∙ ap (λ l. s .hits ++ l) nothing ∙ append-nil (s .hits)
-
-  -- ".. or the input has ended": what is out then is the scan of the whole stream
   r : Reader
   r = afterAll started (served bs)
 
   last : Reader
   last = afterAll (after r ends) takesAll
 
-  over : after r ends .ended ≡ true
-  unfolding after r
-  over = ap (λ (f : Next). f .reader .ended) (ended-by (afterAll started (served bs)) false false false (never-past _ _ _ (kept (served bs))) (v .goes) (v .none))
-
-  last-ended : last .ended ≡ true
-  unfolding last
-  last-ended = takes-ended 16 (after r ends) ∙ over
-
-  last-none : last .candidate .waits ≡ false
-  unfolding last r
-  last-none = none-waits _ _ (after (afterAll started (served bs)) ends) (kept-call _ _ _ ends (kept (served bs)))
-
-  last-is : afterAll started (served bs ++ (ends ∷ takesAll)) ≡ last
+  last-is : afterAll started all ≡ last
   unfolding last r
   last-is = after-append (served bs) (ends ∷ takesAll) started ∙ (unfold afterAll in refl)
 
-  last-bits : bitsTaken started (served bs ++ (ends ∷ takesAll)) ≡ lineBits bs
+  last-ended : afterAll started all .ended ≡ true
+  unfolding last r
+  last-ended = ap (λ (t : Reader). t .ended) last-is ∙ takes-ended 16 (after (afterAll started (served bs)) ends) ∙ (unfold after in over)
+    where
+      over : endedBy (afterAll started (served bs)) .reader .ended ≡ true
+      over = ap (λ (f : Next). f .reader .ended) (ended-by (afterAll started (served bs)) false false false (never-past _ _ _ (kept (served bs))) (v .goes) (v .none))
+
+  last-none : afterAll started all .candidate .waits ≡ false
+  unfolding last r
+  last-none = ap (λ (t : Reader). t .candidate .waits) last-is ∙ none-waits _ _ (after (afterAll started (served bs)) ends) (kept-call _ _ _ ends (kept (served bs)))
+
+  last-bits : bitsTaken started all ≡ lineBits bs
   unfolding r
   last-bits = bits-append (served bs) (ends ∷ takesAll) started ∙ ap₂ _++_ (v .bits) none ∙ append-nil (lineBits bs)
     where
       none : bitsTaken (afterAll started (served bs)) (ends ∷ takesAll) ≡ []
       none = unfold bitsTaken bitsGiven in takes-no-bit 16 (after (afterAll started (served bs)) ends)
 
-  ended-out : handedOut started (served bs ++ (ends ∷ takesAll)) ≡ map reported (framesIn (lineBits bs))
-  ended-out = s .given ∙ ap (map reported) (sym all)
-    where
-      s : Kept (bitsTaken started (served bs ++ (ends ∷ takesAll))) (handedOut started (served bs ++ (ends ∷ takesAll))) (afterAll started (served bs ++ (ends ∷ takesAll)))
-      s = kept (served bs ++ (ends ∷ takesAll))
-
-      ended : afterAll started (served bs ++ (ends ∷ takesAll)) .ended ≡ true
-      ended = ap (λ (t : Reader). t .ended) last-is ∙ last-ended
-
-      none : afterAll started (served bs ++ (ends ∷ takesAll)) .candidate .waits ≡ false
-      none = ap (λ (t : Reader). t .candidate .waits) last-is ∙ last-none
-
-      empty : bitsOf (afterAll started (served bs ++ (ends ∷ takesAll))) ≡ []
-      empty = subst (λ t. Idle t (afterAll started (served bs ++ (ends ∷ takesAll)) .candidate .words) (bitsOf (afterAll started (served bs ++ (ends ∷ takesAll))))) ended (s .idle none)
-
-      all : framesIn (lineBits bs) ≡ s .hits
-      all =
-          ap framesIn (sym last-bits) ∙ scanned (served bs ++ (ends ∷ takesAll))
-          ∙ ap (λ l. s .hits ++ scan 0 (2 + s .gone) l) empty ∙ (unfold scan in append-nil (s .hits))
+  so-far : Apart 2 (decided 0 2 (lineBits bs))
+  so-far = let b = decided-begins 0 2 (lineBits bs) [] in front (decided 0 2 (lineBits bs)) 2 (b .more) (subst (Apart 2) (b .is) (apart 0 2 (lineBits bs ++ [])))
 
   pub handed-out : HandedOut bs
   handed-out = record {
     bits = v .bits;
     none = v .none;
-    out = decided-out;
+    out = out-is (served bs) false (v .goes) (v .none) (lineBits bs) (v .bits);
     in-time = λ q s t. stream.in-time 0 2 q (lineBits bs) (omega arith) s t;
-    ended = ended-out;
+    once-so-far = so-far;
+    ended = out-is all true last-ended last-none (lineBits bs) last-bits;
     at-end = λ q s. complete 0 2 q (lineBits bs) (omega arith) s;
     once = apart 0 2 (lineBits bs);
   }
 
 -- ---- "No call on such a reader is ever refused with 5"
 
-refused-other : {A : Type 0} (n : ℕ) → Refused n ≡ Refused 5 → (n ≡ 5 → ⊥) → A
+refused-other : {A : Type 0} (n : ℕ) → _≡_ {A = Says (Unit {0})} (refuses n) (refuses 5) → (n ≡ 5 → ⊥) → A
 refused-other n e f = absurd (f (let z : n ≡ 5 = cc in z))
 
-done-other : {A : Type 0} → Done ≡ Refused 5 → A
+done-other : {A : Type 0} → _≡_ {A = Says (Unit {0})} (answers tt) (refuses 5) → A
 done-other e = absurd (let z : _≡_ {A = ℕ} 0 1 = cc in omega arith)
 
-answer-not-5 : (r : Reader) → past r ≡ false → (c : Call) → answerOf (replyTo r c) ≡ Refused 5 → ⊥
+answer-not-5 : (r : Reader) → past r ≡ false → (c : Call) → answerOf (replyTo r c) ≡ refuses 5 → ⊥
 unfolding replyTo
 answer-not-5 r p (feeds b) e = go (r .ended) refl (r .candidate .waits) refl (isData b) refl
   where
     go : (x : Bool) → r .ended ≡ x → (y : Bool) → r .candidate .waits ≡ y → (z : Bool) → isData b ≡ z → ⊥
-    go true ex y ey z ez = refused-other 3 (sym (ap (λ (f : Next). f .answer) (fed-by r false true y p ex ey b z ez)) ∙ e) (λ q. omega arith)
-    go false ex true ey z ez = refused-other 2 (sym (ap (λ (f : Next). f .answer) (fed-by r false false true p ex ey b z ez)) ∙ e) (λ q. omega arith)
-    go false ex false ey false ez = refused-other 1 (sym (ap (λ (f : Next). f .answer) (fed-by r false false false p ex ey b false ez)) ∙ e) (λ q. omega arith)
-    go false ex false ey true ez = done-other (sym (ap (λ (f : Next). f .answer) (fed-by r false false false p ex ey b true ez)) ∙ e)
+    go true ex y ey z ez = refused-other 3 (sym (ap saysNext (fed-by r false true y p ex ey b z ez)) ∙ e) (λ q. omega arith)
+    go false ex true ey z ez = refused-other 2 (sym (ap saysNext (fed-by r false false true p ex ey b z ez)) ∙ e) (λ q. omega arith)
+    go false ex false ey false ez = refused-other 1 (sym (ap saysNext (fed-by r false false false p ex ey b false ez)) ∙ e) (λ q. omega arith)
+    go false ex false ey true ez = done-other (sym (ap saysNext (fed-by r false false false p ex ey b true ez)) ∙ e)
 answer-not-5 r p (feedsAll bs) e = go (r .ended) refl (r .candidate .waits) refl
   where
+    A : FedAll → Says (Unit {0})
+    A f = answerOf (used (saysFedAll f))
+
     go : (x : Bool) → r .ended ≡ x → (y : Bool) → r .candidate .waits ≡ y → ⊥
-    go true ex y ey = refused-other 3 (sym (ap (λ (f : FedAll). f .answer) (all-by r false true y p ex ey bs)) ∙ e) (λ q. omega arith)
-    go false ex true ey = refused-other 2 (sym (ap (λ (f : FedAll). f .answer) (all-by r false false true p ex ey bs)) ∙ e) (λ q. omega arith)
-    go false ex false ey = done-other (sym (ap (λ (f : FedAll). f .answer) (all-by r false false false p ex ey bs)) ∙ e)
+    go true ex y ey = refused-other 3 (sym (ap A (all-by r false true y p ex ey bs)) ∙ e) (λ q. omega arith)
+    go false ex true ey = refused-other 2 (sym (ap A (all-by r false false true p ex ey bs)) ∙ e) (λ q. omega arith)
+    go false ex false ey = done-other (sym (ap A (all-by r false false false p ex ey bs)) ∙ e)
 answer-not-5 r p ends e = go (r .ended) refl (r .candidate .waits) refl
   where
     go : (x : Bool) → r .ended ≡ x → (y : Bool) → r .candidate .waits ≡ y → ⊥
-    go true ex y ey = refused-other 3 (sym (ap (λ (f : Next). f .answer) (ended-by r false true y p ex ey)) ∙ e) (λ q. omega arith)
-    go false ex true ey = refused-other 2 (sym (ap (λ (f : Next). f .answer) (ended-by r false false true p ex ey)) ∙ e) (λ q. omega arith)
-    go false ex false ey = done-other (sym (ap (λ (f : Next). f .answer) (ended-by r false false false p ex ey)) ∙ e)
+    go true ex y ey = refused-other 3 (sym (ap saysNext (ended-by r false true y p ex ey)) ∙ e) (λ q. omega arith)
+    go false ex true ey = refused-other 2 (sym (ap saysNext (ended-by r false false true p ex ey)) ∙ e) (λ q. omega arith)
+    go false ex false ey = done-other (sym (ap saysNext (ended-by r false false false p ex ey)) ∙ e)
 answer-not-5 r p takes e = go (r .candidate .waits) refl
   where
-    go : (y : Bool) → r .candidate .waits ≡ y → ⊥
-    go false ey = refused-other 4 (sym (ap (λ (f : Taken). f .answer) (taken-by r false false p ey)) ∙ e) (λ q. omega arith)
-    go true ey = done-other (sym (ap (λ (f : Taken). f .answer) (taken-by r false true p ey) ∙ (unfold given in refl)) ∙ e)
+    A : Taken → Says (Unit {0})
+    A f = answerOf (took (saysTaken f))
 
-reply-not-5 : (cs : List Call) (s : List Bool) (out : List Placed) (r : Reader) → Kept s out r → (y : Reply) → List·Memᴰ y (replies r cs) → answerOf y ≡ Refused 5 → ⊥
+    go : (y : Bool) → r .candidate .waits ≡ y → ⊥
+    go false ey = refused-other 4 (sym (ap A (taken-by r false false p ey)) ∙ e) (λ q. omega arith)
+    go true ey = done-other (sym (ap A (taken-by r false true p ey) ∙ (unfold given in refl)) ∙ e)
+
+reply-not-5 : (cs : List Call) (s : List Bool) (out : List (ℕ × Frame)) (r : Reader) → Kept s out r → (y : Reply) → List·Memᴰ y (replies r cs) → answerOf y ≡ refuses 5 → ⊥
 unfolding replies
 reply-not-5 [] s out r q y m e = List·Memᴰ·not-nil m
 reply-not-5 (c ∷ cs) s out r q y m e = go (List·Memᴰ·cases-cons m) (λ x. reply-not-5 cs _ _ (after r c) (kept-call s out r c q) y x e)
@@ -219,10 +219,7 @@ reply-not-5 (c ∷ cs) s out r q y m e = go (List·Memᴰ·cases-cons m) (λ x. 
 pub never-five : (cs : List Call) → NeverFive cs
 never-five cs = record {
   none = reply-not-5 cs [] [] started kept-started;
-  taken = λ b d e w. (
-    (unfold replyTo in ap (λ (f : Next). replied (f .answer)) (fed b d e w)),
-    (unfold replyTo bitsGiven in ap (λ (f : Next). bitsGiven (feeds b) (replied (f .answer))) (fed b d e w)),
-  );
+  taken = λ b d e w. ((unfold replyTo in ap (λ (f : Next). replied (saysNext f)) (fed b d e w)), byte-held _ _ (afterAll started cs) (kept cs) e w b d);
 }
   where
     fed : (b : ℕ) → isData b ≡ true → afterAll started cs .ended ≡ false → afterAll started cs .candidate .waits ≡ false

@@ -2,8 +2,8 @@
 -- left is the rest of the scan. Each step of a call keeps it. Assumes nothing.
 use mathlib.Core.Path.{_≡_, refl, sym, ap, ap₂, subst, _∙_}
 use mathlib.Core.Bool.{Bool, true, false}
-use mathlib.Core.List.{List, [], _∷_, _++_, map, map-append, append-nil, append-assoc}
-use Prim.Native.Nat.{ℕ, _+_, _-_, _*_, _%_, _^_, _≤_, _<_}
+use mathlib.Core.List.{List, [], _∷_, _++_, map, map-append, append-assoc}
+use Prim.Native.Nat.{ℕ, _+_, _-_, _*_, _%_, _^_, _≤_}
 use native.Mathlib.Nat.{add-assoc}
 use native.Mathlib.Omega.{arith}
 use lib.ListN.{length, drop, replicate, length-append, length-drop}
@@ -12,7 +12,8 @@ use Rattle.bits.specs.Bits.{number}
 use Rattle.bits.proofs.Numbers.{bits-number}
 use Rattle.line.specs.Line.{six}
 use Rattle.line.proofs.LineLaws.{length-six, six-lt}
-use Rattle.stream.specs.Standing.{nAt, size, Stands, frameAt, Placed, placed, scan, framesIn}
+use Rattle.frame.specs.declared.Frame.{Frame}
+use Rattle.stream.specs.Standing.{size, Stands, frameAt, Placed, placed, scan, framesIn}
 use Rattle.stream.specs.Verdict.{RightSoFar, decided, hunt}
 use Rattle.stream.proofs.Words.{unlike, n-append}
 use Rattle.stream.proofs.Stand.{stands-long, stands-append, placed-append}
@@ -26,7 +27,7 @@ use Rattle.reader.specs.Reading.{candidateBits, bitsOf, started, movedTo, stepC
 use Rattle.reader.specs.declared.Candidate.{Candidate}
 use Rattle.reader.specs.declared.Reader.{Reader}
 use Rattle.reader.proofs.Buffer.{length-held, held-part, held-none}
-use Rattle.reader.proofs.Accepted.{Accepted, room-free, room-all, left-le, rest-bits, accepted-stop, length-step, step-top, step-low, step-bits}
+use Rattle.reader.proofs.Accepted.{Accepted, room-free, room-all, rest-bits, accepted-stop, length-step, step-top, step-low, step-bits}
 use Rattle.promises.specs.Calls.{reported}
 
 -- where the hunt is after `hits` in the stream s, with d left: at position 2 + gone
@@ -36,7 +37,7 @@ pub record Stage (s : List Bool) (hits : List Placed) (ended : Bool) (gone : ℕ
   pub scanned : (e : List Bool) → MayCome ended e → framesIn (s ++ e) ≡ hits ++ scan 0 (2 + gone) (d ++ e)
   pub decides : ended ≡ false → (e : List Bool) → decided 0 2 (s ++ e) ≡ hits ++ decided 0 (2 + gone) (d ++ e)
 
-pub record Kept (s : List Bool) (out : List Placed) (r : Reader) : Type 0 where
+pub record Kept (s : List Bool) (out : List (ℕ × Frame)) (r : Reader) : Type 0 where
   pub len : length (r .cells) ≡ 40
   pub accepted : Accepted (r .cells) (r .candidate)
   pub hits : List Placed
@@ -68,12 +69,9 @@ further at held n left gone more h m e =
 
 -- ---- THE HUNT GOES ON from word k of the position that the n bits before bit `end` start two bits before
 
-module _ (s : List Bool) (out hits : List Placed) (given : out ≡ map reported hits) (ended : Bool) (cells : List ℕ) (len : length cells ≡ 40)
+module _ (s : List Bool) (out : List (ℕ × Frame)) (hits : List Placed) (given : out ≡ map reported hits) (ended : Bool) (cells : List ℕ) (len : length cells ≡ 40)
     (end n : ℕ) (top : end ≤ 1280) (low : n ≤ end) (room : n ≤ 997) (k : ℕ) (gone : ℕ) (g : Stage s hits ended gone (heldBits cells end n))
     (p : RightSoFar k (heldBits cells end n)) (few : k ≤ 32) (at held : ℕ) (less : n ≤ held) (place : (at + (held - n)) % 2 ^ 32 ≡ (2 + gone) % 2 ^ 32) where
-  d : List Bool
-  d = heldBits cells end n
-
   h : Hunts ended (heldBits cells end n) (hunt ended k (heldBits cells end n))
   h = hunts ended k (heldBits cells end n) p
 
@@ -128,7 +126,7 @@ stage-more s hits gone d x g = record {
   decides = λ f y. rw (append-assoc s x y, append-assoc d x y) (g .decides f (x ++ y));
 }
 
-pub kept-pushed : (s : List Bool) (out : List Placed) (r : Reader) (b : ℕ) → Kept s out r → r .ended ≡ false → r .candidate .waits ≡ false
+pub kept-pushed : (s : List Bool) (out : List (ℕ × Frame)) (r : Reader) (b : ℕ) → Kept s out r → r .ended ≡ false → r .candidate .waits ≡ false
     → Kept (s ++ six b) out (pushed r b)
 unfolding pushed stepTo
 kept-pushed s out r b k e w =
@@ -160,7 +158,7 @@ kept-pushed s out r b k e w =
 
 -- ---- THE END
 
-pub kept-ended : (s : List Bool) (out : List Placed) (r : Reader) → Kept s out r → r .ended ≡ false → r .candidate .waits ≡ false
+pub kept-ended : (s : List Bool) (out : List (ℕ × Frame)) (r : Reader) → Kept s out r → r .ended ≡ false → r .candidate .waits ≡ false
     → Kept s out (record { cells = r .cells; candidate = endTo (r .cells) (r .candidate); ended = true })
 unfolding endTo candidateBits
 kept-ended s out r k e w =
@@ -184,7 +182,7 @@ kept-ended s out r k e w =
 
 -- ---- A FRAME TAKEN
 
-module _ (s : List Bool) (out : List Placed) (r : Reader) (k : Kept s out r) (w : r .candidate .waits ≡ true) where
+module _ (s : List Bool) (out : List (ℕ × Frame)) (r : Reader) (k : Kept s out r) (w : r .candidate .waits ≡ true) where
   stood : Stands (bitsOf r)
   stood = k .found w
 
@@ -195,7 +193,7 @@ module _ (s : List Bool) (out : List Placed) (r : Reader) (k : Kept s out r) (w 
   hit = placed (2 + k .gone) (bitsOf r)
 
   -- what is handed out is the frame that stands there
-  pub given-is : record { at = r .candidate .at; frame = frameAt (bitsOf r) } ≡ reported (placed (2 + k .gone) (bitsOf r))
+  pub given-is : _≡_ {A = ℕ × Frame} (r .candidate .at, frameAt (bitsOf r)) (reported (placed (2 + k .gone) (bitsOf r)))
   unfolding reported placed
   given-is = rw (k .at)
 
@@ -203,12 +201,12 @@ module _ (s : List Bool) (out : List Placed) (r : Reader) (k : Kept s out r) (w 
   unfolding m
   within = omega (arith, stood .taken)
 
+  back : r .candidate .held - (r .candidate .held - m) ≡ m
+  back = omega (arith, within, held-long r (k .len) (k .accepted))
+
   cut : heldBits (r .cells) (r .candidate .end) (r .candidate .held - m) ≡ drop m (bitsOf r)
   unfolding candidateBits
   cut = sym (ap (λ n. drop n (bitsOf r)) (sym back) ∙ held-part (r .cells) (r .candidate .end) (r .candidate .held) (r .candidate .held - m) (omega arith) (k .accepted .low))
-    where
-      back : r .candidate .held - (r .candidate .held - m) ≡ m
-      back = omega (arith, within, held-long r (k .len) (k .accepted))
 
   rest-scan : (e : List Bool) → scan 0 (2 + k .gone) (bitsOf r ++ e) ≡ hit ∷ scan 0 (2 + (k .gone + m)) (drop m (bitsOf r) ++ e)
   unfolding m hit
@@ -236,17 +234,14 @@ module _ (s : List Bool) (out : List Placed) (r : Reader) (k : Kept s out r) (w 
   place : (r .candidate .at + (r .candidate .held - (r .candidate .held - m))) % 2 ^ 32 ≡ (2 + (k .gone + m)) % 2 ^ 32
   place = ap (λ n. (r .candidate .at + n) % 2 ^ 32) back ∙ mod-shift (r .candidate .at) (2 + k .gone) m start ∙ ap (λ n. n % 2 ^ 32) (add-assoc 2 (k .gone) m)
     where
-      back : r .candidate .held - (r .candidate .held - m) ≡ m
-      back = omega (arith, within, held-long r (k .len) (k .accepted))
-
       start : r .candidate .at % 2 ^ 32 ≡ (2 + k .gone) % 2 ^ 32
       start = ap (λ n. n % 2 ^ 32) (k .at) ∙ omega arith
 
-  pub kept-taken : Kept s (out ++ (record { at = r .candidate .at; frame = frameAt (bitsOf r) } ∷ []))
+  pub kept-taken : Kept s (out ++ ((r .candidate .at, frameAt (bitsOf r)) ∷ []))
       (record { cells = r .cells; candidate = takeTo (r .cells) (r .candidate) (r .ended); ended = r .ended })
   unfolding takeTo m hit
   kept-taken =
-      settled s (out ++ (record { at = r .candidate .at; frame = frameAt (bitsOf r) } ∷ [])) (k .hits ++ (hit ∷ []))
+      settled s (out ++ ((r .candidate .at, frameAt (bitsOf r)) ∷ [])) (k .hits ++ (hit ∷ []))
       (rw (map-append reported (k .hits) (hit ∷ [])) (ap₂ (λ a b. a ++ (b ∷ [])) (k .given) given-is))
       (r .ended) (r .cells) (k .len) (r .candidate .end) (r .candidate .held - m) (k .accepted .top) (omega (arith, k .accepted .low))
       (omega (arith, room-all (r .cells) (r .candidate) (k .accepted))) 0 (k .gone + m) stage (none-so-far _) (omega arith)

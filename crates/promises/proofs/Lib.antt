@@ -5,9 +5,17 @@ pub mod Demand3
 pub mod Opposed
 pub mod Turned
 pub mod EveryReader
+pub mod DefinedAnswer
+pub mod CarriesItsNumber
+pub mod ChangesNeither
+pub mod EveryCallEnds
+pub mod Demand1
+pub mod ThoseOfRtcm
+pub mod ReadsBack
 pub mod Demand2
 pub mod Telling
 pub mod Pieces
 pub mod Whole
 pub mod Progress
 pub mod Worked
+pub mod Demands

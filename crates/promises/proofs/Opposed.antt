@@ -1,13 +1,13 @@
 -- Two readers whose bits are turned over against each other go the same way, step by step. Assumes nothing.
 use mathlib.Core.Path.{_≡_, refl, sym, ap, ap₂, subst, _∙_}
-use mathlib.Core.Bool.{Bool, true, false, not, cond}
-use mathlib.Core.List.{List, [], _∷_, _++_, map, map-append}
-use Prim.Native.Nat.{ℕ, _+_, _-_, _*_, _≤_, _<_}
+use mathlib.Core.Bool.{Bool, true, false, not}
+use mathlib.Core.List.{List, _++_, map, map-append}
+use Prim.Native.Nat.{ℕ, _+_, _-_, _*_, _≤_}
 use native.Mathlib.Omega.{arith}
 use lib.ListN.{length, drop, length-map}
 use Rattle.bits.specs.Bits.{bits, number}
 use Rattle.bits.proofs.Numbers.{bits-number}
-use Rattle.line.specs.Line.{isData, six}
+use Rattle.line.specs.Line.{six}
 use Rattle.line.proofs.LineLaws.{length-six, six-lt}
 use Rattle.stream.specs.Standing.{nAt, size, Stands}
 use Rattle.stream.specs.Verdict.{Hunted, hunt}
@@ -16,13 +16,11 @@ use Rattle.stream.proofs.Turning.{drop-turned, n-turned}
 use Rattle.stream.proofs.Hunting.{turnedHunt, hunt-turned}
 use Rattle.reader.specs.Cells.{heldBits, roomEnd}
 use Rattle.reader.specs.Hunting.{stopOf, huntOf}
-use Rattle.reader.specs.Reading.{candidateBits, movedTo, stepCells, stepTo, endTo, takeTo, Run, runTo}
+use Rattle.reader.specs.Reading.{candidateBits, movedTo, stepCells, stepTo, endTo, takeTo}
 use Rattle.reader.specs.declared.hunt.Stop.{Stop}
 use Rattle.reader.specs.declared.Candidate.{Candidate}
 use Rattle.reader.proofs.Buffer.{held-part, length-held}
-use Rattle.reader.proofs.Accepted.{Accepted, room-free, rest-bits, length-step, step-top, step-low, step-bits, accepted-step}
-use Rattle.reader.proofs.Running.{run-waits, run-on, run-over}
-use Rattle.promises.specs.Demand3.{OppositeByte, OppositeBytes, no-bytes, byte-and}
+use Rattle.reader.proofs.Accepted.{Accepted, rest-bits, length-step, step-top, step-low, step-bits}
 
 pub record Opposed (cells : List ℕ) (c : Candidate) (cells′ : List ℕ) (c′ : Candidate) : Type 0 where
   pub bits : candidateBits cells′ c′ ≡ map not (candidateBits cells c)

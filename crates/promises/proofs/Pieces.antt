@@ -1,32 +1,44 @@
 -- Piece after piece: what was written tells of the frames handed out, and what is left is what was not used. Assumes nothing.
-use mathlib.Core.Path.{_≡_, refl, sym, ap₂, subst₂, _∙_}
+use mathlib.Core.Path.{_≡_, refl, sym, ap₂, subst, subst₂, _∙_}
 use mathlib.Core.Bool.{Bool, true, false}
 use mathlib.Core.List.{List, [], _∷_, _++_, append-nil, append-assoc}
-use Prim.Native.Nat.{ℕ, _+_, _/_, _≤_}
+use Prim.Native.Nat.{ℕ, _/_, _≤_}
 use native.Mathlib.Omega.{arith}
 use lib.Dec.{ltb}
+use borrow.Author.Tests.{le-ltb}
 use lib.ListN.{length, take, drop, length-take, take-append-drop}
 use lib.Seq.{sets, take-take}
 use Rattle.answer.specs.Order.{inOrder}
-use Rattle.stream.specs.Standing.{Placed}
-use Rattle.reader.specs.Reading.{past}
-use Rattle.promises.specs.Calls.{after}
-use Rattle.listing.specs.Listing.{Lines, linesOf, lineRoom, refused, listed, pieceBy, pieceText}
-use Rattle.promises.specs.Course.{Piece, Course, courseOf}
+use Rattle.answer.proofs.OrderLaws.{order-answers}
+use Rattle.frame.specs.declared.Frame.{Frame}
+use Rattle.reader.specs.Reading.{past, saysAnswer, carrying}
+use Rattle.reader.specs.declared.Answer.{Answer}
+use Rattle.reader.specs.declared.Answer.the-variants.{Done, Refused}
+use Rattle.listing.specs.Listing.{Lines, linesOf, lineRoom, refused, listed, pieceOrder, pieceBy, pieceText}
+use Rattle.promises.specs.Course.{Piece, Course, courseOf, Answered}
 use Rattle.listing.specs.declared.Listing.{Listing}
 use Rattle.listing.specs.declared.Listed.{Listed}
 use Rattle.listing.proofs.Lengths.{lines-le, lines-used, stored-text}
-use Rattle.promises.proofs.Telling.{told, told-after, Told, tells}
+use Rattle.promises.proofs.Telling.{told, told-after, Told, tells, lines-go}
+
+-- ---- an answer that is no refusal
+
+pub answered-done : {A : Type 0} (v : A) (a : Answer) → Answered (carrying v (saysAnswer a)) → a ≡ Done
+answered-done v Done x = refl
+answered-done v (Refused n) x = absurd x
+
+pub done-answered : {A : Type 0} (v : A) (a : Answer) → a ≡ Done → Answered (carrying v (saysAnswer a))
+done-answered v a e = subst (λ b. Answered (carrying v (saysAnswer b))) (sym e) tt
 
 -- ---- a piece
 
-pub record PieceTells (used : List ℕ) (out : List Placed) (lent : List ℕ) (r : Listed) (buffer : List ℕ) : Type 0 where
-  pub more : List Placed
+pub record PieceTells (used : List ℕ) (out : List (ℕ × Frame)) (lent : List ℕ) (r : Listed) (buffer : List ℕ) : Type 0 where
+  pub more : List (ℕ × Frame)
   pub text : take (r .written) buffer ≡ told more
   pub is : Told (used ++ take (r .used) lent) (out ++ more) (r .listing)
   pub within : r .used ≤ length lent
 
-piece-tells : (used : List ℕ) (out : List Placed) (l : Listing) → Told used out l → (lent buffer : List ℕ)
+pub piece-tells : (used : List ℕ) (out : List (ℕ × Frame)) (l : Listing) → Told used out l → (lent buffer : List ℕ)
     → PieceTells used out lent (pieceBy l lent (length buffer)) (pieceText l lent buffer)
 unfolding pieceBy pieceText
 piece-tells used out l t lent buffer = go (past (l .reader)) (l .reader .ended) (ltb (length buffer) lineRoom)
@@ -51,16 +63,21 @@ piece-tells used out l t lent buffer = go (past (l .reader)) (l .reader .ended) 
           within = lines-used (length buffer / 147) l lent;
         }
 
+-- a piece that has room is carried out
+pub piece-is : (l : Listing) (bs : List ℕ) (room : ℕ) → past (l .reader) ≡ false → l .reader .ended ≡ false → 147 ≤ room → pieceBy l bs room ≡ listed (linesOf (room / 147) l bs)
+unfolding pieceBy
+piece-is l bs room p e h = order-answers (refused l) (listed (linesOf (room / 147) l bs)) (pieceOrder l room) (p, (e, (le-ltb room 147 h, tt)))
+
 -- ---- piece after piece
 
-pub record CourseTells (used : List ℕ) (out : List Placed) (bs : List ℕ) (c : Course) : Type 0 where
+pub record CourseTells (used : List ℕ) (out : List (ℕ × Frame)) (bs : List ℕ) (c : Course) : Type 0 where
   pub eaten : List ℕ
-  pub more : List Placed
+  pub more : List (ℕ × Frame)
   pub split : eaten ++ c .left ≡ bs
   pub text : c .text ≡ told more
   pub is : Told (used ++ eaten) (out ++ more) (c .listing)
 
-pub course-tells : (ps : List Piece) (l : Listing) (bs used : List ℕ) (out : List Placed) → Told used out l → CourseTells used out bs (courseOf ps l bs)
+pub course-tells : (ps : List Piece) (l : Listing) (bs used : List ℕ) (out : List (ℕ × Frame)) → Told used out l → CourseTells used out bs (courseOf ps l bs)
 unfolding courseOf
 course-tells [] l bs used out t = record { eaten = []; more = []; split = refl; text = (unfold told in refl); is = subst₂ (λ u o. Told u o l) (sym (append-nil used)) (sym (append-nil out)) t }
 course-tells (p ∷ ps) l bs used out t = later (course-tells ps (r .listing) (drop (r .used) bs) _ _ (y .is))
@@ -86,3 +103,21 @@ course-tells (p ∷ ps) l bs used out t = later (course-tells ps (r .listing) (d
       text = ap₂ _++_ (y .text) (z .text) ∙ sym (told-after (y .more) (z .more));
       is = subst₂ (λ u o. Told u o (courseOf ps (r .listing) (drop (r .used) bs) .listing)) (append-assoc used (take (r .used) lent) (z .eaten)) (append-assoc out (y .more) (z .more)) (z .is);
     }
+
+-- ---- pieces leave the input going on
+pub piece-ended : (l : Listing) (bs : List ℕ) (room : ℕ) (used : List ℕ) (out : List (ℕ × Frame)) → Told used out l → pieceBy l bs room .listing .reader .ended ≡ l .reader .ended
+unfolding pieceBy
+piece-ended l bs room used out t = go (past (l .reader)) (l .reader .ended) (ltb room 147)
+  where
+    go : (p e s : Bool) → inOrder ((p, 5) ∷ (e, 3) ∷ (s, 13) ∷ []) (refused l) (listed (linesOf (room / 147) l bs)) .listing .reader .ended ≡ l .reader .ended
+    go true e s = refl
+    go false true s = refl
+    go false false true = refl
+    go false false false = lines-go (room / 147) l bs used out t .0
+
+pub course-goes : (ps : List Piece) (l : Listing) (bs used : List ℕ) (out : List (ℕ × Frame)) → Told used out l → courseOf ps l bs .listing .reader .ended ≡ l .reader .ended
+unfolding courseOf
+course-goes [] l bs used out t = refl
+course-goes (p ∷ ps) l bs used out t =
+    course-goes ps _ (drop (pieceBy l (take (p .0) bs) (length (p .1)) .used) bs) _ _ (piece-tells used out l t (take (p .0) bs) (p .1) .is)
+    ∙ piece-ended l (take (p .0) bs) (length (p .1)) used out t

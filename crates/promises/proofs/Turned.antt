@@ -3,26 +3,26 @@
 use mathlib.Core.Path.{_≡_, refl, sym, ap, ap₂, subst, subst₂, _∙_}
 use mathlib.Core.Bool.{Bool, true, false, not}
 use mathlib.Core.List.{List, [], _∷_, map}
-use Prim.Native.Nat.{ℕ, _+_, _/_, _^_, _≤_, _<_}
-use native.Mathlib.Omega.{arith}
+use Prim.Native.Nat.{ℕ, _+_}
 use lib.Bits.{bitXor}
 use lib.ListN.{length, replicate}
+use Rattle.answer.specs.Order.{answers}
 use Rattle.bits.specs.Bits.{number}
 use Rattle.line.specs.Line.{isData, six}
 use Rattle.line.proofs.LineLaws.{data-turned, six-turned}
-use Rattle.stream.specs.Standing.{Stands, frameAt, Placed}
+use Rattle.frame.specs.declared.Frame.{Frame}
+use Rattle.stream.specs.Standing.{frameAt}
 use Rattle.stream.proofs.Turning.{stands-turned, stands-back, frame-turned}
-use Rattle.reader.specs.Reading.{candidateBits, bitsOf, started, past, stepCells, stepTo, pushed, fedBy, Run, runTo, ranBy, spent, fedAllBy, endTo, endedBy, takeTo, takenBy}
+use Rattle.reader.specs.Reading.{candidateBits, bitsOf, started, past, stepCells, stepTo, pushed, fedBy, Run, runTo, spent, fedAllBy, endedBy, takeTo, takenBy, saysNext, saysFedAll, saysTaken}
 use Rattle.reader.specs.declared.Candidate.{Candidate}
 use Rattle.reader.specs.declared.Reader.{Reader}
-use Rattle.reader.specs.declared.Answer.the-variants.{Done, Refused}
 use Rattle.reader.specs.declared.Next.{Next}
 use Rattle.reader.specs.declared.FedAll.{FedAll}
 use Rattle.reader.specs.declared.Taken.{Taken}
 use Rattle.reader.proofs.Buffer.{held-none}
 use Rattle.reader.proofs.Accepted.{Accepted, length-step, accepted-step}
-use Rattle.reader.proofs.Running.{stopped, run-waits, run-on, run-over}
-use Rattle.promises.specs.Calls.{Call, feeds, feedsAll, ends, takes, Reply, replied, used, took, replyTo, after, replies}
+use Rattle.reader.proofs.Running.{run-waits, run-on, run-over}
+use Rattle.promises.specs.Calls.{Call, feeds, feedsAll, ends, takes, replied, used, took, replyTo, after, replies}
 use Rattle.promises.specs.Demand3.{OppositeByte, OppositeBytes, no-bytes, byte-and, OppositeCalls, no-calls, fed-and, all-and, end-and, take-and, TurnedIsSame}
 use Rattle.promises.proofs.Kept.{Kept, kept-started}
 use Rattle.promises.proofs.Runs.{given, fed-by, all-by, ended-by, taken-by, never-past, kept-call}
@@ -75,7 +75,7 @@ record Alike (r r′ : Reader) (c d : Call) : Type 0 where
   reply : replyTo r′ d ≡ replyTo r c
   facing : Facing (after r c) (after r′ d)
 
-module _ (s s′ : List Bool) (out out′ : List Placed) (r r′ : Reader) (k : Kept s out r) (k′ : Kept s′ out′ r′) (f : Facing r r′) where
+module _ (s s′ : List Bool) (out out′ : List (ℕ × Frame)) (r r′ : Reader) (k : Kept s out r) (k′ : Kept s′ out′ r′) (f : Facing r r′) where
   p : past r ≡ false
   p = never-past s out r k
 
@@ -89,7 +89,7 @@ module _ (s s′ : List Bool) (out out′ : List Placed) (r r′ : Reader) (k : 
   fed-alike b d t = go (r .ended) refl (r .candidate .waits) refl (isData b) refl
     where
       P : Next → Next → Type 0
-      P x x′ = (replied (x′ .answer) ≡ replied (x .answer)) × Facing (x .reader) (x′ .reader)
+      P x x′ = (replied (saysNext x′) ≡ replied (saysNext x)) × Facing (x .reader) (x′ .reader)
 
       alike : P (fedBy r b) (fedBy r′ d) → Alike r r′ (feeds b) (feeds d)
       alike q = record { reply = unfold replyTo in q .0; facing = unfold after in q .1 }
@@ -109,7 +109,7 @@ module _ (s s′ : List Bool) (out out′ : List Placed) (r r′ : Reader) (k : 
   all-alike bs ds t = go (r .ended) refl (r .candidate .waits) refl
     where
       P : FedAll → FedAll → Type 0
-      P x x′ = (used (x′ .answer) (x′ .used) (x′ .passed) ≡ used (x .answer) (x .used) (x .passed)) × Facing (x .reader) (x′ .reader)
+      P x x′ = (used (saysFedAll x′) ≡ used (saysFedAll x)) × Facing (x .reader) (x′ .reader)
 
       alike : P (fedAllBy r bs) (fedAllBy r′ ds) → Alike r r′ (feedsAll bs) (feedsAll ds)
       alike q = record { reply = unfold replyTo in q .0; facing = unfold after in q .1 }
@@ -124,13 +124,13 @@ module _ (s s′ : List Bool) (out out′ : List Placed) (r r′ : Reader) (k : 
           alike (subst₂ P (sym (all-by r false false true p ex ey bs)) (sym (all-by r′ false false true p′ (f .ended ∙ ex) (o .waits ∙ ey) ds)) (refl, f))
       go false ex false ey =
           alike (subst₂ P (sym (all-by r false false false p ex ey bs)) (sym (all-by r′ false false false p′ (f .ended ∙ ex) (o .waits ∙ ey) ds))
-          (ap₂ (used Done) (same .used) (same .passed), record { opposed = same .opposed; ended = f .ended }))
+          (ap₂ (λ u p. used (answers (u, p))) (same .used) (same .passed), record { opposed = same .opposed; ended = f .ended }))
 
   end-alike : Alike r r′ ends ends
   end-alike = go (r .ended) refl (r .candidate .waits) refl
     where
       P : Next → Next → Type 0
-      P x x′ = (replied (x′ .answer) ≡ replied (x .answer)) × Facing (x .reader) (x′ .reader)
+      P x x′ = (replied (saysNext x′) ≡ replied (saysNext x)) × Facing (x .reader) (x′ .reader)
 
       alike : P (endedBy r) (endedBy r′) → Alike r r′ ends ends
       alike q = record { reply = unfold replyTo in q .0; facing = unfold after in q .1 }
@@ -148,7 +148,7 @@ module _ (s s′ : List Bool) (out out′ : List Placed) (r r′ : Reader) (k : 
   take-alike = go (r .candidate .waits) refl
     where
       P : Taken → Taken → Type 0
-      P x x′ = (took (x′ .answer) (x′ .at) (x′ .frame) ≡ took (x .answer) (x .at) (x .frame)) × Facing (x .reader) (x′ .reader)
+      P x x′ = (took (saysTaken x′) ≡ took (saysTaken x)) × Facing (x .reader) (x′ .reader)
 
       alike : P (takenBy r) (takenBy r′) → Alike r r′ takes takes
       alike q = record { reply = unfold replyTo in q .0; facing = unfold after in q .1 }
@@ -158,7 +158,7 @@ module _ (s s′ : List Bool) (out out′ : List Placed) (r r′ : Reader) (k : 
       go true ey =
           alike (subst₂ P (sym (taken-by r false true p ey)) (sym (taken-by r′ false true p′ (o .waits ∙ ey)))
           (unfold given in (
-            ap₂ (took Done) (o .at) (ap frameAt (o .bits) ∙ frame-turned (bitsOf r) (k .found ey)),
+            ap₂ (λ a v. took (answers (a, v))) (o .at) (ap frameAt (o .bits) ∙ frame-turned (bitsOf r) (k .found ey)),
             record {
               opposed = subst (λ e. Opposed (r .cells) (takeTo (r .cells) (r .candidate) (r .ended)) (r′ .cells) (takeTo (r′ .cells) (r′ .candidate) e)) (sym (f .ended))
                   (take-opposed (r .cells) (k .len) (r .candidate) (k .accepted) (r′ .cells) (k′ .len) (r′ .candidate) (k′ .accepted) o (k .found ey) (r .ended));
@@ -168,7 +168,7 @@ module _ (s s′ : List Bool) (out out′ : List Placed) (r r′ : Reader) (k : 
 
 -- ---- any calls
 
-calls-alike : {cs ds : List Call} → OppositeCalls cs ds → (s s′ : List Bool) (out out′ : List Placed) (r r′ : Reader) → Kept s out r → Kept s′ out′ r′ → Facing r r′
+calls-alike : {cs ds : List Call} → OppositeCalls cs ds → (s s′ : List Bool) (out out′ : List (ℕ × Frame)) (r r′ : Reader) → Kept s out r → Kept s′ out′ r′ → Facing r r′
     → replies r′ ds ≡ replies r cs
 unfolding replies
 calls-alike no-calls s s′ out out′ r r′ k k′ f = refl

@@ -10,9 +10,10 @@ use lib.Seq.{sets, take-nil, drop-nil}
 use borrow.Author.Tests.{ltb-false}
 use Rattle.answer.specs.Order.{inOrder}
 use Rattle.line.specs.Line.{lineBits}
-use Rattle.stream.specs.Standing.{Placed, frameAt, scan, framesIn}
+use Rattle.stream.specs.Standing.{frameAt, scan, framesIn}
 use Rattle.stream.proofs.Hunting.{MayCome, Idle}
 use Rattle.frame.specs.Frames.{blank}
+use Rattle.frame.specs.declared.Frame.{Frame}
 use Rattle.reader.specs.Reading.{bitsOf, past, runTo, fedAllBy, endedBy, takeTo, takenBy}
 use Rattle.reader.specs.declared.Reader.{Reader}
 use Rattle.reader.specs.declared.Next.{Next}
@@ -22,15 +23,15 @@ use Rattle.reader.specs.declared.Answer.{Answer}
 use Rattle.reader.specs.declared.Answer.the-variants.{Done, Refused}
 use Rattle.promises.specs.Calls.{ends, takes, replyTo, after, bitsGiven, frameGiven, afterAll, reported, takesAll}
 use Rattle.promises.proofs.Kept.{Kept}
-use Rattle.promises.proofs.Runs.{ended-by, never-past, kept-call}
+use Rattle.promises.proofs.Runs.{not-done, ended-by, never-past, kept-call}
 use Rattle.promises.proofs.Serving.{takes-ended, none-waits}
 use Rattle.listing.specs.Text.{frameLine, linesIn, lastLine, textOf}
 use Rattle.listing.specs.Listing.{begun, fedOn, handedOn, Lines, lineThen, linesOf, refused, listed, endedOn, finalLines, finishBy, finishText}
-use Rattle.promises.specs.Course.{Piece, Course, courseOf, TextIsWhole}
+use Rattle.promises.specs.Course.{Piece, Course, courseOf, listedText, TextIsWhole}
 use Rattle.listing.specs.declared.Listing.{Listing}
 use Rattle.listing.proofs.Lengths.{last-le, lines-le, stored-text}
 use Rattle.promises.proofs.Telling.{told, told-after, told-reported, Told, told-none, Tells, tells}
-use Rattle.promises.proofs.Pieces.{CourseTells, course-tells}
+use Rattle.promises.proofs.Pieces.{answered-done, CourseTells, course-tells}
 
 -- ---- the end
 
@@ -47,7 +48,7 @@ refused-stays r n e = go (past r) (not (r .candidate .waits)) e
     go false true f = refl
     go false false f = absurd (let z : _≡_ {A = ℕ} 0 1 = cc in omega arith)
 
-idle-takes : (n : ℕ) (r : Reader) → takenBy r .reader ≡ r → afterAll r (replicate n takes) ≡ r
+pub idle-takes : (n : ℕ) (r : Reader) → takenBy r .reader ≡ r → afterAll r (replicate n takes) ≡ r
 unfolding afterAll after
 idle-takes zero r e = refl
 idle-takes (suc n) r e = ap (λ q. afterAll q (replicate n takes)) e ∙ idle-takes n r e
@@ -68,7 +69,7 @@ fed-none l = go (past (l .reader)) (l .reader .ended) (l .reader .candidate .wai
     go false false false = refl
 
 -- with no bytes left, lines are takings
-lines-takes : (n : ℕ) (l : Listing) → linesOf n l [] .listing .reader ≡ afterAll (l .reader) (replicate n takes)
+pub lines-takes : (n : ℕ) (l : Listing) → linesOf n l [] .listing .reader ≡ afterAll (l .reader) (replicate n takes)
 unfolding linesOf afterAll after
 lines-takes zero l = refl
 lines-takes (suc n) l = go (takenBy q .answer) refl (lines-takes n (handedOn (fedOn l [] .listing) (takenBy (fedOn l [] .listing .reader) .reader)))
@@ -95,7 +96,7 @@ lines-takes (suc n) l = go (takenBy q .answer) refl (lines-takes n (handedOn (fe
         same ∙ sym (ap (λ t. afterAll t (replicate n takes)) stays ∙ idle-takes n (l .reader) stays)
 
 -- the frames of the whole stream, once the reader has ended and none waits
-whole-frames : (s : List Bool) (out : List Placed) (r : Reader) (k : Kept s out r) → r .ended ≡ true → r .candidate .waits ≡ false → framesIn s ≡ k .hits
+whole-frames : (s : List Bool) (out : List (ℕ × Frame)) (r : Reader) (k : Kept s out r) → r .ended ≡ true → r .candidate .waits ≡ false → framesIn s ≡ k .hits
 whole-frames s out r k e w =
     ap framesIn (sym (append-nil s)) ∙ k .stage .scanned [] (subst (λ t. MayCome t []) (sym e) refl)
     ∙ ap (λ d. k .hits ++ scan 0 (2 + k .gone) (d ++ [])) empty ∙ (unfold scan in append-nil (k .hits))
@@ -103,7 +104,7 @@ whole-frames s out r k e w =
     empty : bitsOf r ≡ []
     empty = subst (λ t. Idle t (r .candidate .words) (bitsOf r)) e (k .idle w)
 
-module _ (bs : List ℕ) (out : List Placed) (l : Listing) (t : Told bs out l) where
+module _ (bs : List ℕ) (out : List (ℕ × Frame)) (l : Listing) (t : Told bs out l) where
   told-over : Told bs out (endedOn l (endedBy (l .reader) .reader))
   unfolding endedOn
   told-over = record {
@@ -170,30 +171,29 @@ final-le l =
       last-le (e .listing .frames) (e .listing .bytes) (e .listing .passed),
     )
 
-finish-tells : (bs : List ℕ) (out : List Placed) (l : Listing) → Told bs out l → (buffer : List ℕ) → finishBy l (length buffer) .answer ≡ Done
+finish-tells : (bs : List ℕ) (out : List (ℕ × Frame)) (l : Listing) → Told bs out l → (buffer : List ℕ) → finishBy l (length buffer) .answer ≡ Done
     → told out ++ take (finishBy l (length buffer) .written) (finishText l buffer) ≡ textOf bs
 unfolding finishBy finishText
 finish-tells bs out l t buffer done = go (past (l .reader)) (l .reader .ended) refl (l .reader .candidate .waits) refl (ltb (length buffer) 2499) refl done
   where
-    other : {A : Type 0} (n : ℕ) → Refused n ≡ Done → A
-    other n e = absurd (let z : _≡_ {A = ℕ} 0 1 = cc in omega arith)
-
     go : (p e : Bool) → l .reader .ended ≡ e → (w : Bool) → l .reader .candidate .waits ≡ w → (s : Bool) → ltb (length buffer) 2499 ≡ s
         → inOrder ((p, 5) ∷ (e, 3) ∷ (w, 2) ∷ (s, 13) ∷ []) (refused l) (listed (finalLines l)) .answer ≡ Done
         → told out ++ take (inOrder ((p, 5) ∷ (e, 3) ∷ (w, 2) ∷ (s, 13) ∷ []) (refused l) (listed (finalLines l)) .written)
         (inOrder ((p, 5) ∷ (e, 3) ∷ (w, 2) ∷ (s, 13) ∷ []) (λ n. buffer) (sets buffer 0 (finalLines l .text))) ≡ textOf bs
-    go true e ee w ew s es d = other 5 d
-    go false true ee w ew s es d = other 3 d
-    go false false ee true ew s es d = other 2 d
-    go false false ee false ew true es d = other 13 d
+    go true e ee w ew s es d = not-done 5 d
+    go false true ee w ew s es d = not-done 3 d
+    go false false ee true ew s es d = not-done 2 d
+    go false false ee false ew true es d = not-done 13 d
     go false false ee false ew false es d =
         ap (λ r. told out ++ r) (stored-text buffer (finalLines l .text) (omega (arith, final-le l, ltb-false (length buffer) 2499 es))) ∙ final-text bs out l t ee ew
 
 -- THE TEXT OF THE WHOLE
 pub text-is-whole : (bs : List ℕ) (ps : List Piece) (out : List ℕ) → TextIsWhole bs ps out
-text-is-whole bs ps out left done =
+unfolding listedText
+text-is-whole bs ps out left answered =
     ap (λ r. r ++ take (finishBy (c .listing) (length out) .written) (finishText (c .listing) out)) (v .text)
-    ∙ finish-tells bs (v .more) (c .listing) (subst (λ u. Told u (v .more) (c .listing)) all (v .is)) out done
+    ∙ finish-tells bs (v .more) (c .listing) (subst (λ u. Told u (v .more) (c .listing)) all (v .is)) out
+    (answered-done _ (finishBy (c .listing) (length out) .answer) answered)
   where
     c : Course
     c = courseOf ps begun bs

@@ -1,11 +1,13 @@
 -- The worked values hold: each is computed from the definitions that the contracts cite; what the reader hands out, through demand 3.
 -- Assumes nothing.
 use mathlib.Core.Path.{_≡_, refl, ap, _∙_}
-use mathlib.Core.List.{List, [], _∷_, map}
-use Prim.Native.Nat.{ℕ}
+use mathlib.Core.Bool.{false}
+use mathlib.Core.List.{[], _∷_, map}
+use lib.ListN.{replicate}
+use Rattle.answer.specs.Order.{refuses}
 use Rattle.bits.specs.Bits.{bits, number}
 use Rattle.line.specs.Line.{six, lineBits, without}
-use Rattle.word.specs.Word.{rows, places, parity, dataOf, received, computed, remainderOf, passes}
+use Rattle.word.specs.Word.{rows, places, parity, dataOf, received, computed, remainderOf, passes, turnedBy, sent}
 use Rattle.frame.specs.Header.{factors, stateOf, codeOf, preambled, nOf, headerOf}
 use Rattle.frame.specs.Frames.{framed}
 use Rattle.frame.specs.Widths.{stateOutside, numbersOutside, headerOutside, outside}
@@ -13,11 +15,17 @@ use Rattle.frame.specs.Layout.{layoutOf}
 use Rattle.record.specs.Stages.{layoutNumber, otherLayout, misfit}
 use Rattle.record.specs.Corrections.{countCorrections}
 use Rattle.value.specs.Values.{signedValue, hundredthsOf, limits, udreValue}
-use Rattle.stream.specs.Standing.{right, nAt, dataFrom, frameAt, Placed, placed, allRight, stands, scan, framesIn}
+use Rattle.stream.specs.Standing.{right, nAt, dataFrom, frameAt, placed, allRight, stands, scan, framesIn}
 use Rattle.listing.specs.Text.{lastDigits, digitsUpTo, decimal, spaced, lastLine, linesIn, textOf}
-use Rattle.promises.specs.Calls.{reported}
-use Rattle.promises.specs.Worked.{elevenBytes, turnedBytes, tenBytes, elevenFrame, readOut, twoLines, WorkedValues}
+use Rattle.reader.specs.Reading.{started, saysNext}
+use Rattle.reader.specs.declared.Next.{Next}
+use Rattle.promises.specs.Calls.{feeds, replied, replyTo, reported}
+use Rattle.promises.specs.Worked.{elevenBytes, turnedBytes, tenBytes, elevenFrame, twoLines, WorkedValues}
+use Rattle.promises.proofs.Kept.{kept-started}
+use Rattle.promises.proofs.Runs.{fed-by, never-past}
+use Rattle.promises.proofs.Serving.{byte-bits}
 use Rattle.promises.proofs.Demand3.{handed-out}
+use Rattle.promises.proofs.Progress.{text-comes}
 
 frames-eleven : map reported (framesIn (lineBits elevenBytes)) ≡ elevenFrame ∷ []
 unfolding bits number six lineBits rows places parity dataOf received computed remainderOf passes factors stateOf preambled nOf headerOf framed right nAt dataFrom frameAt placed allRight stands scan reported
@@ -39,18 +47,34 @@ text-turned : textOf turnedBytes ≡ twoLines
 unfolding bits number six lineBits rows places parity dataOf received computed remainderOf passes factors stateOf codeOf preambled nOf headerOf framed right nAt dataFrom frameAt placed allRight stands scan without lastDigits digitsUpTo decimal spaced lastLine linesIn textOf twoLines
 text-turned = refl
 
+-- a fresh reader is not ended, and no frame waits
+goes : started .ended ≡ false
+goes = unfold started in refl
+
+none : started .candidate .waits ≡ false
+none = unfold started in refl
+
+byte-refused : replyTo started (feeds 0x3F) ≡ replied (refuses 1)
+unfolding replyTo
+byte-refused = ap (λ (f : Next). replied (saysNext f)) (fed-by started false false false (never-past [] [] started kept-started) goes none 0x3F false refl)
+
+zero-bits : six 0x40 ≡ replicate 6 false
+zero-bits = unfold bits number six in refl
+
 pub worked : WorkedValues
 unfolding factors stateOf signedValue hundredthsOf limits udreValue outside headerOutside numbersOutside stateOutside layoutOf layoutNumber otherLayout misfit countCorrections
 worked = record {
-  word-1 = unfold bits rows parity in refl;
-  word-2 = unfold bits rows parity in refl;
+  word-1 = unfold bits number rows parity turnedBy sent in refl;
+  word-2 = unfold bits number rows parity turnedBy sent in refl;
   eleven = handed-out elevenBytes .ended ∙ frames-eleven;
   turned = handed-out turnedBytes .ended ∙ frames-turned;
   ten = handed-out tenBytes .ended ∙ frames-ten;
-  eleven-text = text-eleven;
-  turned-text = text-turned;
+  eleven-text = λ ps out f n e. text-comes elevenBytes ps out f n e ∙ text-eleven;
+  turned-text = λ ps out f n e. text-comes turnedBytes ps out f n e ∙ text-turned;
   byte-3F = refl;
   byte-40 = unfold bits number six in refl;
+  fed-3F = byte-refused;
+  fed-40 = byte-bits [] [] started kept-started goes none 0x40 ∙ zero-bits;
   prc-highest = refl;
   prc-lowest = refl;
   prc-stop-0 = refl;

@@ -1,16 +1,15 @@
--- Any list of calls on a reader: what each answers, the bits that the reader takes, the frames that it hands out. Assumes nothing.
+-- Any list of calls on a reader: what each answers in the table's terms, the bits that the reader takes, the frames that it hands out.
+-- Assumes nothing.
 use mathlib.Core.Bool.{Bool}
 use mathlib.Core.List.{List, [], _∷_, _++_}
 use Prim.Native.Nat.{ℕ, _%_, _^_}
 use lib.ListN.{take, replicate}
-use Rattle.answer.specs.Order.{Says}
+use Rattle.answer.specs.Order.{Says, refuses, answers}
 use Rattle.line.specs.Line.{six, lineBits}
 use Rattle.frame.specs.declared.Frame.{Frame}
 use Rattle.stream.specs.Standing.{Placed}
-use Rattle.reader.specs.Reading.{started, fedBy, fedAllBy, endedBy, takenBy, saysAnswer}
+use Rattle.reader.specs.Reading.{fedBy, fedAllBy, endedBy, takenBy, carrying, saysNext, saysFedAll, saysTaken}
 use Rattle.reader.specs.declared.Reader.{Reader}
-use Rattle.reader.specs.declared.Answer.{Answer}
-use Rattle.reader.specs.declared.Answer.the-variants.{Done, Refused}
 
 -- feeding a byte, feeding bytes, ending, taking
 pub data Call : Type 0 where
@@ -19,17 +18,18 @@ pub data Call : Type 0 where
   ends : Call
   takes : Call
 
--- what the caller sees of a call beside the reader: the answer; of bytes fed, how many were used and passed over; of taking, position and frame
+-- what the caller sees of a call beside the reader, "its number alone" or the values: of bytes fed, how many were used and passed over; of taking,
+-- position and frame
 pub data Reply : Type 0 where
-  replied : Answer → Reply
-  used : Answer → ℕ → ℕ → Reply
-  took : Answer → ℕ → Frame → Reply
+  replied : Says (Unit {0}) → Reply
+  used : Says (ℕ × ℕ) → Reply
+  took : Says (ℕ × Frame) → Reply
 
 unfoldable pub replyTo : Reader → Call → Reply
-replyTo r (feeds b) = replied (fedBy r b .answer)
-replyTo r (feedsAll bs) = used (fedAllBy r bs .answer) (fedAllBy r bs .used) (fedAllBy r bs .passed)
-replyTo r ends = replied (endedBy r .answer)
-replyTo r takes = took (takenBy r .answer) (takenBy r .at) (takenBy r .frame)
+replyTo r (feeds b) = replied (saysNext (fedBy r b))
+replyTo r (feedsAll bs) = used (saysFedAll (fedAllBy r bs))
+replyTo r ends = replied (saysNext (endedBy r))
+replyTo r takes = took (saysTaken (takenBy r))
 
 unfoldable pub after : Reader → Call → Reader
 after r (feeds b) = fedBy r b .reader
@@ -37,30 +37,31 @@ after r (feedsAll bs) = fedAllBy r bs .reader
 after r ends = endedBy r .reader
 after r takes = takenBy r .reader
 
--- the answer in a reply
-abbrev pub answerOf : Reply → Answer
-answerOf (replied a) = a
-answerOf (used a u p) = a
-answerOf (took a at f) = a
+-- a reply without its values
+abbrev pub answerOf : Reply → Says (Unit {0})
+answerOf (replied x) = x
+answerOf (used x) = carrying tt x
+answerOf (took x) = carrying tt x
 
 -- the bits that a call gave the reader: of a byte its six, of bytes those of the ones used, unless refused
 unfoldable pub bitsGiven : Call → Reply → List Bool
-bitsGiven (feeds b) (replied Done) = six b
-bitsGiven (feeds b) (replied (Refused n)) = []
-bitsGiven (feeds b) (used a u p) = []
-bitsGiven (feeds b) (took a at f) = []
-bitsGiven (feedsAll bs) (replied a) = []
-bitsGiven (feedsAll bs) (used a u p) = lineBits (take u bs)
-bitsGiven (feedsAll bs) (took a at f) = []
+bitsGiven (feeds b) (replied (answers v)) = six b
+bitsGiven (feeds b) (replied (refuses n)) = []
+bitsGiven (feeds b) (used x) = []
+bitsGiven (feeds b) (took x) = []
+bitsGiven (feedsAll bs) (replied x) = []
+bitsGiven (feedsAll bs) (used (answers v)) = lineBits (take (v .0) bs)
+bitsGiven (feedsAll bs) (used (refuses n)) = []
+bitsGiven (feedsAll bs) (took x) = []
 bitsGiven ends y = []
 bitsGiven takes y = []
 
 -- the frame that a call handed out, with the position that it reported
-unfoldable pub frameGiven : Reply → List Placed
-frameGiven (replied a) = []
-frameGiven (used a u p) = []
-frameGiven (took Done at f) = record { at = at; frame = f } ∷ []
-frameGiven (took (Refused n) at f) = []
+unfoldable pub frameGiven : Reply → List (ℕ × Frame)
+frameGiven (replied x) = []
+frameGiven (used x) = []
+frameGiven (took (answers v)) = v ∷ []
+frameGiven (took (refuses n)) = []
 
 -- ---- call after call
 
@@ -76,13 +77,13 @@ unfoldable pub bitsTaken : Reader → List Call → List Bool
 bitsTaken r [] = []
 bitsTaken r (c ∷ cs) = bitsGiven c (replyTo r c) ++ bitsTaken (after r c) cs
 
-unfoldable pub handedOut : Reader → List Call → List Placed
+unfoldable pub handedOut : Reader → List Call → List (ℕ × Frame)
 handedOut r [] = []
 handedOut r (c ∷ cs) = frameGiven (replyTo r c) ++ handedOut (after r c) cs
 
 -- a frame of the stream as it is handed out: its position modulo 2^32
-unfoldable pub reported : Placed → Placed
-reported h = record { at = h .at % 2 ^ 32; frame = h .frame }
+unfoldable pub reported : Placed → ℕ × Frame
+reported h = (h .at % 2 ^ 32, h .frame)
 
 -- ---- a caller who takes every waiting frame at once
 

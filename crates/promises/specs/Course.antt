@@ -1,11 +1,11 @@
 -- A WHOLE STREAM in pieces: any number of the bytes left is lent with any output buffer, call after call, and then the end. Assumes nothing.
 use mathlib.Core.Path.{_≡_}
 use mathlib.Core.List.{List, [], _∷_, _++_}
-use Prim.Native.Nat.{ℕ, _≤_}
+use Prim.Native.Nat.{ℕ, _*_, _≤_}
 use lib.ListN.{length, take, drop}
-use Rattle.reader.specs.declared.Answer.the-variants.{Done}
+use Rattle.answer.specs.Order.{Says, refuses, answers}
 use Rattle.listing.specs.Text.{textOf}
-use Rattle.listing.specs.Listing.{begun, pieceBy, pieceText, endRoom, finishBy, finishText}
+use Rattle.listing.specs.Listing.{begun, lineRoom, pieceBy, pieceText, endRoom, finishBy, finishText, saysListed}
 use Rattle.listing.specs.declared.Listing.{Listing}
 
 -- how many of the bytes left are lent, and the output buffer
@@ -26,17 +26,48 @@ courseOf (p ∷ ps) l bs =
     let rest = courseOf ps (r .listing) (drop (r .used) bs) in
     record { text = take (r .written) (pieceText l lent (p .1)) ++ rest .text; left = rest .left; listing = rest .listing }
 
--- THE LAW: in whatever pieces the bytes were listed, once all are used and the end is carried out, what was written is the text of the whole
+-- all that was written: by pieces, and by the end into the buffer `out`
+unfoldable pub listedText : List ℕ → List Piece → List ℕ → List ℕ
+listedText bs ps out =
+    let c = courseOf ps begun bs in
+    c .text ++ take (finishBy (c .listing) (length out) .written) (finishText (c .listing) out)
+
+-- an answer that is no refusal
+abbrev pub Answered : {A : Type 0} → Says A → Type 0
+Answered (answers v) = Unit {0}
+Answered (refuses n) = ⊥
+
+-- "The listing program reads standard input, feeds it, then ends": in whatever pieces the bytes were listed, once all are used and the end is
+-- carried out, what was written is the text of the whole
 abbrev pub TextIsWhole : List ℕ → List Piece → List ℕ → Type 0
 TextIsWhole bs ps out =
     let c = courseOf ps begun bs in
-    c .left ≡ [] → finishBy (c .listing) (length out) .answer ≡ Done
-    → c .text ++ take (finishBy (c .listing) (length out) .written) (finishText (c .listing) out) ≡ textOf bs
+    c .left ≡ [] → Answered (saysListed (finishBy (c .listing) (length out))) → listedText bs ps out ≡ textOf bs
 
--- AND IT IS REACHED: where a piece is carried out and writes nothing, all the bytes lent are used, and the end is not refused for want of room that
--- is there. A reader's array has forty cells.
+-- a caller who goes on until a piece writes nothing has all the bytes lent used, and with room for `endRoom` bytes the end is carried out. A
+-- reader's array has forty cells.
 abbrev pub NothingLeft : Listing → List ℕ → ℕ → Type 0
 NothingLeft l bs room =
     let r = pieceBy l bs room in
-    length (l .reader .cells) ≡ 40 → r .answer ≡ Done → r .written ≡ 0
-    → (r .used ≡ length bs) × ((n : ℕ) → endRoom ≤ n → finishBy (r .listing) n .answer ≡ Done)
+    length (l .reader .cells) ≡ 40 → (u : ℕ) → saysListed r ≡ answers (u, 0)
+    → (u ≡ length bs) × ((n : ℕ) → endRoom ≤ n → Answered (saysListed (finishBy (r .listing) n)))
+
+-- a listing begun fresh and changed only by pieces takes the next one wherever there is room for a line
+abbrev pub PieceTaken : List ℕ → List Piece → Type 0
+PieceTaken bs ps = (lent : List ℕ) (room : ℕ) → lineRoom ≤ room → Answered (saysListed (pieceBy (courseOf ps begun bs .listing) lent room))
+
+-- each piece lends a byte at least, where one is left, and has room for a line
+abbrev pub Fit : List Piece → Type 0
+Fit [] = Unit {0}
+Fit (p ∷ ps) = (1 ≤ p .0) × (lineRoom ≤ length (p .1)) × Fit ps
+
+-- AND IT IS REACHED: after so many such pieces nothing is left, and with room for `endRoom` bytes the end is carried out. Seven for a byte: each piece
+-- uses one at least or writes a line, and a line takes sixty at least of the bits that bytes brought, six each.
+abbrev pub Reached : List ℕ → List Piece → Type 0
+Reached bs ps =
+    let c = courseOf ps begun bs in
+    Fit ps → 7 * length bs ≤ length ps → (c .left ≡ []) × ((n : ℕ) → endRoom ≤ n → Answered (saysListed (finishBy (c .listing) n)))
+
+-- so the whole text comes
+abbrev pub TextComes : List ℕ → List Piece → List ℕ → Type 0
+TextComes bs ps out = Fit ps → 7 * length bs ≤ length ps → endRoom ≤ length out → listedText bs ps out ≡ textOf bs

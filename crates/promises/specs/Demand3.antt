@@ -6,28 +6,30 @@ use mathlib.Core.Bool.{Bool, true, false, not, cond}
 use mathlib.Core.List.{List, [], _∷_, _++_, map, List·Memᴰ}
 use Prim.Native.Nat.{ℕ, _+_, _*_, _≤_, _<_}
 use lib.ListN.{length, take, drop}
+use Rattle.answer.specs.Order.{refuses, answers}
 use Rattle.line.specs.Line.{isData, six, lineBits, without}
+use Rattle.frame.specs.Widths.{outside}
 use Rattle.stream.specs.Standing.{Stands, frameAt, Placed, placed, scan, framesIn}
 use Rattle.stream.specs.Verdict.{RightSoFar, decided}
 use Rattle.stream.specs.Places.{StandsIn, FoundOrCovered, Apart, Damaged}
-use Rattle.reader.specs.Reading.{bitsOf, started, past, fedBy, fedAllBy}
+use Rattle.reader.specs.Reading.{bitsOf, started, past, fedBy, fedAllBy, saysNext, saysFedAll}
 use Rattle.reader.specs.declared.Reader.{Reader}
-use Rattle.reader.specs.declared.Answer.the-variants.{Done, Refused}
-use Rattle.promises.specs.Calls.{Call, feeds, feedsAll, ends, takes, Reply, replied, answerOf, replyTo, after, bitsGiven, afterAll, replies, bitsTaken, handedOut, reported, takesAll, served}
+use Rattle.promises.specs.Calls.{Call, feeds, feedsAll, ends, takes, Reply, replied, answerOf, replyTo, after, afterAll, replies, bitsTaken, handedOut, reported, takesAll, served}
 
 -- the frames that were handed out, with their positions in the whole stream: the first ones of the scan of the bits taken
 unfoldable pub found : List Call → List Placed
 found cs = take (length (handedOut started cs)) (framesIn (bitsTaken started cs))
 
--- "Only frames by the definition are ever handed out", at their positions modulo 2^32, each once: no two share a bit
+-- "Only frames by the definition are ever handed out", at their positions modulo 2^32, within their widths, each once: no two share a bit
 pub record OnlyFrames (cs : List Call) : Type 0 where
   pub given : handedOut started cs ≡ map reported (found cs)
   pub stand : (h : Placed) → List·Memᴰ h (found cs) → StandsIn 2 (bitsTaken started cs) h
+  pub within : (h : Placed) → List·Memᴰ h (found cs) → outside (h .frame) ≡ false
   pub once : Apart 2 (found cs)
 
--- "a position is ruled out as soon as a word of it that has fully come fails": before the end the hunt is at position 2 + gone, past nothing that
--- may yet stand; there either a frame stands and waits, or the words that have come are right and the next has not
-pub record AsSoonAs (cs : List Call) : Type 0 where
+-- where the hunt is: at position 2 + gone, past nothing that may yet stand; there either a frame stands and waits, or the words that have come are
+-- right and the next has not
+pub record HuntAt (cs : List Call) : Type 0 where
   pub gone : ℕ
   pub held : bitsOf (afterAll started cs) ≡ drop gone (bitsTaken started cs)
   pub rest : (e : List Bool) → framesIn (bitsTaken started cs ++ e) ≡ found cs ++ scan 0 (2 + gone) (drop gone (bitsTaken started cs) ++ e)
@@ -35,6 +37,16 @@ pub record AsSoonAs (cs : List Call) : Type 0 where
   pub hunts : afterAll started cs .candidate .waits ≡ false
       → RightSoFar (afterAll started cs .candidate .words) (drop gone (bitsTaken started cs))
       × (length (drop gone (bitsTaken started cs)) < 32 + 30 * afterAll started cs .candidate .words)
+
+-- "a position is ruled out as soon as a word of it that has fully come fails", at any time before the end
+abbrev pub AsSoonAs : List Call → Type 0
+AsSoonAs cs = afterAll started cs .ended ≡ false → HuntAt cs
+
+-- "Let a correct frame stand undamaged in the bits taken .. It is handed out once and exactly": whatever the calls were, where no frame waits all
+-- frames of the bits taken were handed out if the input has ended, and else all that these bits decide
+abbrev pub NothingLost : List Call → Type 0
+NothingLost cs = afterAll started cs .candidate .waits ≡ false
+    → found cs ≡ cond (afterAll started cs .ended) (framesIn (bitsTaken started cs)) (decided 0 2 (bitsTaken started cs))
 
 -- "It is handed out once and exactly, at latest when 990 bits from its first have been taken or the input has ended, unless a frame already handed
 -- out covers its first bit. This holds when every waiting frame is taken at once, after the end too." Position 2 + q is the bit after drop q's first
@@ -45,15 +57,25 @@ pub record HandedOut (bs : List ℕ) : Type 0 where
   pub out : handedOut started (served bs) ≡ map reported (decided 0 2 (lineBits bs))
   pub in-time : (q : ℕ) → Stands (drop q (lineBits bs)) → q + 992 ≤ length (lineBits bs)
       → FoundOrCovered (placed (2 + q) (drop q (lineBits bs))) (decided 0 2 (lineBits bs))
+  pub once-so-far : Apart 2 (decided 0 2 (lineBits bs))
   pub ended : handedOut started (served bs ++ (ends ∷ takesAll)) ≡ map reported (framesIn (lineBits bs))
   pub at-end : (q : ℕ) → Stands (drop q (lineBits bs)) → FoundOrCovered (placed (2 + q) (drop q (lineBits bs))) (framesIn (lineBits bs))
   pub once : Apart 2 (framesIn (lineBits bs))
 
--- "No call on such a reader is ever refused with 5, however long the stream, and every data byte fed to it gives its six bits unless 3 or 2 applies"
+-- what is left of the bits d once positions are ruled out: those from two bits before the first that is not; where one was, no frame stands, whatever
+-- comes
+pub record RuledOutTo (d left : List Bool) : Type 0 where
+  pub gone : ℕ
+  pub is : left ≡ drop gone d
+  pub none : (j : ℕ) → j < gone → (e : List Bool) → Stands (drop j (d ++ e)) → ⊥
+
+-- "No call on such a reader is ever refused with 5, however long the stream, and every data byte fed to it gives its six bits unless 3 or 2 applies":
+-- the reader then holds its bits and these six after them, less those of positions that are now ruled out
 pub record NeverFive (cs : List Call) : Type 0 where
-  pub none : (y : Reply) → List·Memᴰ y (replies started cs) → answerOf y ≡ Refused 5 → ⊥
+  pub none : (y : Reply) → List·Memᴰ y (replies started cs) → answerOf y ≡ refuses 5 → ⊥
   pub taken : (b : ℕ) → isData b ≡ true → afterAll started cs .ended ≡ false → afterAll started cs .candidate .waits ≡ false
-      → (replyTo (afterAll started cs) (feeds b) ≡ replied Done) × (bitsGiven (feeds b) (replyTo (afterAll started cs) (feeds b)) ≡ six b)
+      → (replyTo (afterAll started cs) (feeds b) ≡ replied (answers tt))
+      × RuledOutTo (bitsOf (afterAll started cs) ++ six b) (bitsOf (after (afterAll started cs) (feeds b)))
 
 -- "Now let bits of a sent frame be turned over, none lost or added. If the first damaged word, counted with the two bits before it, has one, two or
 -- three turned bits, nothing begins where that frame began": g′ is what came of g, after any bits and before any, the stream cut anywhere
@@ -92,13 +114,39 @@ unfoldable pub feedEach : Reader → List ℕ → Reader
 feedEach r [] = r
 feedEach r (b ∷ bs) = feedEach (fedBy r b .reader) bs
 
--- the reader that feeding bytes leaves is the one that feeding those used one by one leaves; `passed` of them carry no bit; and unless it is
--- refused, all bytes are used or a frame waits. A reader's array has forty cells.
-pub record FeedAllIsFeed (r : Reader) (bs : List ℕ) : Type 0 where
-  pub reader : fedAllBy r bs .reader ≡ feedEach r (take (fedAllBy r bs .used) bs)
-  pub passed : fedAllBy r bs .passed ≡ without (take (fedAllBy r bs .used) bs)
-  pub all : fedAllBy r bs .answer ≡ Done → (fedAllBy r bs .used ≡ length bs) ⊎ (fedAllBy r bs .reader .candidate .waits ≡ true)
+-- refused, it leaves the reader as it was, and every byte is refused with that number; else the reader is the one that feeding the bytes used one by
+-- one leaves, none of them while a frame waits; the bytes passed over are those of them that carry no bit; and all bytes are used or a frame waits
+pub record FedOneByOne (r : Reader) (bs : List ℕ) : Type 0 where
+  pub refused : (n : ℕ) → saysFedAll (fedAllBy r bs) ≡ refuses n → (fedAllBy r bs .reader ≡ r) × ((b : ℕ) → saysNext (fedBy r b) ≡ refuses n)
+  pub reader : (u p : ℕ) → saysFedAll (fedAllBy r bs) ≡ answers (u, p) → fedAllBy r bs .reader ≡ feedEach r (take u bs)
+  pub free : (u p : ℕ) → saysFedAll (fedAllBy r bs) ≡ answers (u, p) → (k : ℕ) → k < u → feedEach r (take k bs) .candidate .waits ≡ false
+  pub passed : (u p : ℕ) → saysFedAll (fedAllBy r bs) ≡ answers (u, p) → p ≡ without (take u bs)
+  pub all : (u p : ℕ) → saysFedAll (fedAllBy r bs) ≡ answers (u, p) → (u ≡ length bs) ⊎ (fedAllBy r bs .reader .candidate .waits ≡ true)
+
+-- a reader's array has forty cells
+abbrev pub FeedAllIsFeed : Reader → List ℕ → Type 0
+FeedAllIsFeed r bs = length (r .cells) ≡ 40 → FedOneByOne r bs
 
 -- ---- "a reader state whose counts go past what it can hold" is not reached from one that is not refused, by any call
 abbrev pub NextIsAccepted : Reader → Type 0
 NextIsAccepted r = length (r .cells) ≡ 40 → past r ≡ false → (c : Call) → past (after r c) ≡ false
+
+-- ---- THE DEMAND
+pub record Demand3 : Type 0 where
+  -- "Let a correct frame stand undamaged in the bits taken, with the two bits before it, at any bit offset and in either polarity. It is handed out
+  -- once and exactly, at latest when 990 bits from its first have been taken or the input has ended, unless a frame already handed out covers its
+  -- first bit. This holds when every waiting frame is taken at once, after the end too."
+  pub out : (bs : List ℕ) → HandedOut bs
+  -- "Turning over all bits from the start changes no frame handed out."
+  pub turned : TurnedIsSame
+  -- "Now let bits of a sent frame be turned over, none lost or added. If the first damaged word, counted with the two bits before it, has one, two or
+  -- three turned bits, nothing begins where that frame began."
+  pub damage : (cs : List Call) → DamageBeginsNothing cs
+  -- "Only frames by the definition are ever handed out."
+  pub only : (cs : List Call) → OnlyFrames cs
+  -- nothing is lost, whatever the calls
+  pub nothing-lost : (cs : List Call) → NothingLost cs
+  -- of the hunt (RULES 5): as soon as; never 5; and bytes fed together are bytes fed one by one
+  pub soon : (cs : List Call) → AsSoonAs cs
+  pub never-5 : (cs : List Call) → NeverFive cs
+  pub together : (r : Reader) (bs : List ℕ) → FeedAllIsFeed r bs

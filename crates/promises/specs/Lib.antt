@@ -1,5 +1,13 @@
 pub mod Calls
+pub mod DefinedAnswer
+pub mod CarriesItsNumber
+pub mod ChangesNeither
+pub mod EveryCallEnds
+pub mod ThoseOfRtcm
+pub mod ReadsBack
 pub mod Demand2
 pub mod Demand3
+pub mod Demand1
 pub mod Course
 pub mod Worked
+pub mod Demands

@@ -1,25 +1,25 @@
 -- The worked values that are to be proved, one list of statements, over the definitions that the public contracts cite. Assumes nothing.
 use mathlib.Core.Path.{_≡_}
-use mathlib.Core.Bool.{true, false}
+use mathlib.Core.Bool.{false}
 use mathlib.Core.List.{List, [], _∷_, _++_}
-use Prim.Native.Nat.{ℕ}
+use Prim.Native.Nat.{ℕ, _*_, _≤_}
 use lib.IntN.{pos, negℤ}
-use lib.ListN.{replicate}
+use lib.ListN.{length, replicate}
 use Rattle.answer.specs.Order.{Says, refuses, answers}
 use Rattle.bits.specs.Bits.{bits}
 use Rattle.line.specs.Answer.{sixOf, saysSix}
-use Rattle.word.specs.Word.{parity}
+use Rattle.word.specs.Answer.{wordOf, saysSent}
 use Rattle.frame.specs.Header.{stateOf}
 use Rattle.frame.specs.declared.Frame.{Frame}
 use Rattle.frame.specs.declared.State.the-variants.{Factor}
-use Rattle.stream.specs.Standing.{Placed}
 use Rattle.reader.specs.Reading.{started}
-use Rattle.listing.specs.Text.{textOf}
+use Rattle.listing.specs.Listing.{endRoom}
 use Rattle.record.specs.Stages.{saysCount}
 use Rattle.record.specs.Corrections.{countCorrections}
 use Rattle.value.specs.Values.{exactly, stop, upTo, dbHz, notTracked}
 use Rattle.value.specs.Answer.{prcMm, rrcMmS, udreLimit, cn0DbHz, saysDistance, saysRate, saysLimit, saysStrength}
-use Rattle.promises.specs.Calls.{Call, ends, handedOut, takesAll, served}
+use Rattle.promises.specs.Calls.{feeds, ends, replied, replyTo, bitsGiven, handedOut, takesAll, served}
+use Rattle.promises.specs.Course.{Piece, listedText, Fit}
 
 -- the stream of eleven bytes, and the same with all bits turned over
 abbrev pub elevenBytes : List ℕ
@@ -32,18 +32,11 @@ abbrev pub tenBytes : List ℕ
 tenBytes = 0x40 ∷ 0x66 ∷ 0x61 ∷ 0x41 ∷ 0x68 ∷ 0x7F ∷ 0x7F ∷ 0x6C ∷ 0x73 ∷ 0x7F ∷ []
 
 -- its frame: type 6, station 5, Z count 100, sequence 3, health 0, N 0, from position 6 on
-abbrev pub elevenFrame : Placed
-elevenFrame = record {
-  at = 6;
-  frame = record {
-    header = record { kind = 6; station = 5; z = 100; sequence = 3; state = Factor 100 };
-    n = 0;
-    words = replicate 31 0;
-  };
-}
+abbrev pub elevenFrame : ℕ × Frame
+elevenFrame = (6, record { header = record { kind = 6; station = 5; z = 100; sequence = 3; state = Factor 100 }; n = 0; words = replicate 31 0 })
 
 -- all that a fresh reader hands out of bytes and their end, every waiting frame taken at once
-abbrev pub readOut : List ℕ → List Placed
+abbrev pub readOut : List ℕ → List (ℕ × Frame)
 readOut bs = handedOut started (served bs ++ (ends ∷ takesAll))
 
 -- its text: "6 6 5 100 3 0 0", "frames 1 bytes 11 passed 0", each with a newline
@@ -51,6 +44,10 @@ unfoldable pub twoLines : List ℕ
 twoLines =
     54 ∷ 32 ∷ 54 ∷ 32 ∷ 53 ∷ 32 ∷ 49 ∷ 48 ∷ 48 ∷ 32 ∷ 51 ∷ 32 ∷ 48 ∷ 32 ∷ 48 ∷ 10
     ∷ 102 ∷ 114 ∷ 97 ∷ 109 ∷ 101 ∷ 115 ∷ 32 ∷ 49 ∷ 32 ∷ 98 ∷ 121 ∷ 116 ∷ 101 ∷ 115 ∷ 32 ∷ 49 ∷ 49 ∷ 32 ∷ 112 ∷ 97 ∷ 115 ∷ 115 ∷ 101 ∷ 100 ∷ 32 ∷ 48 ∷ 10 ∷ []
+
+-- the bytes are listed to those lines by any pieces that are enough, each with a byte at least and room for a line, and by the end
+abbrev pub ListsAsTwoLines : List ℕ → Type 0
+ListsAsTwoLines bs = (ps : List Piece) (out : List ℕ) → Fit ps → 7 * length bs ≤ length ps → endRoom ≤ length out → listedText bs ps out ≡ twoLines
 
 -- a frame of type 1 with this Z count and this N
 abbrev pub typeOne : ℕ → ℕ → Frame
@@ -61,19 +58,21 @@ abbrev pub satellites : ℕ → ℕ → Says ℕ
 satellites z n = saysCount (countCorrections (typeOne z n))
 
 pub record WorkedValues : Type 0 where
-  -- the parity of word 1, after carried bits 00; and of word 2, which is sent turned over, after 11
-  pub word-1 : parity false false (bits 24 0b011001100001100000000101) ≡ bits 6 0b111111
-  pub word-2 : parity true true (bits 24 0b000000110010001100000000) ≡ bits 6 0b001000
+  -- word 1, sent after carried bits 00, and word 2, which is sent turned over after 11, each with its parity
+  pub word-1 : saysSent (wordOf 0b00 0x661805) ≡ answers (bits 30 0b011001100001100000000101111111)
+  pub word-2 : saysSent (wordOf 0b11 0x032300) ≡ answers (bits 30 0b111111001101110011111111001000)
   -- the eleven bytes and the turned ones give one equal frame; the first ten of the eleven, then the end: none
   pub eleven : readOut elevenBytes ≡ elevenFrame ∷ []
   pub turned : readOut turnedBytes ≡ elevenFrame ∷ []
   pub ten : readOut tenBytes ≡ []
   -- both list as the same two lines
-  pub eleven-text : textOf elevenBytes ≡ twoLines
-  pub turned-text : textOf turnedBytes ≡ twoLines
-  -- byte 0x3F is refusal 1; byte 0x40 is six zero bits
+  pub eleven-text : ListsAsTwoLines elevenBytes
+  pub turned-text : ListsAsTwoLines turnedBytes
+  -- byte 0x3F is refusal 1; byte 0x40 is six zero bits; by the line's own call, and fed to a fresh reader
   pub byte-3F : saysSix (sixOf 0x3F) ≡ refuses 1
   pub byte-40 : saysSix (sixOf 0x40) ≡ answers (replicate 6 false)
+  pub fed-3F : replyTo started (feeds 0x3F) ≡ replied (refuses 1)
+  pub fed-40 : bitsGiven (feeds 0x40) (replyTo started (feeds 0x40)) ≡ replicate 6 false
   -- scale 0, PRC 32767; scale 1, PRC -32767; PRC -32768 is stop in both scales
   pub prc-highest : saysDistance (prcMm 0 (pos 32767)) ≡ answers (exactly (pos 655340))
   pub prc-lowest : saysDistance (prcMm 1 (negℤ (pos 32767))) ≡ answers (exactly (negℤ (pos 10485440)))

@@ -1,0 +1,130 @@
+-- Every order is read by `inOrder`, so one law serves them all. Assumes nothing.
+use mathlib.Core.Path.{_≡_, refl, sym, subst, _∙_}
+use mathlib.Core.Bool.{false, _||_}
+use mathlib.Core.Logic.{_⊎_, inl, inr}
+use mathlib.Core.List.{List, [], _∷_}
+use Prim.Native.Nat.{ℕ, _*_}
+use native.Mathlib.Omega.{arith}
+use lib.Dec.{ltb}
+use Rattle.answer.specs.Order.{Says, refuses, answers, Check, inOrder, NoneApplies, FirstIs}
+use Rattle.answer.proofs.OrderLaws.{order-answers, order-refuses, order-map, first-or-none}
+use Rattle.line.specs.Answer.{saysSix}
+use Rattle.line.specs.declared.Six.the-variants as six
+use Rattle.word.specs.Answer.{saysSent}
+use Rattle.word.specs.declared.Sent.the-variants as sent
+use Rattle.frame.specs.Frames.{blank}
+use Rattle.frame.specs.Widths.{anyOf, stateOutside, late}
+use Rattle.frame.specs.Answer.{saysHealth, saysWords, saysWidths, saysClock}
+use Rattle.frame.specs.declared.Health.the-variants as health
+use Rattle.frame.specs.declared.HeaderWords.the-variants as words
+use Rattle.frame.specs.declared.Widths.the-variants.{Within, Outside}
+use Rattle.frame.specs.declared.Clock.the-variants.{Hour, Late}
+use Rattle.reader.specs.Reading.{fedBy, fedAllBy, endedBy, takenBy, saysAnswer}
+use Rattle.reader.specs.declared.Answer.the-variants.{Refused}
+use Rattle.reader.specs.declared.Next.{Next}
+use Rattle.reader.specs.declared.FedAll.{FedAll}
+use Rattle.reader.specs.declared.Taken.{Taken}
+use Rattle.writer.specs.Answer.{saysOpened, saysWritten}
+use Rattle.writer.specs.declared.Opened.the-variants as opened
+use Rattle.writer.specs.declared.Written.the-variants as written
+use Rattle.journal.specs.Journal.{refused, saysKept, saysRecalled}
+use Rattle.journal.specs.declared.Kept.the-variants as kept
+use Rattle.record.specs.Stages.{refusedMade, doneMade, saysAsked, saysCount, saysMade}
+use Rattle.record.specs.Corrections.{countCorrections, correctionAt, makeCorrections, saysCorrectionRead}
+use Rattle.record.specs.Healths.{countHealths, healthAt, makeHealths, saysHealthRead}
+use Rattle.record.specs.Positions.{readPosition, makePosition, saysPositionRead}
+use Rattle.record.specs.Nulls.{readNull, makeNull, saysNullRead}
+use Rattle.record.specs.Texts.{readText, makeText}
+use Rattle.record.specs.declared.stage.Count.the-variants as count
+use Rattle.record.specs.declared.correction.CorrectionRead.the-variants as correction
+use Rattle.record.specs.declared.health.HealthRead.the-variants as healths
+use Rattle.record.specs.declared.position.PositionRead.the-variants as position
+use Rattle.record.specs.declared.null.NullRead.the-variants as null
+use Rattle.record.specs.declared.stage.Asked.the-variants.{Same, Other}
+use Rattle.value.specs.Values.{prcValue, rrcValue, udreValue, cn0Value}
+use Rattle.value.proofs.AnswerLaws.{prc-says, rrc-says, udre-says, cn0-says, minutes-says, z-says}
+use Rattle.listing.specs.Listing.{pieceBy, finishBy}
+use Rattle.listing.specs.Listing as listing
+use Rattle.listing.specs.declared.Listed.{Listed}
+use Rattle.promises.specs.CarriesItsNumber.{numbersOf, Ordered, CarriesItsNumber}
+
+pub says-apart : {A : Type 0} (n : ℕ) (v : A) → refuses n ≡ answers v → ⊥
+says-apart n v e = let z : _≡_ {A = ℕ} 0 1 = cc in omega arith
+
+number-inj : {A : Type 0} (m n : ℕ) → _≡_ {A = Says A} (refuses m) (refuses n) → m ≡ n
+number-inj m n e = cc
+
+-- what an order says is its first number or its value
+ordered : {A : Type 0} {numbers : List ℕ} (cs : List Check) {s : Says A} (value : A) → s ≡ inOrder cs refuses (answers value)
+    → numbersOf cs ≡ numbers → anyOf (λ n. ltb n 1 || ltb 16 n) numbers ≡ false → Ordered numbers cs s
+ordered {A} {numbers} cs {s} value e numbered table = record {
+  numbered = numbered;
+  table = table;
+  answered = λ none. (value, e ∙ order-answers refuses (answers value) cs none);
+  refused = λ n first. e ∙ order-refuses refuses (answers value) cs n first;
+  only = λ n h. go n h (first-or-none cs);
+}
+  where
+    go : (n : ℕ) → s ≡ refuses n → NoneApplies cs ⊎ ((m : ℕ) × FirstIs cs m) → FirstIs cs n
+    go n h (inl none) = absurd (says-apart n value (sym h ∙ e ∙ order-answers refuses (answers value) cs none))
+    go n h (inr (m, first)) = subst (FirstIs cs) (number-inj m n (sym (e ∙ order-refuses refuses (answers value) cs m first) ∙ h)) first
+
+-- the same through an answer's own type
+told : {A X : Type 0} {numbers : List ℕ} {cs : List Check} (says : X → Says A) (refuse : ℕ → X) (answer : X) (value : A)
+    → inOrder cs (λ n. says (refuse n)) (says answer) ≡ inOrder cs refuses (answers value)
+    → numbersOf cs ≡ numbers → anyOf (λ n. ltb n 1 || ltb 16 n) numbers ≡ false → Ordered numbers cs (says (inOrder cs refuse answer))
+told {cs} says refuse answer value e numbered table = ordered cs value (order-map says cs refuse answer ∙ e) numbered table
+
+pub carries-its-number : CarriesItsNumber
+unfolding fedBy fedAllBy endedBy takenBy countCorrections correctionAt makeCorrections countHealths healthAt makeHealths readPosition makePosition readNull makeNull readText makeText refusedMade doneMade pieceBy finishBy
+carries-its-number = record {
+  feed = λ r b. told (λ (x : Next). saysAnswer (x .answer)) (λ n. record { answer = Refused n; reader = r }) _ tt refl refl refl;
+  feed-all = λ r bs. told (λ (x : FedAll). saysAnswer (x .answer)) (λ n. record { answer = Refused n; used = 0; passed = 0; reader = r }) _ tt refl refl refl;
+  reader-end = λ r. told (λ (x : Next). saysAnswer (x .answer)) (λ n. record { answer = Refused n; reader = r }) _ tt refl refl refl;
+  reader-take = λ r. told (λ (x : Taken). saysAnswer (x .answer)) (λ n. record { answer = Refused n; at = 0; frame = blank; reader = r }) _ tt refl refl refl;
+  count-corrections = λ f. told saysCount count.Refused _ _ refl refl refl;
+  correction-at = λ f i. told saysCorrectionRead correction.Refused _ _ refl refl refl;
+  count-healths = λ f. told saysCount count.Refused _ _ refl refl refl;
+  health-at = λ f i. told saysHealthRead healths.Refused _ _ refl refl refl;
+  read-position = λ f. told saysPositionRead position.Refused _ _ refl refl refl;
+  read-null = λ f. told saysNullRead null.Refused _ _ refl refl refl;
+  read-text = λ f buffer. told saysCount count.Refused _ _ refl refl refl;
+  make-corrections = λ h es c. told saysMade refusedMade _ _ refl refl refl;
+  make-healths = λ h es c. told saysMade refusedMade _ _ refl refl refl;
+  make-position = λ h p. told saysMade refusedMade _ _ refl refl refl;
+  make-null = λ h. told saysMade refusedMade _ _ refl refl refl;
+  make-text = λ h t. told saysMade refusedMade _ _ refl refl refl;
+  write = λ f c buffer. told saysWritten written.Refused _ _ refl refl refl;
+  writer-open = λ buffer. told saysOpened opened.Refused _ _ refl refl refl;
+  keep = λ f buffer. told saysKept kept.Refused _ _ refl refl refl;
+  recall = λ bs. told saysRecalled refused _ _ refl refl refl;
+  six-of = λ b. told saysSix six.Refused _ _ refl refl refl;
+  word-of = λ c d. told saysSent sent.Refused _ _ refl refl refl;
+  health-of = λ s. told saysHealth health.Refused _ _ refl refl refl;
+  header-words = λ h n. told saysWords words.Refused _ _ refl refl refl;
+  header-widths = λ h. told saysWidths (λ n. Outside) Within tt refl refl refl;
+  frame-widths = λ f. told saysWidths (λ n. Outside) Within tt refl refl refl;
+  clock-of = λ z. told saysClock (λ n. Late) Hour tt refl refl refl;
+  asked-of = λ l kind. told saysAsked (λ n. Other) Same tt refl refl refl;
+  prc-mm = λ scale prc. ordered ((ltb 1 scale, 10) ∷ []) (prcValue scale prc) (prc-says scale prc) refl refl;
+  rrc-mm-s = λ scale rrc. ordered ((ltb 1 scale, 10) ∷ []) (rrcValue scale rrc) (rrc-says scale rrc) refl refl;
+  udre-limit = λ s udre. ordered ((stateOutside s, 5) ∷ (ltb 3 udre, 10) ∷ []) (udreValue s udre) (udre-says s udre) refl refl;
+  cn0-dbhz = λ code. ordered ((ltb 31 code, 10) ∷ []) (cn0Value code) (cn0-says code) refl refl;
+  value-minutes = λ code. ordered ((ltb 15 code, 10) ∷ []) (5 * code) (minutes-says code) refl refl;
+  z-tenths = λ z. ordered ((ltb 8191 z, 5) ∷ (late z, 7) ∷ []) (6 * z) (z-says z) refl refl;
+  list-piece = λ l bs room. told (λ (x : Listed). saysAnswer (x .answer)) (listing.refused l) _ _ refl refl refl;
+  finish = λ l room. told (λ (x : Listed). saysAnswer (x .answer)) (listing.refused l) _ _ refl refl refl;
+}
+
+-- ---- back from what a call says
+
+pub says-inj : {A : Type 0} {v w : A} → answers v ≡ answers w → v ≡ w
+says-inj e = cc
+
+-- where an order answers none of its checks applies
+pub none-told : {A : Type 0} {numbers : List ℕ} {cs : List Check} {s : Says A} → Ordered numbers cs s → (v : A) → s ≡ answers v → NoneApplies cs
+none-told {cs} {s} o v e = go (first-or-none cs)
+  where
+    go : NoneApplies cs ⊎ ((n : ℕ) × FirstIs cs n) → NoneApplies cs
+    go (inl none) = none
+    go (inr (n, first)) = let told = o .refused n first in let z : _≡_ {A = ℕ} 0 1 = cc (told, e) in absurd (omega arith)

@@ -1,0 +1,177 @@
+-- What a refusal leaves is the argument itself, and an answer's bytes stand before the rest of the buffer: two laws over any order. Assumes nothing.
+use mathlib.Core.Path.{_≡_, refl, sym, ap, subst, _∙_}
+use mathlib.Core.List.{List, [], _∷_, _++_}
+use Prim.Native.Nat.{ℕ, _+_, _*_, _/_, _≤_}
+use native.Mathlib.Omega.{arith}
+use native.Mathlib.Nat.{zero-add}
+use lib.ListN.{length, drop, length-append, length-drop}
+use lib.Seq.{sets, sets-eq, length-sets, drop-at}
+use borrow.Author.Tests.{ltb-false}
+use Rattle.answer.specs.Order.{Says, answers, Check, inOrder, NoneApplies}
+use Rattle.answer.proofs.OrderLaws.{order-answers, order-refuses}
+use Rattle.frame.specs.Frames.{blank}
+use Rattle.reader.specs.Reading.{fedBy, fedAllBy, endedBy, takenBy, saysAnswer}
+use Rattle.reader.specs.declared.Reader.{Reader}
+use Rattle.reader.specs.declared.Answer.the-variants.{Refused}
+use Rattle.reader.specs.declared.Next.{Next}
+use Rattle.reader.specs.declared.FedAll.{FedAll}
+use Rattle.reader.specs.declared.Taken.{Taken}
+use Rattle.writer.specs.Sending.{bitsAfter, carriedOn, bytesFor, bytesOf}
+use Rattle.writer.specs.Answer.{over, lead, saysOpened, saysWritten}
+use Rattle.writer.proofs.Bytes.{length-bytes}
+use Rattle.writer.specs.declared.Opened.the-variants as opened
+use Rattle.writer.specs.declared.Written.the-variants as written
+use Rattle.journal.specs.Journal.{recordOf, saysKept}
+use Rattle.journal.specs.Journal.{refused as unrecalled}
+use Rattle.journal.specs.declared.Recalled.{Recalled}
+use Rattle.journal.specs.declared.Kept.the-variants as kept
+use Rattle.journal.proofs.KeepLaws.{length-record}
+use Rattle.pack.specs.Coding.{frameBits}
+use Rattle.record.proofs.TextCode.{length-characters}
+use Rattle.record.specs.Stages.{refusedMade, saysCount}
+use Rattle.record.specs.Corrections.{makeCorrections}
+use Rattle.record.specs.Healths.{makeHealths}
+use Rattle.record.specs.Positions.{makePosition}
+use Rattle.record.specs.Nulls.{makeNull}
+use Rattle.record.specs.declared.stage.Made.{Made}
+use Rattle.record.specs.declared.stage.Count.the-variants as count
+use Rattle.record.specs.Texts.{lengthIn, textIn, readText, bufferAfter, makeText}
+use Rattle.listing.specs.Text.{lastLine}
+use Rattle.listing.specs.Listing.{Lines, lineRoom, endRoom, endedOn, refused, listed, linesOf, finalLines, pieceBy, pieceText, finishBy, finishText}
+use Rattle.listing.specs.declared.Listing.{Listing}
+use Rattle.listing.specs.declared.Listed.{Listed}
+use Rattle.listing.proofs.Lengths.{lines-le, last-le}
+use Rattle.promises.specs.CarriesItsNumber.{Ordered}
+use Rattle.promises.specs.ChangesNeither.{Keeps, ChangesNeither, NumberAlone, OnlyFirst, Owns, OnlyItsBytes}
+use Rattle.promises.proofs.CarriesItsNumber.{carries-its-number, says-inj, none-told}
+
+-- ---- a refusal
+
+-- what the reader's calls leave when they refuse
+abbrev fed-none : Reader → ℕ → FedAll
+fed-none r n = record { answer = Refused n; used = 0; passed = 0; reader = r }
+
+abbrev taken-none : Reader → ℕ → Taken
+taken-none r n = record { answer = Refused n; at = 0; frame = blank; reader = r }
+
+-- what is made of each refusal is what was there, so what is made of the order is
+keeps : {A X B : Type 0} {numbers : List ℕ} {cs : List Check} {s : Says A} → Ordered numbers cs s
+    → (of : X → B) (refuse : ℕ → X) (answer : X) (was : B) → ((n : ℕ) → of (refuse n) ≡ was) → Keeps s (of (inOrder cs refuse answer)) was
+keeps {cs} o of refuse answer was same n e = ap of (order-refuses refuse answer cs n (o .only n e)) ∙ same n
+
+pub changes-neither : ChangesNeither
+unfolding fedBy fedAllBy endedBy takenBy readText bufferAfter pieceBy pieceText finishBy finishText
+changes-neither = record {
+  feed = λ r b. keeps (carries-its-number .feed r b) (λ (x : Next). x .reader) (λ n. record { answer = Refused n; reader = r }) _ _ (λ n. refl);
+  feed-all = λ r bs. keeps (carries-its-number .feed-all r bs) (λ (x : FedAll). x .reader) (fed-none r) _ _ (λ n. refl);
+  reader-end = λ r. keeps (carries-its-number .reader-end r) (λ (x : Next). x .reader) (λ n. record { answer = Refused n; reader = r }) _ _ (λ n. refl);
+  reader-take = λ r. keeps (carries-its-number .reader-take r) (λ (x : Taken). x .reader) (taken-none r) _ _ (λ n. refl);
+  writer-open = λ buffer. keeps (carries-its-number .writer-open buffer) (λ b. b) (λ n. buffer) _ _ (λ n. refl);
+  write = λ f c buffer. keeps (carries-its-number .write f c buffer) (λ b. b) (λ n. buffer) _ _ (λ n. refl);
+  keep = λ f buffer. keeps (carries-its-number .keep f buffer) (λ b. b) (λ n. buffer) _ _ (λ n. refl);
+  read-text = λ f buffer. keeps (carries-its-number .read-text f buffer) (λ b. b) (λ n. buffer) _ _ (λ n. refl);
+  list-piece = λ l bs room. keeps (carries-its-number .list-piece l bs room) (λ (x : Listed). x .listing) (refused l) _ _ (λ n. refl);
+  list-piece-output = λ l bs out. keeps (carries-its-number .list-piece l bs (length out)) (λ b. b) (λ n. out) _ _ (λ n. refl);
+  finish = λ l room. keeps (carries-its-number .finish l room) (λ (x : Listed). x .listing) (refused l) _ _ (λ n. refl);
+  finish-output = λ l out. keeps (carries-its-number .finish l (length out)) (λ b. b) (λ n. out) _ _ (λ n. refl);
+}
+
+pub number-alone : NumberAlone
+unfolding fedAllBy takenBy makeCorrections makeHealths makePosition makeNull makeText refusedMade pieceBy finishBy
+number-alone = record {
+  feed-all = λ r bs. keeps (carries-its-number .feed-all r bs) (λ (x : FedAll). (x .used, x .passed)) (fed-none r) _ _ (λ n. refl);
+  reader-take = λ r. keeps (carries-its-number .reader-take r) (λ (x : Taken). (x .at, x .frame)) (taken-none r) _ _ (λ n. refl);
+  recall = λ bs. keeps (carries-its-number .recall bs) (λ (x : Recalled). x .frame) unrecalled _ _ (λ n. refl);
+  make-corrections = λ h es c. keeps (carries-its-number .make-corrections h es c) (λ (x : Made). x .frame) refusedMade _ _ (λ n. refl);
+  make-healths = λ h es c. keeps (carries-its-number .make-healths h es c) (λ (x : Made). x .frame) refusedMade _ _ (λ n. refl);
+  make-position = λ h p. keeps (carries-its-number .make-position h p) (λ (x : Made). x .frame) refusedMade _ _ (λ n. refl);
+  make-null = λ h. keeps (carries-its-number .make-null h) (λ (x : Made). x .frame) refusedMade _ _ (λ n. refl);
+  make-text = λ h t. keeps (carries-its-number .make-text h t) (λ (x : Made). x .frame) refusedMade _ _ (λ n. refl);
+  list-piece = λ l bs room. keeps (carries-its-number .list-piece l bs room) (λ (x : Listed). (x .used, x .written)) (refused l) _ _ (λ n. refl);
+  finish = λ l room. keeps (carries-its-number .finish l room) (λ (x : Listed). (x .used, x .written)) (refused l) _ _ (λ n. refl);
+}
+
+-- ---- an answer
+
+-- the answer that was ready says the value, and the buffer that was ready is left
+owns : {A X : Type 0} {numbers : List ℕ} {cs : List Check} (says : X → Says A) (refuse : ℕ → X) (answer : X) (value : A)
+    → Ordered numbers cs (says (inOrder cs refuse answer)) → says answer ≡ answers value
+    → (own : A → ℕ) (buffer after : List ℕ) → (NoneApplies cs → OnlyFirst (own value) after buffer)
+    → Owns (says (inOrder cs refuse answer)) own (inOrder cs (λ n. buffer) after) buffer
+owns {cs} says refuse answer value o ready own buffer after only v e =
+    subst (λ b. OnlyFirst (own v) b buffer) (sym (order-answers (λ n. buffer) after cs none))
+    (subst (λ w. OnlyFirst (own w) after buffer) (says-inj (sym ready ∙ ap says (sym (order-answers refuse answer cs none)) ∙ e)) (only none))
+  where
+    none : NoneApplies cs
+    none = none-told o v e
+
+-- bytes in front of what stood behind them
+first-bytes : (bytes buffer : List ℕ) (k : ℕ) → length bytes ≡ k → k ≤ length buffer → OnlyFirst k (bytes ++ drop k buffer) buffer
+first-bytes bytes buffer k e h = record {
+  long = omega (arith, length-append bytes (drop k buffer), length-drop k buffer);
+  rest = drop-at bytes (drop k buffer) k e;
+}
+
+-- bytes stored one by one from the start
+first-stored : (out text : List ℕ) → length text ≤ length out → OnlyFirst (length text) (sets out 0 text) out
+first-stored out text h = record {
+  long = length-sets out 0 text;
+  rest = ap (drop (length text)) (sets-eq text out 0 fits) ∙ drop-at text (drop (0 + length text) out) (length text) refl ∙ ap (λ k. drop k out) (zero-add (length text));
+}
+  where
+    fits : 0 + length text ≤ length out
+    fits = omega arith
+
+-- the same of the listing's calls, which answer how much they wrote
+listing-owns : {numbers : List ℕ} {cs : List Check} (l : Listing) (x : Lines) (out : List ℕ)
+    → Ordered numbers cs (saysAnswer (inOrder cs (refused l) (listed x) .answer)) → (NoneApplies cs → length (x .text) ≤ length out)
+    → Owns (saysAnswer (inOrder cs (refused l) (listed x) .answer)) (λ v. inOrder cs (refused l) (listed x) .written)
+    (inOrder cs (λ n. out) (sets out 0 (x .text))) out
+listing-owns {cs} l x out o room v e =
+    subst (λ b. OnlyFirst (inOrder cs (refused l) (listed x) .written) b out) (sym (order-answers (λ n. out) (sets out 0 (x .text)) cs none))
+    (subst (λ (y : Listed). OnlyFirst (y .written) (sets out 0 (x .text)) out) (sym (order-answers (refused l) (listed x) cs none))
+    (first-stored out (x .text) (room none)))
+  where
+    none : NoneApplies cs
+    none = none-told o v e
+
+final-le : (l : Listing) → length (finalLines l .text) ≤ endRoom
+unfolding finalLines
+final-le l =
+    let x = linesOf 16 (endedOn l (endedBy (l .reader) .reader)) [] in
+    let end = x .listing in
+    omega (
+      arith,
+      lines-le 16 (endedOn l (endedBy (l .reader) .reader)) [],
+      last-le (end .frames) (end .bytes) (end .passed),
+      length-append (x .text) (lastLine (end .frames) (end .bytes) (end .passed)),
+    )
+
+pub only-its-bytes : OnlyItsBytes
+unfolding readText bufferAfter pieceBy pieceText finishBy finishText
+only-its-bytes = record {
+  writer-open = λ buffer.
+      owns saysOpened opened.Refused opened.Done tt (carries-its-number .writer-open buffer) refl (λ v. 1) buffer (over (lead ∷ []) buffer)
+      (λ none. first-bytes (lead ∷ []) buffer 1 refl (ltb-false (length buffer) 1 (none .0)));
+  write = λ f c buffer.
+      let bytes = bytesFor (bytesOf f) (bitsAfter c f) in
+      let long = length-bytes (bytesOf f) (bitsAfter c f) in
+      owns saysWritten written.Refused (written.Done (bytesOf f) (carriedOn (bitsAfter c f))) _ (carries-its-number .write f c buffer) refl
+      (λ v. v .0) buffer (over bytes buffer)
+      (λ none. subst (λ k. OnlyFirst (bytesOf f) (bytes ++ drop k buffer) buffer) (sym long)
+      (first-bytes bytes buffer (bytesOf f) long (ltb-false (length buffer) (bytesOf f) (none .1 .1 .1 .1 .0))));
+  keep = λ f buffer full.
+      owns saysKept kept.Refused (kept.Done (3 * f .n + 9)) _ (carries-its-number .keep f buffer) refl (λ v. v) buffer
+      (recordOf f ++ drop (3 * f .n + 9) buffer)
+      (λ none. first-bytes (recordOf f) buffer (3 * f .n + 9) (length-record f (none .0) full) (ltb-false (length buffer) (3 * f .n + 9) (none .1 .0)));
+  read-text = λ f buffer.
+      owns saysCount count.Refused (count.Of (lengthIn f)) _ (carries-its-number .read-text f buffer) refl (λ v. v) buffer
+      (textIn f ++ drop (lengthIn f) buffer)
+      (λ none. first-bytes (textIn f) buffer (lengthIn f) (length-characters (lengthIn f) (frameBits f)) (ltb-false (length buffer) (lengthIn f) (none .1 .1 .1 .1 .1 .0)));
+  list-piece = λ l bs out.
+      listing-owns l (linesOf (length out / lineRoom) l bs) out (carries-its-number .list-piece l bs (length out))
+      (λ none. omega (arith, lines-le (length out / lineRoom) l bs));
+  finish = λ l out.
+      listing-owns l (finalLines l) out (carries-its-number .finish l (length out))
+      (λ none. omega (arith, final-le l, ltb-false (length out) endRoom (none .1 .1 .1 .0)));
+}

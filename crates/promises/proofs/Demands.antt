@@ -1,0 +1,36 @@
+-- Everything that is promised holds. Assumes nothing.
+use Rattle.promises.specs.Demand3.{Demand3}
+use Rattle.promises.specs.Demands.{Demands}
+use Rattle.promises.proofs.Demand1.{demand-1}
+use Rattle.promises.proofs.Demand2.{demand-2}
+use Rattle.promises.proofs.Demand3.{handed-out, damage-begins-nothing, only-frames, nothing-lost, as-soon-as, never-five}
+use Rattle.promises.proofs.Turned.{turned-is-same}
+use Rattle.promises.proofs.EveryReader.{feed-all-is-feed}
+use Rattle.promises.proofs.Whole.{text-is-whole}
+use Rattle.promises.proofs.Progress.{nothing-left, piece-taken, reached, text-comes}
+use Rattle.promises.proofs.Worked.{worked}
+
+pub demand-3 : Demand3
+demand-3 = record {
+  out = handed-out;
+  turned = turned-is-same;
+  damage = damage-begins-nothing;
+  only = only-frames;
+  nothing-lost = nothing-lost;
+  soon = as-soon-as;
+  never-5 = never-five;
+  together = feed-all-is-feed;
+}
+
+pub demands : Demands
+demands = record {
+  first = demand-1;
+  second = demand-2;
+  third = demand-3;
+  text = text-is-whole;
+  nothing-left = nothing-left;
+  taken = piece-taken;
+  reached = reached;
+  comes = text-comes;
+  values = worked;
+}

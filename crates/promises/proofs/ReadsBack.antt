@@ -1,0 +1,114 @@
+-- Every record that can be sent is made, written, and reads back from the line: one lemma for every layout. Assumes nothing.
+use mathlib.Core.Path.{_≡_, sym, ap, subst, _∙_}
+use mathlib.Core.Bool.{false, _||_}
+use mathlib.Core.List.{List, [], _∷_}
+use Prim.Native.Nat.{ℕ, _≤_, _<_}
+use native.Mathlib.Omega.{arith}
+use lib.Dec.{ltb, eqb}
+use lib.ListN.{length, take}
+use borrow.Author.Tests.{le-ltb, lt-leb}
+use Rattle.answer.specs.Order.{Check, inOrder, NoneApplies}
+use Rattle.answer.proofs.OrderLaws.{order-told}
+use Rattle.bits.specs.Rows.{wordsIn}
+use Rattle.frame.specs.Frames.{framed}
+use Rattle.frame.specs.Widths.{anyOf, outside}
+use Rattle.frame.specs.declared.Header.{Header}
+use Rattle.frame.specs.declared.Frame.{Frame}
+use Rattle.frame.specs.declared.Layout.{Layout}
+use Rattle.frame.specs.declared.Layout.the-variants as layout
+use Rattle.frame.proofs.FrameLaws.{n-within, length-framed}
+use Rattle.pack.specs.Coding.{entryBits, frameWith, anyEntry}
+use Rattle.record.specs.Stages.{makeOrder, refusedMade, doneMade, HeaderFor, Sent}
+use Rattle.record.specs.Corrections as corrections
+use Rattle.record.specs.Healths as healths
+use Rattle.record.specs.Positions as positions
+use Rattle.record.specs.Nulls as nulls
+use Rattle.record.specs.Texts as texts
+use Rattle.record.proofs.StageLaws.{done-apart, done-frame}
+use Rattle.record.proofs.CorrectionTrips.{corrections-sent}
+use Rattle.record.proofs.HealthTrips.{healths-sent}
+use Rattle.record.proofs.PositionTrips.{position-sent}
+use Rattle.record.proofs.NullTrips.{null-sent}
+use Rattle.record.proofs.TextTrips.{text-sent}
+use Rattle.writer.specs.Sending.{bitsAfter, carriedOn, bytesOf}
+use Rattle.writer.specs.Answer.{writeChecks, writtenBy, saysWritten}
+use Rattle.writer.specs.OneFrame.{Wrote}
+use Rattle.writer.specs.declared.Written.the-variants.{Done}
+use Rattle.writer.proofs.Answers.{write-answers}
+use Rattle.writer.proofs.Wrote.{wrote}
+use Rattle.promises.specs.ReadsBack.{ReadsBack, WhatCanBeSent}
+
+-- a frame that is made within its widths has 31 words
+made-full : (cs : List Check) (h : Header) (ws : List ℕ) (f : Frame) → inOrder cs refusedMade (doneMade (framed h ws)) ≡ doneMade f
+    → outside f ≡ false → length (f .words) ≡ 31
+unfolding framed
+made-full cs h ws f e within = ap (λ g. length (g .words)) (sym same) ∙ length-framed h ws few
+  where
+    same : framed h ws ≡ f
+    same = done-frame (order-told refusedMade (doneMade (framed h ws)) (doneMade f) (λ n. done-apart n f) cs e .1)
+
+    few : length ws ≤ 31
+    few = subst (λ g. g .n ≤ 31) (sym same) (n-within f within)
+
+-- WHAT IS SENT under a header for its layout IS WRITTEN AND READS BACK: no check of the writer applies
+sent-reads-back : (asked : Layout) (h : Header) (cs : List Check) (ws : List ℕ) (Reads : Frame → Type 0)
+    (s : Sent (inOrder cs refusedMade (doneMade (framed h ws))) Reads)
+    → HeaderFor asked h → s .frame .header ≡ h → outside (s .frame) ≡ false → ReadsBack (inOrder cs refusedMade (doneMade (framed h ws))) Reads
+sent-reads-back asked h cs ws Reads s for header within c buffer p q room = record {
+  made = s;
+  count = bytesOf f;
+  on = carriedOn (bitsAfter c f);
+  answer = ap saysWritten done;
+  wrote = written;
+  back = λ rest. subst Reads (sym (written .is rest)) (s .reads);
+}
+  where
+    f : Frame
+    f = s .frame
+
+    hour : f .header .z < 6000
+    hour = subst (λ x. x .z < 6000) (sym header) (for .hour)
+
+    none : NoneApplies (writeChecks f c buffer)
+    none = (
+      le-ltb 1 (c .d29) p,
+      (le-ltb 1 (c .d30) q, (within, (lt-leb 6000 (f .header .z) hour, (le-ltb (length buffer) (bytesOf f) (omega (arith, room, n-within f within)), tt)))),
+    )
+
+    done : writtenBy f c buffer ≡ Done (bytesOf f) (carriedOn (bitsAfter c f))
+    done = sym (write-answers f c buffer none .0)
+
+    written : Wrote f c buffer (bytesOf f) (carriedOn (bitsAfter c f))
+    written = wrote f (made-full cs h ws f (s .done) within) c buffer (bytesOf f) (carriedOn (bitsAfter c f)) done
+
+-- THE SENTENCE, layout by layout
+pub what-can-be-sent : WhatCanBeSent
+unfolding corrections.makeCorrections healths.makeHealths positions.makePosition nulls.makeNull texts.makeText frameWith
+what-can-be-sent = record {
+  corrections = λ h es c d typed s.
+      let sent = corrections-sent h es c d typed s in
+      sent-reads-back layout.Correction h
+      (makeOrder layout.Correction h ((eqb c 0 || ltb 18 c, 12) ∷ (anyEntry corrections.outOfRange (take c es), 10) ∷ []))
+      (wordsIn corrections.fill (entryBits corrections.coding (take c es)))
+      (corrections.CorrectionsMade h es c d) sent (s .header) (sent .reads .header) (sent .reads .inside);
+  healths = λ h es c d s.
+      let sent = healths-sent h es c d s in
+      sent-reads-back layout.Health h
+      (makeOrder layout.Health h ((eqb c 0 || ltb 31 c, 12) ∷ (anyEntry healths.outOfRange (take c es), 10) ∷ []))
+      (wordsIn healths.fill (entryBits healths.coding (take c es)))
+      (healths.HealthsMade h es c d) sent (s .header) (sent .reads .header) (sent .reads .inside);
+  position = λ h p typed s.
+      let sent = position-sent h p typed s in
+      sent-reads-back layout.Position h (makeOrder layout.Position h ((positions.outOfRange p, 10) ∷ []))
+      (wordsIn positions.fill (entryBits positions.coding (p ∷ [])))
+      (positions.PositionMade h p) sent (s .header) (sent .reads .header) (sent .reads .inside);
+  null = λ h s.
+      let sent = null-sent h s in
+      sent-reads-back layout.Null h (makeOrder layout.Null h []) [] (nulls.NullMade h) sent s (sent .reads .header) (sent .reads .inside);
+  text = λ h t s.
+      let sent = text-sent h t s in
+      sent-reads-back layout.Text h
+      (makeOrder layout.Text h ((eqb (length t) 0 || ltb 90 (length t), 12) ∷ (anyOf texts.forbidden t, 11) ∷ []))
+      (wordsIn texts.fill (entryBits texts.coding t))
+      (texts.TextMade h t) sent (s .header) (sent .reads .header) (sent .reads .inside);
+}

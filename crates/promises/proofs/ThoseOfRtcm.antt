@@ -1,0 +1,245 @@
+-- Words, bytes, headers, frames and counts are those of the papers: the laws of their crates, in the table's terms. Assumes nothing.
+use mathlib.Core.Path.{_≡_, refl, sym, ap, ap₂, subst, _∙_}
+use mathlib.Core.Bool.{Bool, true, false, cond}
+use mathlib.Core.Logic.{_↔_, _⊎_, inl, inr}
+use mathlib.Core.List.{List, [], _∷_, _++_, map, head-eq-of-cons-eq, tail-eq-of-cons-eq, List·Memᴰ, List·Memᴰ·head, List·Memᴰ·tail, List·Memᴰ·not-nil, List·Memᴰ·cases-cons}
+use Prim.Native.Nat.{ℕ, _+_, _*_, _/_, _^_, _≤_, _<_}
+use native.Mathlib.Omega.{arith}
+use lib.Dec.{ltb, eqb}
+use lib.IntN.{ℤ, pos, negℤ}
+use lib.ListN.{length, take, drop, getD}
+use borrow.Author.Tests.{ltb-false, leb-false, not-false, le-ltb, eqb-true}
+use Rattle.answer.specs.Order.{Says, refuses, answers, Check, inOrder, NoneApplies}
+use Rattle.answer.proofs.OrderLaws.{order-answers, order-told}
+use Rattle.bits.specs.Bits.{bits, number}
+use Rattle.bits.proofs.Numbers.{bits-number, number-lt, length-bits}
+use Rattle.bits.proofs.SignedLaws.{signed-code, code-signed}
+use Rattle.line.specs.Line.{isData, byteOf}
+use Rattle.line.specs.Answer.{sixOf, saysSix}
+use Rattle.line.proofs.LineLaws.{byte-six, six-byte, byte-data, six-says}
+use Rattle.word.specs.Word.{Row, rows, parityBit, d29*, d30*, D, dataOf, received, computed, parity, passes, sent}
+use Rattle.word.specs.Answer.{sentAt, wordOf, saysSent}
+use Rattle.word.proofs.Linearity.{passes-equal, passes-turned, data-turned}
+use Rattle.word.proofs.Sending.{data-number, length-sent, length-dataOf, data-sent, passes-sent, only-sent}
+use Rattle.word.proofs.Computes.{word-answers}
+use Rattle.frame.specs.Header.{preambled, nOf, headerOf, firstWord, secondWord}
+use Rattle.frame.specs.Widths.{stateOutside, headerOutside}
+use Rattle.frame.specs.Answer.{headerWords, saysWords}
+use Rattle.frame.specs.declared.State.{State}
+use Rattle.frame.specs.declared.Header.{Header}
+use Rattle.frame.specs.declared.Frame.{Frame}
+use Rattle.frame.specs.declared.Layout.the-variants as layout
+use Rattle.frame.proofs.HeaderLaws.{length-first, length-second, header-words, n-words, first-preambled, first-header, second-header, header-inside, n-lt, words-answered}
+use Rattle.pack.specs.Coding.{frameBits}
+use Rattle.record.proofs.SatelliteLaws.{satellite-back, code-back}
+use Rattle.record.proofs.ListTrips.{CountRead, count-read}
+use Rattle.record.proofs.TextCode.{length-le, some-words}
+use Rattle.record.specs.Stages.{saysCount}
+use Rattle.record.specs.Corrections as corrections
+use Rattle.record.specs.Corrections.{countCorrections}
+use Rattle.record.specs.Healths as healths
+use Rattle.record.specs.Healths.{countHealths}
+use Rattle.record.specs.Texts.{lengthIn, textOrder, readText}
+use Rattle.record.specs.declared.stage.Count.{Count}
+use Rattle.record.specs.declared.stage.Count.the-variants as count
+use Rattle.value.specs.Values.{Reading, upTo, noLimit, signedValue, hundredthsOf, limits, udreValue}
+use Rattle.value.specs.Answer.{prcMm, rrcMmS, udreLimit, saysDistance, saysRate, saysLimit}
+use Rattle.value.proofs.Readings.{lowest-stops, only-lowest-stops, exact-value}
+use Rattle.value.proofs.LimitLaws.{limit-whole}
+use Rattle.value.proofs.AnswerLaws.{prc-says, rrc-says, udre-says}
+use Rattle.writer.specs.Answer.{saysWritten}
+use Rattle.writer.specs.declared.Carried.{Carried}
+use Rattle.writer.specs.declared.Written.{Written}
+use Rattle.writer.specs.declared.Written.the-variants.{Done, Refused}
+use Rattle.writer.proofs.Wrote.{wrote, writes-back, writes-back-turned}
+use Rattle.writer.proofs.Streams.{stream-written}
+use Rattle.promises.specs.ThoseOfRtcm.{GpsParityRule, FramesOfRtcm, SaysExactly, RecordsOfRtcm}
+use Rattle.promises.proofs.CarriesItsNumber.{says-apart, says-inj, none-told, carries-its-number}
+
+-- ---- the parity rule
+
+-- two maps over a list are equal exactly when they are at each of its elements
+at-each : {A : Type 0} (f g : A → Bool) (xs : List A) → map f xs ≡ map g xs → (x : A) → List·Memᴰ x xs → f x ≡ g x
+at-each f g [] e x m = absurd (List·Memᴰ·not-nil m)
+at-each f g (y ∷ xs) e x m = go (List·Memᴰ·cases-cons m) (at-each f g xs (tail-eq-of-cons-eq e) x)
+  where
+    go : (x ≡ y) ⊎ List·Memᴰ x xs → (List·Memᴰ x xs → f x ≡ g x) → f x ≡ g x
+    go (inl p) later = ap f p ∙ head-eq-of-cons-eq e ∙ ap g (sym p)
+    go (inr n) later = later n
+
+from-each : {A : Type 0} (f g : A → Bool) (xs : List A) → ((x : A) → List·Memᴰ x xs → f x ≡ g x) → map f xs ≡ map g xs
+from-each f g [] h = refl
+from-each f g (y ∷ xs) h = ap₂ _∷_ (h y (List·Memᴰ·head refl)) (from-each f g xs (λ x m. h x (List·Memᴰ·tail m)))
+
+received-rows : (w : List Bool) → received w ≡ map (λ (r : Row). D w (r .0)) rows
+unfolding received
+received-rows w = refl
+
+computed-rows : (w : List Bool) → computed w ≡ map (parityBit (d29* w) (d30* w) (dataOf w)) rows
+unfolding computed parity
+computed-rows w = refl
+
+-- a window begins with its two carried bits
+two : (c : ℕ) (w : List Bool) → bits 2 c ++ w ≡ d29* (bits 2 c) ∷ d30* (bits 2 c) ∷ w
+unfolding bits
+two c w = refl
+
+-- what the encoder says for data that are not refused
+said : (c d : ℕ) → c < 4 → d < 2 ^ 24 → saysSent (wordOf c d) ≡ answers (sentAt c d)
+said c d hc hd =
+    ap saysSent (word-answers c d hc hd)
+    ∙ ap answers (bits-number 30 (sentAt c d) (length-sent (d29* (bits 2 c)) (d30* (bits 2 c)) (bits 24 d)))
+
+sent-back : (c d : ℕ) (w : List Bool) → saysSent (wordOf c d) ≡ answers w → (passes (bits 2 c ++ w) ≡ true) × (dataOf (bits 2 c ++ w) ≡ bits 24 d)
+sent-back c d w e =
+    subst (λ l. (passes l ≡ true) × (dataOf l ≡ bits 24 d)) (sym (ap (λ l. bits 2 c ++ l) is ∙ two c (sentAt c d)))
+    (passes-sent (d29* (bits 2 c)) (d30* (bits 2 c)) (bits 24 d) (length-bits 24 d), data-sent (d29* (bits 2 c)) (d30* (bits 2 c)) (bits 24 d) (length-bits 24 d))
+  where
+    is : w ≡ sentAt c d
+    is =
+        let none = none-told (carries-its-number .word-of c d) w e in
+        says-inj (sym e ∙ said c d (leb-false 4 c (none .0)) (leb-false (2 ^ 24) d (none .1 .0)))
+
+only-said : (w : List Bool) → length w ≡ 32 → passes w ≡ true → saysSent (wordOf (number (take 2 w)) (number (dataOf w))) ≡ answers (drop 2 w)
+only-said [] h p = absurd (omega arith)
+only-said (a ∷ []) h p = absurd (omega arith)
+only-said (a ∷ b ∷ w) h p =
+    said c d (number-lt (a ∷ b ∷ [])) (subst (λ k. number (dataOf (a ∷ b ∷ w)) < 2 ^ k) (length-dataOf (a ∷ b ∷ w)) (number-lt (dataOf (a ∷ b ∷ w))))
+    ∙ ap answers
+    (ap₂ (λ x ds. sent (d29* x) (d30* x) ds) (bits-number 2 (a ∷ b ∷ []) refl) (data-number (a ∷ b ∷ w))
+    ∙ sym (tail-eq-of-cons-eq (tail-eq-of-cons-eq (only-sent (a ∷ b ∷ w) h p))))
+  where
+    c : ℕ
+    c = number (a ∷ b ∷ [])
+
+    d : ℕ
+    d = number (dataOf (a ∷ b ∷ w))
+
+pub gps-parity-rule : GpsParityRule
+gps-parity-rule = record {
+  remainder = λ w. unfold passes in refl;
+  each-row = λ w. (
+    λ p. at-each (λ (r : Row). D w (r .0)) (parityBit (d29* w) (d30* w) (dataOf w)) rows (sym (received-rows w) ∙ passes-equal w .0 p ∙ computed-rows w),
+    λ h. passes-equal w .1 (received-rows w ∙ from-each (λ (r : Row). D w (r .0)) (parityBit (d29* w) (d30* w) (dataOf w)) rows h ∙ sym (computed-rows w)),
+  );
+  sent-passes = sent-back;
+  only-sent = only-said;
+  turned = λ w h. (passes-turned w h, data-turned w h);
+}
+
+-- ---- bytes, headers, frames
+
+written-told : (x : Written) (k : ℕ) (c : Carried) → saysWritten x ≡ answers (k, c) → x ≡ Done k c
+written-told (Done j b) k c e = let same : _≡_ {A = ℕ × Carried} (j, b) (k, c) = says-inj e in ap (λ (v : ℕ × Carried). Done (v .0) (v .1)) same
+written-told (Refused n) k c e = let z : _≡_ {A = ℕ} 0 1 = cc in absurd (omega arith)
+
+-- the data of a header's two words, in the table's terms
+words-said : (h : Header) (n : ℕ) → headerOutside h ≡ false → n ≤ 31 → saysWords (headerWords h n) ≡ answers (firstWord h, secondWord h n)
+words-said h n o l =
+    ap saysWords (words-answered h n o l)
+    ∙ ap₂ (λ x y. answers (x, y)) (bits-number 24 (firstWord h) (length-first h)) (bits-number 24 (secondWord h n) (length-second h n))
+
+header-told : (h : Header) (n : ℕ) (a b : List Bool) → saysWords (headerWords h n) ≡ answers (a, b)
+    → (headerOf a b ≡ h) × (nOf b ≡ n) × (preambled a ≡ true)
+header-told h n a b e =
+    let none = none-told (carries-its-number .header-words h n) (a, b) e in
+    let l = ltb-false 31 n (none .1 .0) in
+    let same : _≡_ {A = List Bool × List Bool} (a, b) (firstWord h, secondWord h n) = says-inj (sym e ∙ words-said h n (none .0) l) in
+    subst (λ (v : List Bool × List Bool). (headerOf (v .0) (v .1) ≡ h) × (nOf (v .1) ≡ n) × (preambled (v .0) ≡ true)) (sym same)
+    (header-words h n (none .0) l, n-words h n (none .0) l, first-preambled h (none .0))
+
+byte-told : (b : ℕ) (ds : List Bool) → saysSix (sixOf b) ≡ answers ds → byteOf ds ≡ b
+byte-told b ds e =
+    let data-byte = not-false (isData b) (none-told (carries-its-number .six-of b) ds e .0) in
+    ap byteOf (says-inj (sym e ∙ six-says b data-byte)) ∙ byte-six b data-byte
+
+pub frames-of-rtcm : FramesOfRtcm
+frames-of-rtcm = record {
+  byte-back = byte-told;
+  six-back = λ ds h. six-says (byteOf ds) (byte-data ds h) ∙ ap answers (six-byte ds h);
+  header-back = header-told;
+  words-back = λ a b la lb p.
+      words-said (headerOf a b) (nOf b) (header-inside a b) (omega (arith, n-lt b))
+      ∙ ap₂ (λ x y. answers (x, y)) (first-header a b la p) (second-header a b lb);
+  written = λ f c buffer k c′ full e. wrote f full c buffer k c′ (written-told _ k c′ e);
+  stream = λ fs buffer g room. stream-written fs g buffer room;
+  written-back = λ d buffer s z room. let t = writes-back-turned d s z buffer room in (writes-back d s z buffer room, t .0, t .1 .0, t .1 .1);
+}
+
+-- ---- records
+
+-- a value that an order says is the one that was ready
+value-told : {A : Type 0} {s : Says A} (cs : List Check) (value v : A) → s ≡ inOrder cs refuses (answers value) → s ≡ answers v → value ≡ v
+value-told cs value v is e = says-inj (order-told refuses (answers value) (answers v) (λ n. says-apart n v) cs (sym is ∙ e) .1)
+
+says-exactly : (h small large : ℕ) (says : ℕ → ℤ → Says Reading)
+    → ((scale : ℕ) (z : ℤ) → says scale z ≡ inOrder ((ltb 1 scale, 10) ∷ []) refuses (answers (signedValue h small large scale z)))
+    → SaysExactly h small large says
+says-exactly h small large says is = record {
+  stops = λ scale l.
+      is scale (negℤ (pos (2 ^ h))) ∙ order-answers refuses _ ((ltb 1 scale, 10) ∷ []) (le-ltb 1 scale l, tt) ∙ ap answers (lowest-stops h small large scale);
+  only = λ scale z e. only-lowest-stops h small large scale z (value-told ((ltb 1 scale, 10) ∷ []) _ _ (is scale z) e);
+  exact = λ scale z v l e. exact-value h small large scale z v l (value-told ((ltb 1 scale, 10) ∷ []) _ _ (is scale z) e);
+}
+
+udre-exact : (s : State) (code mm : ℕ) → saysLimit (udreLimit s code) ≡ answers (upTo mm) → mm * 100 ≡ getD limits code 0 * hundredthsOf s
+unfolding udreValue
+udre-exact s code mm e =
+    go (eqb code 3) (value-told ((stateOutside s, 5) ∷ (ltb 3 code, 10) ∷ []) (udreValue s code) (upTo mm) (udre-says s code) e)
+  where
+    go : (t : Bool) → cond t noLimit (upTo (getD limits code 0 * hundredthsOf s / 100)) ≡ upTo mm → mm * 100 ≡ getD limits code 0 * hundredthsOf s
+    go true q = let z : _≡_ {A = ℕ} 0 1 = cc in absurd (omega arith)
+    go false q = let same : getD limits code 0 * hundredthsOf s / 100 ≡ mm = cc in ap (λ n. n * 100) (sym same) ∙ limit-whole code (hundredthsOf s)
+
+count-told : (x : Count) (c : ℕ) → saysCount x ≡ answers c → x ≡ count.Of c
+count-told (count.Of b) c e = ap count.Of (says-inj e)
+count-told (count.Refused n) c e = absurd (says-apart n c e)
+
+corrections-fit : (f : Frame) (c k : ℕ) → saysCount (countCorrections f) ≡ answers c
+    → ((c ≡ 3 * k) ↔ (f .n ≡ 5 * k)) × ((c ≡ 3 * k + 1) ↔ (f .n ≡ 5 * k + 2)) × ((c ≡ 3 * k + 2) ↔ (f .n ≡ 5 * k + 4))
+unfolding countCorrections
+corrections-fit f c k e = by (f .n) (r .held) (r .up)
+  where
+    r : CountRead layout.Correction corrections.coding f c
+    r = count-read layout.Correction corrections.coding f c (count-told (countCorrections f) c e)
+
+    by : (n : ℕ) → 24 * n / 40 ≡ c → (c * 40 + 23) / 24 ≡ n
+        → ((c ≡ 3 * k) ↔ (n ≡ 5 * k)) × ((c ≡ 3 * k + 1) ↔ (n ≡ 5 * k + 2)) × ((c ≡ 3 * k + 2) ↔ (n ≡ 5 * k + 4))
+    by n held up = ((λ x. omega arith, λ y. omega arith), (λ x. omega arith, λ y. omega arith), (λ x. omega arith, λ y. omega arith))
+
+healths-fit : (f : Frame) (c : ℕ) → saysCount (countHealths f) ≡ answers c → f .n ≡ c
+unfolding countHealths
+healths-fit f c e = let r = count-read layout.Health healths.coding f c (count-told (countHealths f) c e) in by (f .n) (r .up)
+  where
+    by : (n : ℕ) → (c * 24 + 23) / 24 ≡ n → n ≡ c
+    by n up = omega arith
+
+text-fit : (f : Frame) (buffer : List ℕ) (c : ℕ) → saysCount (readText f buffer) ≡ answers c
+    → (1 ≤ f .n) × (f .n ≤ 30) × (c ≤ 3 * f .n) × (3 * f .n ≤ c + 2)
+unfolding readText
+text-fit f buffer c e =
+    let some = some-words (f .n) (none .1 .1 .1 .0) in
+    let long = length-le (3 * f .n) (frameBits f) in
+    (some .0, some .1, omega (arith, long .0, is), omega (arith, long .1, is))
+  where
+    none : NoneApplies (textOrder f buffer)
+    none = none-told (carries-its-number .read-text f buffer) c e
+
+    is : lengthIn f ≡ c
+    is = says-inj (ap saysCount (sym (order-answers count.Refused (count.Of (lengthIn f)) (textOrder f buffer) none)) ∙ e)
+
+pub records-of-rtcm : RecordsOfRtcm
+records-of-rtcm = record {
+  signed-back = signed-code;
+  code-back = code-signed;
+  satellite-back = satellite-back;
+  satellite-code = code-back;
+  corrections-n = corrections-fit;
+  healths-n = healths-fit;
+  position-n = λ f p e. eqb-true (f .n) 4 (not-false (eqb (f .n) 4) (none-told (carries-its-number .read-position f) p e .1 .1 .1 .0));
+  null-n = λ f e. eqb-true (f .n) 0 (not-false (eqb (f .n) 0) (none-told (carries-its-number .read-null f) tt e .1 .1 .1 .0));
+  text-n = text-fit;
+  prc = says-exactly 15 20 320 (λ scale z. saysDistance (prcMm scale z)) prc-says;
+  rrc = says-exactly 7 2 32 (λ scale z. saysRate (rrcMmS scale z)) rrc-says;
+  udre = udre-exact;
+}

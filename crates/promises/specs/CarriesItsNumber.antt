@@ -1,0 +1,119 @@
+-- DEMAND 1, "A refusal carries its number from the table": each call refuses exactly when a number of its order applies, and with the first that does
+-- (RULES 11). What a call says is its answer in the table's terms. Assumes nothing.
+use mathlib.Core.Path.{_≡_}
+use mathlib.Core.Bool.{false, not, _||_}
+use mathlib.Core.List.{List, [], _∷_, _++_, map}
+use Prim.Native.Nat.{ℕ, _^_}
+use lib.IntN.{ℤ}
+use lib.Dec.{ltb, leb, eqb}
+use lib.ListN.{length, take}
+use Rattle.answer.specs.Order.{Says, refuses, answers, Check, NoneApplies, FirstIs}
+use Rattle.line.specs.Line.{isData}
+use Rattle.line.specs.Answer.{sixOf, saysSix}
+use Rattle.word.specs.Answer.{wordOf, saysSent}
+use Rattle.frame.specs.Widths.{anyOf, stateOutside, headerOutside, outside, late}
+use Rattle.frame.specs.Answer.{healthOf, headerWords, headerWidths, frameWidths, clockOf, saysHealth, saysWords, saysWidths, saysClock}
+use Rattle.frame.specs.declared.State.{State}
+use Rattle.frame.specs.declared.Header.{Header}
+use Rattle.frame.specs.declared.Frame.{Frame}
+use Rattle.frame.specs.declared.Layout.{Layout}
+use Rattle.frame.specs.declared.Layout.the-variants as layout
+use Rattle.reader.specs.Reading.{past, busy, fedBy, fedAllBy, endedBy, takenBy, saysAnswer}
+use Rattle.reader.specs.declared.Reader.{Reader}
+use Rattle.writer.specs.Answer.{openChecks, openedBy, writeChecks, writtenBy, saysOpened, saysWritten}
+use Rattle.writer.specs.declared.Carried.{Carried}
+use Rattle.journal.specs.Journal.{keepOrder, keptBy, recallOrder, recalledBy, saysKept, saysRecalled}
+use Rattle.pack.specs.Coding.{anyEntry}
+use Rattle.record.specs.Stages.{otherLayout, countIn, misfit, wrongSize, askedOf, readOrder, makeOrder, saysAsked, saysCount, saysMade}
+use Rattle.record.specs.Corrections as corrections
+use Rattle.record.specs.Healths as healths
+use Rattle.record.specs.Positions as positions
+use Rattle.record.specs.Nulls as nulls
+use Rattle.record.specs.Texts as texts
+use Rattle.record.specs.declared.correction.Correction.{Correction}
+use Rattle.record.specs.declared.health.SatelliteHealth.{SatelliteHealth}
+use Rattle.record.specs.declared.position.Position.{Position}
+use Rattle.value.specs.Answer.{prcMm, rrcMmS, udreLimit, cn0DbHz, minutesOf, zTenths, saysDistance, saysRate, saysLimit, saysStrength, saysTime, saysSinceHour}
+use Rattle.listing.specs.Listing.{pieceOrder, pieceBy, endOrder, finishBy}
+use Rattle.listing.specs.declared.Listing.{Listing}
+
+-- the numbers of checks, in their order
+abbrev pub numbersOf : List Check → List ℕ
+numbersOf cs = map (λ (c : Check). c .1) cs
+
+-- THE ORDER: the checks have these numbers of the table, which has 1 to 16. Where none applies the call answers; it refuses with n exactly when the
+-- first check that applies has the number n.
+pub record Ordered {A : Type 0} (numbers : List ℕ) (checks : List Check) (s : Says A) : Type 0 where
+  pub numbered : numbersOf checks ≡ numbers
+  pub table : anyOf (λ n. ltb n 1 || ltb 16 n) numbers ≡ false
+  pub answered : NoneApplies checks → (value : A) × (s ≡ answers value)
+  pub refused : (n : ℕ) → FirstIs checks n → s ≡ refuses n
+  pub only : (n : ℕ) → s ≡ refuses n → FirstIs checks n
+
+-- every public function that can refuse; where a number stands twice, two conditions have it
+pub record CarriesItsNumber : Type 0 where
+  -- feeding: 5, 3, 2, 1; ending: 5, 3, 2; taking: 5, 4
+  pub feed : (r : Reader) (b : ℕ) → Ordered (5 ∷ 3 ∷ 2 ∷ 1 ∷ []) (busy r ++ ((not (isData b), 1) ∷ [])) (saysAnswer (fedBy r b .answer))
+  pub feed-all : (r : Reader) (bs : List ℕ) → Ordered (5 ∷ 3 ∷ 2 ∷ []) (busy r) (saysAnswer (fedAllBy r bs .answer))
+  pub reader-end : (r : Reader) → Ordered (5 ∷ 3 ∷ 2 ∷ []) (busy r) (saysAnswer (endedBy r .answer))
+  pub reader-take : (r : Reader) → Ordered (5 ∷ 4 ∷ []) ((past r, 5) ∷ (not (r .candidate .waits), 4) ∷ []) (saysAnswer (takenBy r .answer))
+  -- reading a record: 5, 6, 7, 8, then 9 or 10; text 11 before 13
+  pub count-corrections : (f : Frame)
+      → Ordered (5 ∷ 6 ∷ 7 ∷ 8 ∷ []) (readOrder layout.Correction f (misfit 40 (f .n)) []) (saysCount (corrections.countCorrections f))
+  pub correction-at : (f : Frame) (i : ℕ)
+      → Ordered (5 ∷ 6 ∷ 7 ∷ 8 ∷ 9 ∷ []) (readOrder layout.Correction f (misfit 40 (f .n)) ((leb (countIn 40 (f .n)) i, 9) ∷ []))
+      (corrections.saysCorrectionRead (corrections.correctionAt f i))
+  pub count-healths : (f : Frame)
+      → Ordered (5 ∷ 6 ∷ 7 ∷ 8 ∷ []) (readOrder layout.Health f (misfit 24 (f .n)) []) (saysCount (healths.countHealths f))
+  pub health-at : (f : Frame) (i : ℕ)
+      → Ordered (5 ∷ 6 ∷ 7 ∷ 8 ∷ 9 ∷ []) (readOrder layout.Health f (misfit 24 (f .n)) ((leb (countIn 24 (f .n)) i, 9) ∷ []))
+      (healths.saysHealthRead (healths.healthAt f i))
+  pub read-position : (f : Frame)
+      → Ordered (5 ∷ 6 ∷ 7 ∷ 8 ∷ 10 ∷ [])
+      (readOrder layout.Position f (wrongSize 4 (f .n)) ((positions.outOfRange (positions.positionIn f), 10) ∷ []))
+      (positions.saysPositionRead (positions.readPosition f))
+  pub read-null : (f : Frame)
+      → Ordered (5 ∷ 6 ∷ 7 ∷ 8 ∷ []) (readOrder layout.Null f (wrongSize 0 (f .n)) []) (nulls.saysNullRead (nulls.readNull f))
+  pub read-text : (f : Frame) (buffer : List ℕ)
+      → Ordered (5 ∷ 6 ∷ 7 ∷ 8 ∷ 11 ∷ 13 ∷ []) (texts.textOrder f buffer) (saysCount (texts.readText f buffer))
+  -- making a frame: 5, 6, 7, 12, then 10 or 11
+  pub make-corrections : (h : Header) (es : List Correction) (c : ℕ)
+      → Ordered (5 ∷ 6 ∷ 7 ∷ 12 ∷ 10 ∷ [])
+      (makeOrder layout.Correction h ((eqb c 0 || ltb 18 c, 12) ∷ (anyEntry corrections.outOfRange (take c es), 10) ∷ []))
+      (saysMade (corrections.makeCorrections h es c))
+  pub make-healths : (h : Header) (es : List SatelliteHealth) (c : ℕ)
+      → Ordered (5 ∷ 6 ∷ 7 ∷ 12 ∷ 10 ∷ [])
+      (makeOrder layout.Health h ((eqb c 0 || ltb 31 c, 12) ∷ (anyEntry healths.outOfRange (take c es), 10) ∷ []))
+      (saysMade (healths.makeHealths h es c))
+  pub make-position : (h : Header) (p : Position)
+      → Ordered (5 ∷ 6 ∷ 7 ∷ 10 ∷ []) (makeOrder layout.Position h ((positions.outOfRange p, 10) ∷ [])) (saysMade (positions.makePosition h p))
+  pub make-null : (h : Header) → Ordered (5 ∷ 6 ∷ 7 ∷ []) (makeOrder layout.Null h []) (saysMade (nulls.makeNull h))
+  pub make-text : (h : Header) (t : List ℕ)
+      → Ordered (5 ∷ 6 ∷ 7 ∷ 12 ∷ 11 ∷ [])
+      (makeOrder layout.Text h ((eqb (length t) 0 || ltb 90 (length t), 12) ∷ (anyOf texts.forbidden t, 11) ∷ [])) (saysMade (texts.makeText h t))
+  -- writing a frame: 5, 7, 13; bad carried bits are 5 too; opening a stream: 13
+  pub write : (f : Frame) (c : Carried) (buffer : List ℕ)
+      → Ordered (5 ∷ 5 ∷ 5 ∷ 7 ∷ 13 ∷ []) (writeChecks f c buffer) (saysWritten (writtenBy f c buffer))
+  pub writer-open : (buffer : List ℕ) → Ordered (13 ∷ []) (openChecks buffer) (saysOpened (openedBy buffer))
+  -- writing to the journal: 5, 13; reading from it: 14; 15 if the N byte is missing; 16 for N over 31; 15 for the rest; 16
+  pub keep : (f : Frame) (buffer : List ℕ) → Ordered (5 ∷ 13 ∷ []) (keepOrder f buffer) (saysKept (keptBy f buffer))
+  pub recall : (bs : List ℕ) → Ordered (14 ∷ 15 ∷ 16 ∷ 15 ∷ 16 ∷ 16 ∷ []) (recallOrder bs) (saysRecalled (recalledBy bs))
+  -- the parts: a byte, a word, a header, a frame, a layout asked for
+  pub six-of : (b : ℕ) → Ordered (1 ∷ []) ((not (isData b), 1) ∷ []) (saysSix (sixOf b))
+  pub word-of : (c d : ℕ) → Ordered (5 ∷ 5 ∷ []) ((leb 4 c, 5) ∷ (leb (2 ^ 24) d, 5) ∷ []) (saysSent (wordOf c d))
+  pub health-of : (s : State) → Ordered (5 ∷ []) ((stateOutside s, 5) ∷ []) (saysHealth (healthOf s))
+  pub header-words : (h : Header) (n : ℕ) → Ordered (5 ∷ 5 ∷ []) ((headerOutside h, 5) ∷ (ltb 31 n, 5) ∷ []) (saysWords (headerWords h n))
+  pub header-widths : (h : Header) → Ordered (5 ∷ []) ((headerOutside h, 5) ∷ []) (saysWidths (headerWidths h))
+  pub frame-widths : (f : Frame) → Ordered (5 ∷ []) ((outside f, 5) ∷ []) (saysWidths (frameWidths f))
+  pub clock-of : (z : ℕ) → Ordered (7 ∷ []) ((late z, 7) ∷ []) (saysClock (clockOf z))
+  pub asked-of : (l : Layout) (kind : ℕ) → Ordered (6 ∷ []) ((otherLayout l kind, 6) ∷ []) (saysAsked (askedOf l kind))
+  -- the values of a record's numbers
+  pub prc-mm : (scale : ℕ) (prc : ℤ) → Ordered (10 ∷ []) ((ltb 1 scale, 10) ∷ []) (saysDistance (prcMm scale prc))
+  pub rrc-mm-s : (scale : ℕ) (rrc : ℤ) → Ordered (10 ∷ []) ((ltb 1 scale, 10) ∷ []) (saysRate (rrcMmS scale rrc))
+  pub udre-limit : (s : State) (udre : ℕ) → Ordered (5 ∷ 10 ∷ []) ((stateOutside s, 5) ∷ (ltb 3 udre, 10) ∷ []) (saysLimit (udreLimit s udre))
+  pub cn0-dbhz : (code : ℕ) → Ordered (10 ∷ []) ((ltb 31 code, 10) ∷ []) (saysStrength (cn0DbHz code))
+  pub value-minutes : (code : ℕ) → Ordered (10 ∷ []) ((ltb 15 code, 10) ∷ []) (saysTime (minutesOf code))
+  pub z-tenths : (z : ℕ) → Ordered (5 ∷ 7 ∷ []) ((ltb 8191 z, 5) ∷ (late z, 7) ∷ []) (saysSinceHour (zTenths z))
+  -- the listing
+  pub list-piece : (l : Listing) (bs : List ℕ) (room : ℕ) → Ordered (5 ∷ 3 ∷ 13 ∷ []) (pieceOrder l room) (saysAnswer (pieceBy l bs room .answer))
+  pub finish : (l : Listing) (room : ℕ) → Ordered (5 ∷ 3 ∷ 2 ∷ 13 ∷ []) (endOrder l room) (saysAnswer (finishBy l room .answer))

@@ -1,0 +1,80 @@
+-- DEMAND 1, "A refusal .. changes neither state nor buffer": each call that is given a state or lent a buffer (RULES 10). What a call says is its
+-- answer in the table's terms. Assumes nothing.
+use mathlib.Core.Path.{_≡_}
+use mathlib.Core.List.{List}
+use Prim.Native.Nat.{ℕ}
+use lib.ListN.{length, drop}
+use Rattle.answer.specs.Order.{Says, refuses, answers}
+use Rattle.frame.specs.Frames.{blank}
+use Rattle.frame.specs.declared.Header.{Header}
+use Rattle.frame.specs.declared.Frame.{Frame}
+use Rattle.reader.specs.Reading.{fedBy, fedAllBy, endedBy, takenBy, saysAnswer}
+use Rattle.reader.specs.declared.Reader.{Reader}
+use Rattle.writer.specs.Answer.{openedBy, openedTo, writtenBy, writtenTo, saysOpened, saysWritten}
+use Rattle.writer.specs.declared.Carried.{Carried}
+use Rattle.journal.specs.Journal.{keptBy, heldBy, recalledBy, saysKept, saysRecalled}
+use Rattle.record.specs.Stages.{saysCount, saysMade}
+use Rattle.record.specs.Corrections.{makeCorrections}
+use Rattle.record.specs.Healths.{makeHealths}
+use Rattle.record.specs.Positions.{makePosition}
+use Rattle.record.specs.Nulls.{makeNull}
+use Rattle.record.specs.Texts.{readText, bufferAfter, makeText}
+use Rattle.record.specs.declared.correction.Correction.{Correction}
+use Rattle.record.specs.declared.health.SatelliteHealth.{SatelliteHealth}
+use Rattle.record.specs.declared.position.Position.{Position}
+use Rattle.listing.specs.Listing.{pieceBy, pieceText, finishBy, finishText}
+use Rattle.listing.specs.declared.Listing.{Listing}
+
+-- where the call refuses, what it leaves is what was there
+abbrev pub Keeps : {A B : Type 0} → Says A → B → B → Type 0
+Keeps s left was = (n : ℕ) → s ≡ refuses n → left ≡ was
+
+pub record ChangesNeither : Type 0 where
+  pub feed : (r : Reader) (b : ℕ) → Keeps (saysAnswer (fedBy r b .answer)) (fedBy r b .reader) r
+  pub feed-all : (r : Reader) (bs : List ℕ) → Keeps (saysAnswer (fedAllBy r bs .answer)) (fedAllBy r bs .reader) r
+  pub reader-end : (r : Reader) → Keeps (saysAnswer (endedBy r .answer)) (endedBy r .reader) r
+  pub reader-take : (r : Reader) → Keeps (saysAnswer (takenBy r .answer)) (takenBy r .reader) r
+  pub writer-open : (buffer : List ℕ) → Keeps (saysOpened (openedBy buffer)) (openedTo buffer) buffer
+  pub write : (f : Frame) (c : Carried) (buffer : List ℕ) → Keeps (saysWritten (writtenBy f c buffer)) (writtenTo f c buffer) buffer
+  pub keep : (f : Frame) (buffer : List ℕ) → Keeps (saysKept (keptBy f buffer)) (heldBy f buffer) buffer
+  pub read-text : (f : Frame) (buffer : List ℕ) → Keeps (saysCount (readText f buffer)) (bufferAfter f buffer) buffer
+  pub list-piece : (l : Listing) (bs : List ℕ) (room : ℕ) → Keeps (saysAnswer (pieceBy l bs room .answer)) (pieceBy l bs room .listing) l
+  pub list-piece-output : (l : Listing) (bs out : List ℕ) → Keeps (saysAnswer (pieceBy l bs (length out) .answer)) (pieceText l bs out) out
+  pub finish : (l : Listing) (room : ℕ) → Keeps (saysAnswer (finishBy l room .answer)) (finishBy l room .listing) l
+  pub finish-output : (l : Listing) (out : List ℕ) → Keeps (saysAnswer (finishBy l (length out) .answer)) (finishText l out) out
+
+-- "A refusal returns its number alone": what else its answer has room for is zeros and a blank frame
+pub record NumberAlone : Type 0 where
+  pub feed-all : (r : Reader) (bs : List ℕ) → Keeps {B = ℕ × ℕ} (saysAnswer (fedAllBy r bs .answer)) (fedAllBy r bs .used, fedAllBy r bs .passed) (0, 0)
+  pub reader-take : (r : Reader) → Keeps {B = ℕ × Frame} (saysAnswer (takenBy r .answer)) (takenBy r .at, takenBy r .frame) (0, blank)
+  pub recall : (bs : List ℕ) → Keeps (saysRecalled (recalledBy bs)) (recalledBy bs .frame) blank
+  pub make-corrections : (h : Header) (es : List Correction) (c : ℕ) → Keeps (saysMade (makeCorrections h es c)) (makeCorrections h es c .frame) blank
+  pub make-healths : (h : Header) (es : List SatelliteHealth) (c : ℕ) → Keeps (saysMade (makeHealths h es c)) (makeHealths h es c .frame) blank
+  pub make-position : (h : Header) (p : Position) → Keeps (saysMade (makePosition h p)) (makePosition h p .frame) blank
+  pub make-null : (h : Header) → Keeps (saysMade (makeNull h)) (makeNull h .frame) blank
+  pub make-text : (h : Header) (t : List ℕ) → Keeps (saysMade (makeText h t)) (makeText h t .frame) blank
+  pub list-piece : (l : Listing) (bs : List ℕ) (room : ℕ)
+      → Keeps {B = ℕ × ℕ} (saysAnswer (pieceBy l bs room .answer)) (pieceBy l bs room .used, pieceBy l bs room .written) (0, 0)
+  pub finish : (l : Listing) (room : ℕ)
+      → Keeps {B = ℕ × ℕ} (saysAnswer (finishBy l room .answer)) (finishBy l room .used, finishBy l room .written) (0, 0)
+
+-- ---- where the call answers
+
+-- the buffer is as it was but for its first k bytes
+pub record OnlyFirst (k : ℕ) (left was : List ℕ) : Type 0 where
+  pub long : length left ≡ length was
+  pub rest : drop k left ≡ drop k was
+
+abbrev pub Owns : {A : Type 0} → Says A → (A → ℕ) → List ℕ → List ℕ → Type 0
+Owns {A} s own left was = (value : A) → s ≡ answers value → OnlyFirst (own value) left was
+
+-- "Text reading writes only its characters, the writers only their bytes": as many as they answer; a value of the type Frame has 31 words
+pub record OnlyItsBytes : Type 0 where
+  pub writer-open : (buffer : List ℕ) → Owns (saysOpened (openedBy buffer)) (λ v. 1) (openedTo buffer) buffer
+  pub write : (f : Frame) (c : Carried) (buffer : List ℕ) → Owns (saysWritten (writtenBy f c buffer)) (λ v. v .0) (writtenTo f c buffer) buffer
+  pub keep : (f : Frame) (buffer : List ℕ) → length (f .words) ≡ 31 → Owns (saysKept (keptBy f buffer)) (λ v. v) (heldBy f buffer) buffer
+  pub read-text : (f : Frame) (buffer : List ℕ) → Owns (saysCount (readText f buffer)) (λ v. v) (bufferAfter f buffer) buffer
+  pub list-piece : (l : Listing) (bs out : List ℕ)
+      → Owns (saysAnswer (pieceBy l bs (length out) .answer)) (λ v. pieceBy l bs (length out) .written) (pieceText l bs out) out
+  pub finish : (l : Listing) (out : List ℕ)
+      → Owns (saysAnswer (finishBy l (length out) .answer)) (λ v. finishBy l (length out) .written) (finishText l out) out

@@ -1,0 +1,105 @@
+-- DEMAND 2, "Frames, parity and records are those of RTCM 10402 and the GPS parity rule as our papers condense them": what is answered for a word, a
+-- byte, a header, a frame and a count, held against RULES 2 to 8. Assumes nothing.
+use mathlib.Core.Path.{_≡_}
+use mathlib.Core.Logic.{_↔_}
+use mathlib.Core.Bool.{Bool, true, false, not}
+use mathlib.Core.List.{List, _++_, map, List·Memᴰ}
+use Prim.Native.Nat.{ℕ, suc, _+_, _-_, _*_, _^_, _≤_, _<_}
+use lib.IntN.{ℤ, pos, negℤ, natAbs, _*ℤ_}
+use lib.Signed.{mag}
+use lib.Dec.{eqb}
+use lib.ListN.{length, take, drop, getD}
+use Rattle.answer.specs.Order.{Says, answers}
+use Rattle.bits.specs.Bits.{bits, number}
+use Rattle.bits.specs.Signed.{signed, code}
+use Rattle.line.specs.Line.{byteOf}
+use Rattle.line.specs.Answer.{sixOf, saysSix}
+use Rattle.word.specs.Word.{Row, rows, parityBit, d29*, d30*, D, dataOf, remainderOf, passes}
+use Rattle.word.specs.Answer.{wordOf, saysSent}
+use Rattle.frame.specs.Header.{preambled, nOf, headerOf}
+use Rattle.frame.specs.Widths.{late}
+use Rattle.frame.specs.Answer.{headerWords, saysWords}
+use Rattle.frame.specs.declared.State.{State}
+use Rattle.frame.specs.declared.Header.{Header}
+use Rattle.frame.specs.declared.Frame.{Frame}
+use Rattle.stream.specs.Standing.{size, Stands, frameAt}
+use Rattle.record.specs.Stages.{saysCount}
+use Rattle.record.specs.Corrections.{countCorrections}
+use Rattle.record.specs.Healths.{countHealths}
+use Rattle.record.specs.Positions.{readPosition, saysPositionRead}
+use Rattle.record.specs.Nulls.{readNull, saysNullRead}
+use Rattle.record.specs.Texts.{readText}
+use Rattle.record.specs.declared.position.Position.{Position}
+use Rattle.record.specs.Satellites.{satelliteOf, satelliteCode}
+use Rattle.value.specs.Values.{Reading, exactly, stop, upTo, stepOf, hundredthsOf, limits}
+use Rattle.value.specs.Answer.{prcMm, rrcMmS, udreLimit, saysDistance, saysRate, saysLimit}
+use Rattle.writer.specs.Answer.{writtenBy, saysWritten}
+use Rattle.writer.specs.OneFrame.{Wrote, itsBits, WritesBack}
+use Rattle.writer.specs.Streams.{AllWritable, streamBytes, StreamWritten}
+use Rattle.writer.specs.declared.Carried.{Carried}
+
+-- "the GPS parity rule". A window is a word with the two bits before it.
+pub record GpsParityRule : Type 0 where
+  -- the remainder of a window is zero where the word passes
+  pub remainder : (w : ℕ) → eqb (number (remainderOf (bits 32 w))) 0 ≡ passes (bits 32 w)
+  -- it passes exactly when each parity bit is that of its row of the table: "one exactly when an odd number of its terms are ones"
+  pub each-row : (w : List Bool) → (passes w ≡ true) ↔ ((r : Row) → List·Memᴰ r rows → D w (r .0) ≡ parityBit (d29* w) (d30* w) (dataOf w) r)
+  -- the word answered for data passes after its carried bits, and gives the data back
+  pub sent-passes : (c d : ℕ) (w : List Bool) → saysSent (wordOf c d) ≡ answers w
+      → (passes (bits 2 c ++ w) ≡ true) × (dataOf (bits 2 c ++ w) ≡ bits 24 d)
+  -- and no other word passes: one that does is what is answered for its data
+  pub only-sent : (w : List Bool) → length w ≡ 32 → passes w ≡ true
+      → saysSent (wordOf (number (take 2 w)) (number (dataOf w))) ≡ answers (drop 2 w)
+  -- turned over, it passes or fails alike and has the same data
+  pub turned : (w : List Bool) → length w ≡ 32 → (passes (map not w) ≡ passes w) × (dataOf (map not w) ≡ dataOf w)
+
+-- "Frames .. are those of RTCM 10402"
+pub record FramesOfRtcm : Type 0 where
+  -- a byte and its six bits
+  pub byte-back : (b : ℕ) (ds : List Bool) → saysSix (sixOf b) ≡ answers ds → byteOf ds ≡ b
+  pub six-back : (ds : List Bool) → length ds ≡ 6 → saysSix (sixOf (byteOf ds)) ≡ answers ds
+  -- a header with N, and the data of its two words
+  pub header-back : (h : Header) (n : ℕ) (a b : List Bool) → saysWords (headerWords h n) ≡ answers (a, b)
+      → (headerOf a b ≡ h) × (nOf b ≡ n) × (preambled a ≡ true)
+  pub words-back : (a b : List Bool) → length a ≡ 24 → length b ≡ 24 → preambled a ≡ true
+      → saysWords (headerWords (headerOf a b) (nOf b)) ≡ answers (a, b)
+  -- what is written after any two carried bits stands, and is that frame
+  pub written : (f : Frame) (c : Carried) (buffer : List ℕ) (k : ℕ) (c′ : Carried) → length (f .words) ≡ 31
+      → saysWritten (writtenBy f c buffer) ≡ answers (k, c′) → Wrote f c buffer k c′
+  -- a stream of `open` and any frames back to back has each of them standing at its place, and no other
+  pub stream : (fs : List Frame) (buffer : List ℕ) → AllWritable fs → streamBytes fs ≤ length buffer → StreamWritten fs buffer
+  -- a frame that stands, written after its own two bits, gives its own bits; in the other polarity it is the same frame and its bits are turned over
+  pub written-back : (d : List Bool) (buffer : List ℕ) → Stands d → late (frameAt d .header .z) ≡ false → 5 * size d ≤ length buffer
+      → WritesBack d buffer × WritesBack (map not d) buffer
+      × (frameAt (map not d) ≡ frameAt d) × (itsBits (map not d) ≡ map not (itsBits d))
+
+-- PRC or RRC, what is said of its number z, in two's complement of h + 1 bits: the lowest means stop and no other does; any other is exact, the number
+-- times its step, at most 2^h - 1 steps to either side
+pub record SaysExactly (h small large : ℕ) (says : ℕ → ℤ → Says Reading) : Type 0 where
+  pub stops : (scale : ℕ) → scale ≤ 1 → says scale (negℤ (pos (2 ^ h))) ≡ answers stop
+  pub only : (scale : ℕ) (z : ℤ) → says scale z ≡ answers stop → z ≡ negℤ (pos (2 ^ h))
+  pub exact : (scale : ℕ) (z v : ℤ) → mag z < 2 ^ h → says scale z ≡ answers (exactly v)
+      → (v ≡ z *ℤ pos (stepOf small large scale)) × (natAbs v ≤ (2 ^ h - 1) * stepOf small large scale)
+
+-- ".. and records": what their numbers mean, and how many satellites N words hold
+pub record RecordsOfRtcm : Type 0 where
+  -- two's complement, over the width
+  pub signed-back : (h : ℕ) (z : ℤ) → mag z < 2 ^ h → signed h (code h z) ≡ z
+  pub code-back : (h n : ℕ) → n < 2 ^ suc h → code h (signed h n) ≡ n
+  -- "satellite 5 (0 means 32)"
+  pub satellite-back : (s : ℕ) → 0 < s → s ≤ 32 → satelliteOf (satelliteCode s) ≡ s
+  pub satellite-code : (n : ℕ) → n < 32 → satelliteCode (satelliteOf n) ≡ n
+  -- "N = 5k, 5k+2, 5k+4 for 3k, 3k+1, 3k+2 satellites": every count is one of these, so N is
+  pub corrections-n : (f : Frame) (c k : ℕ) → saysCount (countCorrections f) ≡ answers c
+      → ((c ≡ 3 * k) ↔ (f .n ≡ 5 * k)) × ((c ≡ 3 * k + 1) ↔ (f .n ≡ 5 * k + 2)) × ((c ≡ 3 * k + 2) ↔ (f .n ≡ 5 * k + 4))
+  -- type 5 has one word per satellite, type 3 has N = 4, type 6 N = 0, type 16 N 1 to 30 with three characters a word, the last one or two fill
+  pub healths-n : (f : Frame) (c : ℕ) → saysCount (countHealths f) ≡ answers c → f .n ≡ c
+  pub position-n : (f : Frame) (p : Position) → saysPositionRead (readPosition f) ≡ answers p → f .n ≡ 4
+  pub null-n : (f : Frame) → saysNullRead (readNull f) ≡ answers tt → f .n ≡ 0
+  pub text-n : (f : Frame) (buffer : List ℕ) (c : ℕ) → saysCount (readText f buffer) ≡ answers c
+      → (1 ≤ f .n) × (f .n ≤ 30) × (c ≤ 3 * f .n) × (3 * f .n ≤ c + 2)
+  -- "steps 20 mm or 320 mm", "steps 2 or 32 mm/s"
+  pub prc : SaysExactly 15 20 320 (λ scale z. saysDistance (prcMm scale z))
+  pub rrc : SaysExactly 7 2 32 (λ scale z. saysRate (rrcMmS scale z))
+  -- a UDRE's limit "times the factor", held in hundredths, is a whole number of mm
+  pub udre : (s : State) (code mm : ℕ) → saysLimit (udreLimit s code) ≡ answers (upTo mm) → mm * 100 ≡ getD limits code 0 * hundredthsOf s
