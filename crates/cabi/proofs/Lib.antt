@@ -1,0 +1,17 @@
+pub mod AnswerLaws
+pub mod HeadLaws
+pub mod HealthLaws
+pub mod KeepLaws
+pub mod LineCarried
+pub mod LineLaws
+pub mod LineTaking
+pub mod ListTrips
+pub mod MakeOrders
+pub mod NumberLaws
+pub mod PositionLaws
+pub mod ReadOrders
+pub mod RecallLaws
+pub mod RowLaws
+pub mod SendLaws
+pub mod TextLaws
+pub mod WordLaws

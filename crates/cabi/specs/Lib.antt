@@ -1,0 +1,12 @@
+pub mod Answer
+pub mod Header
+pub mod Frames
+pub mod Line
+pub mod Send
+pub mod Positions
+pub mod Nulls
+pub mod Texts
+pub mod Values
+pub mod Rows
+pub mod Corrections
+pub mod Healths

@@ -1,0 +1,12 @@
+// The line package as a library for C and Rust: each exported function answers 0 or the refusal's number.
+pub mod correction;
+pub mod frames;
+mod header;
+pub mod health;
+pub mod line;
+pub mod null;
+pub mod position;
+mod rows;
+pub mod send;
+pub mod text;
+pub mod values;

@@ -1,0 +1,4 @@
+pub mod RowLaws
+pub mod CorrectionRows
+pub mod HealthRows
+pub mod Trips

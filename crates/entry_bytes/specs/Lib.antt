@@ -1,0 +1,3 @@
+pub mod Rows
+pub mod Corrections
+pub mod Healths

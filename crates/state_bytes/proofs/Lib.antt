@@ -1,0 +1,5 @@
+pub mod NumberLaws
+pub mod StoreLaws
+pub mod StateLaws
+pub mod RoundTrip
+pub mod Carried

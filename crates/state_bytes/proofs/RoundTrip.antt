@@ -1,0 +1,139 @@
+-- ROUND TRIP, over the definitions that the contracts cite. A state that was put is held, and is read back equal; putting back what was read
+-- changes no byte. Assumes nothing.
+use mathlib.Core.Path.{_≡_, refl, sym, ap, ap₂, _∙_}
+use mathlib.Core.Bool.{Bool, true, false, _&&_, not, and-eq-true-iff}
+use mathlib.Core.List.{List, [], _∷_, _++_}
+use Prim.Native.Nat.{ℕ, zero, suc, _+_, _≤_, _<_}
+use native.Mathlib.Omega.{arith}
+use lib.Dec.{ltb, eqb}
+use lib.ListN.{length, drop, replicate, length-append, length-replicate, take-append-drop}
+use lib.Seq.{drop-at}
+use borrow.Author.Tests.{le-ltb, ltb-true, eqb-true}
+use Rattle.bits.specs.Bits.{val}
+use Rattle.bits.specs.Fields.{Fit}
+use Rattle.reader.specs.declared.Reader.{Reader}
+use Rattle.state_bytes.specs.Numbers.{AreBytes, bytesOf, written, numbersIn}
+use Rattle.state_bytes.specs.State.{startOf, numbersOf, readerOf, areState, holdsState, stateIn, startPut, statePut}
+use Rattle.state_bytes.proofs.NumberLaws.{length-written, length-numbers, numbers-written, written-numbers}
+use Rattle.state_bytes.proofs.StateLaws.{held-long, start-is}
+
+-- ---- a reader and its numbers
+
+yes-no : (b : Bool) → eqb (val b) 1 ≡ b
+yes-no true = refl
+yes-no false = refl
+
+one-zero : (n : ℕ) → n < 2 → val (eqb n 1) ≡ n
+one-zero zero h = refl
+one-zero (suc zero) h = refl
+one-zero (suc (suc n)) h = absurd (omega arith)
+
+below-two : (b : Bool) → ltb (val b) 2 ≡ true
+below-two true = refl
+below-two false = refl
+
+reader-numbers : (r : Reader) → readerOf (numbersOf r) ≡ r
+unfolding readerOf numbersOf
+reader-numbers r =
+    let c = r .candidate in
+    ap₂ (λ waits ended. record {
+      cells = r .cells;
+      candidate = record { end = c .end; held = c .held; words = c .words; at = c .at; waits = waits };
+      ended = ended;
+    }) (yes-no (c .waits)) (yes-no (r .ended))
+
+numbers-state : (r : Reader) → areState (numbersOf r) ≡ true
+unfolding areState numbersOf
+numbers-state r = rw (below-two (r .candidate .waits), below-two (r .ended))
+
+numbers-reader : (ns : List ℕ) → 7 ≤ length ns → areState ns ≡ true → numbersOf (readerOf ns) ≡ ns
+unfolding areState numbersOf readerOf
+numbers-reader [] l h = absurd (omega arith)
+numbers-reader (a ∷ []) l h = absurd (omega arith)
+numbers-reader (a ∷ b ∷ []) l h = absurd (omega arith)
+numbers-reader (a ∷ b ∷ c ∷ []) l h = absurd (omega arith)
+numbers-reader (a ∷ b ∷ c ∷ d ∷ []) l h = absurd (omega arith)
+numbers-reader (a ∷ b ∷ c ∷ d ∷ e ∷ []) l h = absurd (omega arith)
+numbers-reader (a ∷ b ∷ c ∷ d ∷ e ∷ f ∷ []) l h = absurd (omega arith)
+numbers-reader (a ∷ b ∷ c ∷ d ∷ e ∷ f ∷ g ∷ ns) l h =
+    let p = and-eq-true-iff (eqb a 0x31533252 && ltb f 2) (ltb g 2) .0 h in
+    let q = and-eq-true-iff (eqb a 0x31533252) (ltb f 2) .0 (p .0) in
+    ap (λ m. m ∷ b ∷ c ∷ d ∷ e ∷ val (eqb f 1) ∷ val (eqb g 1) ∷ ns) (sym (eqb-true a 0x31533252 (q .0)))
+    ∙ ap₂ (λ m n. a ∷ b ∷ c ∷ d ∷ e ∷ m ∷ n ∷ ns) (one-zero f (ltb-true f 2 (q .1))) (one-zero g (ltb-true g 2 (p .1)))
+
+-- ---- put, then read
+
+-- where there are at least 188 bytes
+put-is : (r : Reader) (bs : List ℕ) → 188 ≤ length bs → statePut r bs ≡ written (numbersOf r) ++ drop 188 bs
+unfolding statePut
+put-is r bs h = rw (le-ltb (length bs) 188 h)
+
+fit-length : (ws vs : List ℕ) → Fit ws vs → length ws ≡ length vs
+fit-length [] [] f = refl
+fit-length [] (v ∷ vs) f = absurd f
+fit-length (w ∷ ws) [] f = absurd f
+fit-length (w ∷ ws) (v ∷ vs) f = ap suc (fit-length ws vs (f .1))
+
+-- every number of the reader fits in 32 bits, and there are forty cells
+module _ (r : Reader) (bs : List ℕ) (h : 188 ≤ length bs) (f : Fit (replicate 47 32) (numbersOf r)) where
+  count : 47 ≡ length (numbersOf r)
+  count = sym (length-replicate {A = ℕ} 47 32) ∙ fit-length (replicate 47 32) (numbersOf r) f
+
+  numbers-back : numbersIn 47 (statePut r bs) ≡ numbersOf r
+  numbers-back =
+      ap (numbersIn 47) (put-is r bs h)
+      ∙ ap (λ n. numbersIn n (written (numbersOf r) ++ drop 188 bs)) count
+      ∙ numbers-written (numbersOf r) (drop 188 bs) (rw (sym count) f)
+
+  long : 188 ≤ length (statePut r bs)
+  long = omega (arith, ap length (put-is r bs h), length-append (written (numbersOf r)) (drop 188 bs), length-written (numbersOf r), count)
+
+  -- HELD after it was put
+  pub put-held : holdsState (statePut r bs) ≡ true
+  unfolding holdsState
+  put-held = ap₂ (λ t ns. not t && areState ns) (le-ltb (length (statePut r bs)) 188 long) numbers-back ∙ numbers-state r
+
+  -- READ after it was put: the same reader
+  pub put-read : stateIn (statePut r bs) ≡ r
+  unfolding stateIn
+  put-read = rw put-held (ap readerOf numbers-back ∙ reader-numbers r)
+
+  -- PUT AGAIN over it: as if it had not been
+  pub put-again : (q : Reader) → statePut q (statePut r bs) ≡ statePut q bs
+  put-again q =
+      put-is q (statePut r bs) long
+      ∙ ap (λ l. written (numbersOf q) ++ drop 188 l) (put-is r bs h)
+      ∙ ap (λ l. written (numbersOf q) ++ l) (drop-at (written (numbersOf r)) (drop 188 bs) 188 size)
+      ∙ sym (put-is q bs h)
+    where
+      size : length (written (numbersOf r)) ≡ 188
+      size = omega (arith, length-written (numbersOf r), count)
+
+  -- PUT THE START over it, of a reader with the same cells: as if the whole of that reader had been put
+  pub start-put : (q : Reader) → q .cells ≡ r .cells → startPut (q .candidate) (q .ended) (statePut r bs) ≡ statePut q bs
+  unfolding numbersOf written bytesOf
+  start-put q e =
+      let start = written (startOf (q .candidate) (q .ended)) in
+      start-is (q .candidate) (q .ended) (statePut r bs) long
+      ∙ ap (λ l. start ++ drop 28 l) (put-is r bs h)
+      ∙ ap (λ cells. start ++ (written cells ++ drop 188 bs)) (sym e)
+      ∙ sym (put-is q bs h)
+
+-- ---- read, then put: no byte changes
+
+module _ (bs : List ℕ) (f : AreBytes bs) (e : holdsState bs ≡ true) where
+  are-state : areState (numbersIn 47 bs) ≡ true
+  unfolding holdsState
+  are-state = and-eq-true-iff (not (ltb (length bs) 188)) (areState (numbersIn 47 bs)) .0 e .1
+
+  read-is : stateIn bs ≡ readerOf (numbersIn 47 bs)
+  unfolding stateIn
+  read-is = rw e
+
+  pub read-put : statePut (stateIn bs) bs ≡ bs
+  read-put =
+      put-is (stateIn bs) bs (held-long bs e)
+      ∙ ap (λ r. written (numbersOf r) ++ drop 188 bs) read-is
+      ∙ ap (λ ns. written ns ++ drop 188 bs) (numbers-reader (numbersIn 47 bs) (omega (arith, length-numbers 47 bs)) are-state)
+      ∙ ap (λ l. l ++ drop 188 bs) (written-numbers 47 bs f (held-long bs e))
+      ∙ take-append-drop 188 bs

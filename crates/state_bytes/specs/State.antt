@@ -1,0 +1,48 @@
+-- A reader's state as 188 bytes: 47 numbers of four bytes, low byte first. Assumes nothing.
+use mathlib.Core.Bool.{Bool, cond, _&&_, not}
+use mathlib.Core.List.{List, [], _∷_, _++_}
+use Prim.Native.Nat.{ℕ}
+use lib.Dec.{ltb, eqb}
+use lib.ListN.{length, drop, getD}
+use Rattle.bits.specs.Bits.{val}
+use Rattle.reader.specs.Reading.{started}
+use Rattle.reader.specs.declared.Candidate.{Candidate}
+use Rattle.reader.specs.declared.Reader.{Reader}
+use Rattle.state_bytes.specs.Numbers.{written, numbersIn}
+
+-- the mark, bytes 52 32 53 31; then the counts, whether a frame waits, whether the input has ended
+abbrev pub startOf : Candidate → Bool → List ℕ
+startOf c ended = 0x31533252 ∷ c .end ∷ c .held ∷ c .words ∷ c .at ∷ val (c .waits) ∷ val ended ∷ []
+
+-- the numbers of a reader: these seven and the forty cells
+unfoldable pub numbersOf : Reader → List ℕ
+numbersOf r = startOf (r .candidate) (r .ended) ++ r .cells
+
+-- the reader of such numbers
+unfoldable pub readerOf : List ℕ → Reader
+readerOf ns = record {
+  cells = drop 7 ns;
+  candidate = record { end = getD ns 1 0; held = getD ns 2 0; words = getD ns 3 0; at = getD ns 4 0; waits = eqb (getD ns 5 0) 1 };
+  ended = eqb (getD ns 6 0) 1;
+}
+
+-- numbers of a state: the mark, and 0 or 1 for the two that are said by yes and no
+unfoldable pub areState : List ℕ → Bool
+areState ns = eqb (getD ns 0 0) 0x31533252 && ltb (getD ns 5 0) 2 && ltb (getD ns 6 0) 2
+
+-- HELD: at least 188 bytes, and the first 188 are a state
+unfoldable pub holdsState : List ℕ → Bool
+holdsState bs = not (ltb (length bs) 188) && areState (numbersIn 47 bs)
+
+-- READ: the reader whose state is held, or a fresh one
+unfoldable pub stateIn : List ℕ → Reader
+stateIn bs = cond (holdsState bs) (readerOf (numbersIn 47 bs)) started
+
+-- PUT: the first 188 bytes become the reader's state, those past them stay; fewer bytes stay whole
+unfoldable pub statePut : Reader → List ℕ → List ℕ
+statePut r bs = cond (ltb (length bs) 188) bs (written (numbersOf r) ++ drop 188 bs)
+
+-- PUT THE START: the first 28 bytes become the mark, the counts and whether a frame waits and the input has ended, all others stay; fewer than
+-- 188 bytes stay whole
+unfoldable pub startPut : Candidate → Bool → List ℕ → List ℕ
+startPut c ended bs = cond (ltb (length bs) 188) bs (written (startOf c ended) ++ drop 28 bs)

@@ -1,0 +1,180 @@
+/* The line package for RTCM version 2, for C and Rust: line bytes to frames, frames to records, both ways back.
+ *
+ * Every function here is proved to meet a contract that settles its answer, the next state and every byte that it is lent,
+ * for every input. Nothing is trusted of the caller but what C itself can't say: a pointer comes with the number of bytes
+ * that lie behind it, is never null (not even for no bytes), and no two places that are lent to one call overlap.
+ *
+ * Answers. A call answers 0, or the number of its refusal (RTCM2_.. below). Each comment gives the refusals in the order in
+ * which they are looked at; a call refuses exactly when one applies, and with the first that does. A refusal changes
+ * nothing: every place lent to the call holds what it held before. A call that answers 0 sets every number it is lent, and of
+ * lent bytes exactly those that its comment names.
+ *
+ * Frames. A frame passes as its journal record: the mark 0x52 0x32, one byte N, then the header's two words and the N data
+ * words, three bytes each with the highest bits first; 3N + 9 bytes, at most RTCM2_FRAME_MAX. Where a frame is read, bytes
+ * that follow the record are ignored. "14, 15, 16, 15, 16" below is the order in which such a record is looked at:
+ * no mark; the N byte missing; N over 31; cut short; N unequal to N of word 2, or a wrong preamble.
+ *
+ * Headers. Where a frame is made, its header comes as five numbers: type 1 to 64, station 0 to 1023, Z count 0 to 8191
+ * (0.6 s each), sequence 0 to 7, health 0 to 7. One outside its range is 5.
+ */
+#ifndef RTCM2_H
+#define RTCM2_H
+
+#include <stddef.h>
+#include <stdint.h>
+
+#ifdef __cplusplus
+extern "C" {
+#endif
+
+/* The refusals. */
+enum {
+    RTCM2_OK = 0,
+    RTCM2_NO_DATA_BYTE = 1,   /* byte without top bits 01 */
+    RTCM2_FRAME_WAITS = 2,    /* fed or ended while a frame waits */
+    RTCM2_ENDED = 3,          /* fed or ended after the end */
+    RTCM2_NO_FRAME = 4,       /* taking when no frame waits */
+    RTCM2_OUTSIDE = 5,        /* a value outside its width; bytes that are no reader state; a carried bit not 0 or 1 */
+    RTCM2_OTHER_TYPE = 6,     /* the frame is of another type */
+    RTCM2_Z_COUNT = 7,        /* Z count 6000 to 8191 */
+    RTCM2_WRONG_N = 8,        /* N doesn't fit the type */
+    RTCM2_NO_ENTRY = 9,       /* entry number not below the count */
+    RTCM2_FIELD = 10,         /* record field outside its range */
+    RTCM2_CHARACTER = 11,     /* forbidden character */
+    RTCM2_ENTRIES = 12,       /* no entry, too many, or bytes that are no whole number of entries */
+    RTCM2_TOO_SHORT = 13,     /* lent buffer too short */
+    RTCM2_NO_MARK = 14,       /* fewer than two bytes, or the first two are not the journal mark */
+    RTCM2_CUT_SHORT = 15,     /* journal record cut short */
+    RTCM2_BAD_RECORD = 16     /* journal N over 31, unequal to N of word 2, or wrong preamble */
+};
+
+/* Sizes in bytes. */
+enum {
+    RTCM2_STATE_SIZE = 188,     /* a reader's state; rtcm2_state_size answers the same */
+    RTCM2_FRAME_MAX = 102,      /* the longest frame, 31 data words */
+    RTCM2_LINE_MAX = 165,       /* the longest frame on the line */
+    RTCM2_CORRECTION_SIZE = 7,  /* one correction of types 1 and 9 */
+    RTCM2_HEALTH_SIZE = 10,     /* one satellite's health of type 5 */
+    RTCM2_TEXT_MAX = 90         /* the longest text */
+};
+
+/* ---- Reading the line. The reader's state lies in RTCM2_STATE_SIZE bytes that the caller lends; bytes past them are not
+ * looked at. Bytes that hold no state (too few, or never started) are refused with 5 and left alone. */
+
+/* How many bytes a state takes: RTCM2_STATE_SIZE. */
+size_t rtcm2_state_size(void);
+
+/* Starts a reader: the first RTCM2_STATE_SIZE bytes become a fresh state. Refusal: 13. */
+uint8_t rtcm2_start(uint8_t *state, size_t state_size);
+
+/* Feeds one byte of the line. Refusals: 5, 3, 2, 1. A byte without bits (1) changes nothing and may be passed over. */
+uint8_t rtcm2_feed(uint8_t *state, size_t state_size, uint8_t byte);
+
+/* Feeds bytes until a frame waits or none is left; bytes without bits are passed over. `used` bytes were consumed, `passed`
+ * of them carry no bit. Take the frame, then feed the rest. Refusals: 5, 3, 2. */
+uint8_t rtcm2_feed_all(uint8_t *state, size_t state_size, const uint8_t *bytes, size_t bytes_size, size_t *used, size_t *passed);
+
+/* The input has ended. This may release frames: take until none waits. Refusals: 5, 3, 2. */
+uint8_t rtcm2_end(uint8_t *state, size_t state_size);
+
+/* Takes the frame that waits: its record of `length` bytes at the start of `frame`, and the position `at` of its first bit in
+ * the line bits taken, modulo 2^32. Another may wait at once. Refusals: 5, 4, 13. */
+uint8_t rtcm2_take(uint8_t *state, size_t state_size, uint8_t *frame, size_t frame_size, size_t *length, uint32_t *at);
+
+/* ---- Writing the line. Two bits are carried from frame to frame, D29* and D30*; after opening both are 0. */
+
+/* Opens a stream: one byte, six zero bits. Refusal: 13. */
+uint8_t rtcm2_open(uint8_t *line, size_t line_size);
+
+/* Writes a frame after the two carried bits and sets them to its last two: 5(N + 2) bytes, `length`, at the start of `line`.
+ * Refusals: 14, 15, 16, 15, 16, then 5 (a carried bit not 0 or 1), 7, 13. */
+uint8_t rtcm2_write(const uint8_t *frame, size_t frame_size, uint8_t *d29, uint8_t *d30, uint8_t *line, size_t line_size,
+                    size_t *length);
+
+/* ---- Frames and their journal records. */
+
+/* Keeps a frame of any type: its header and its N data words, three bytes each with the highest bits first, 3N bytes in
+ * `data`. The record is written at the start of `frame`. Refusals: 5 (also when `data` is no whole number of words or holds
+ * over 31), 13. */
+uint8_t rtcm2_keep(uint8_t type, uint16_t station, uint16_t z, uint8_t sequence, uint8_t health, const uint8_t *data,
+                   size_t data_size, uint8_t *frame, size_t frame_size, size_t *length);
+
+/* Recalls the record at the start of `frame`: its header, N and its length, 3N + 9. The data words are the 3N bytes from the
+ * tenth on. Refusals: 14, 15, 16, 15, 16. */
+uint8_t rtcm2_recall(const uint8_t *frame, size_t frame_size, uint8_t *type, uint16_t *station, uint16_t *z, uint8_t *sequence,
+                     uint8_t *health, uint8_t *n, size_t *length);
+
+/* ---- Corrections, types 1 and 9. A correction is RTCM2_CORRECTION_SIZE bytes: scale 0 to 1, UDRE 0 to 3, satellite 1 to 32,
+ * PRC in two bytes (two's complement, low byte first), RRC (two's complement), IOD. */
+
+/* How many corrections the frame holds. Refusals: 14, 15, 16, 15, 16, then 6, 7, 8. */
+uint8_t rtcm2_count_corrections(const uint8_t *frame, size_t frame_size, size_t *count);
+
+/* The correction at `index`, from 0, to the start of `correction`. Refusals: 14, 15, 16, 15, 16, then 6, 7, 8, 9, 13. */
+uint8_t rtcm2_correction_at(const uint8_t *frame, size_t frame_size, size_t index, uint8_t *correction, size_t correction_size);
+
+/* Makes a frame of 1 to 18 corrections, one after the other in `corrections`. Refusals: 5, 6, 7, 12, 10, 13. */
+uint8_t rtcm2_make_corrections(uint8_t type, uint16_t station, uint16_t z, uint8_t sequence, uint8_t health,
+                               const uint8_t *corrections, size_t corrections_size, uint8_t *frame, size_t frame_size,
+                               size_t *length);
+
+/* ---- Constellation health, type 5. A satellite's health is RTCM2_HEALTH_SIZE bytes: reserved 0 to 1, satellite 1 to 32, IOD
+ * link 0 to 1, health 0 to 7, C/N0 0 to 31, enable, new data and loss warning 0 to 1 each, time 0 to 15, reserved 0 to 3. */
+
+/* How many satellites the frame holds. Refusals: 14, 15, 16, 15, 16, then 6, 7, 8. */
+uint8_t rtcm2_count_healths(const uint8_t *frame, size_t frame_size, size_t *count);
+
+/* The health at `index`, from 0, to the start of `health`. Refusals: 14, 15, 16, 15, 16, then 6, 7, 8, 9, 13. */
+uint8_t rtcm2_health_at(const uint8_t *frame, size_t frame_size, size_t index, uint8_t *health, size_t health_size);
+
+/* Makes a frame of 1 to 31 satellites' health, one after the other in `healths`. Refusals: 5, 6, 7, 12, 10, 13. */
+uint8_t rtcm2_make_healths(uint8_t type, uint16_t station, uint16_t z, uint8_t sequence, uint8_t health, const uint8_t *healths,
+                           size_t healths_size, uint8_t *frame, size_t frame_size, size_t *length);
+
+/* ---- The station's position, type 3: X, Y and Z in centimetres. */
+
+/* Refusals: 14, 15, 16, 15, 16, then 6, 7, 8, 10. */
+uint8_t rtcm2_read_position(const uint8_t *frame, size_t frame_size, int32_t *x_cm, int32_t *y_cm, int32_t *z_cm);
+
+/* Refusals: 5, 6, 7, 10, 13. */
+uint8_t rtcm2_make_position(uint8_t type, uint16_t station, uint16_t z, uint8_t sequence, uint8_t health, int32_t x_cm,
+                            int32_t y_cm, int32_t z_cm, uint8_t *frame, size_t frame_size, size_t *length);
+
+/* ---- The null frame, type 6. */
+
+/* Whether the frame is a null frame. Refusals: 14, 15, 16, 15, 16, then 6, 7, 8. */
+uint8_t rtcm2_read_null(const uint8_t *frame, size_t frame_size);
+
+/* Refusals: 5, 6, 7, 13. */
+uint8_t rtcm2_make_null(uint8_t type, uint16_t station, uint16_t z, uint8_t sequence, uint8_t health, uint8_t *frame,
+                        size_t frame_size, size_t *length);
+
+/* ---- Text, type 16: 1 to 90 characters 1 to 127. */
+
+/* The characters, `length` of them, at the start of `text`. Refusals: 14, 15, 16, 15, 16, then 6, 7, 8, 11, 13. */
+uint8_t rtcm2_read_text(const uint8_t *frame, size_t frame_size, uint8_t *text, size_t text_size, size_t *length);
+
+/* Refusals: 5, 6, 7, 12, 11, 13. */
+uint8_t rtcm2_make_text(uint8_t type, uint16_t station, uint16_t z, uint8_t sequence, uint8_t health, const uint8_t *text,
+                        size_t text_size, uint8_t *frame, size_t frame_size, size_t *length);
+
+/* ---- What a record's numbers stand for. */
+
+/* PRC in mm: `stop` is 1 for -32768 (stop using this satellite; `mm` is then 0), else 0. Refusal: 10 for a scale over 1. */
+uint8_t rtcm2_prc_mm(uint8_t scale, int16_t prc, uint8_t *stop, int32_t *mm);
+
+/* RRC in mm/s: `stop` is 1 for -128 (`mm_s` is then 0), else 0. Refusal: 10 for a scale over 1. */
+uint8_t rtcm2_rrc_mm_s(uint8_t scale, int8_t rrc, uint8_t *stop, int32_t *mm_s);
+
+/* The upper limit of a UDRE code under the station's health, in mm: `limited` is 0 for code 3, which has none (`mm` is then 0),
+ * else 1. Refusals: 5 for a health over 7, 10 for a code over 3. */
+uint8_t rtcm2_udre_limit_mm(uint8_t health, uint8_t udre, uint8_t *limited, uint32_t *mm);
+
+/* C/N0 in dBHz: `tracked` is 0 for code 0 (`dbhz` is then 0), else 1. Refusal: 10 for a code over 31. */
+uint8_t rtcm2_cn0_dbhz(uint8_t code, uint8_t *tracked, uint8_t *dbhz);
+
+#ifdef __cplusplus
+}
+#endif
+
+#endif
