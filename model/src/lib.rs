@@ -4,8 +4,10 @@
 #![warn(missing_docs)]
 
 pub mod bits;
+pub mod example;
 pub mod frame;
 pub mod journal;
+pub mod library;
 pub mod line;
 pub mod listing;
 pub mod mangle;

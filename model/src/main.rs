@@ -1,14 +1,14 @@
-//! The model's program: makes the trials and checks their files, and lists a
-//! stream from standard input.
+//! The model's program: makes the trials and the examples' files and checks them,
+//! and lists a stream from standard input.
 
-use rtcm2_model::listing;
 use rtcm2_model::trials::{self, File};
+use rtcm2_model::{example, listing};
 use std::fs;
-use std::io::{self, BufWriter};
+use std::io::{self, BufWriter, Read};
 use std::path::Path;
 use std::process::ExitCode;
 
-const USAGE: &str = "usage: rtcm2-model trials DIR | check DIR | list";
+const USAGE: &str = "usage: rtcm2-model trials DIR | check DIR | example DIR | corrections | list";
 
 fn main() -> ExitCode {
     let arguments: Vec<String> = std::env::args().skip(1).collect();
@@ -16,6 +16,8 @@ fn main() -> ExitCode {
     let answer = match words.as_slice() {
         ["trials", dir] => write_trials(Path::new(dir)),
         ["check", dir] => check_trials(Path::new(dir)),
+        ["example", dir] => write_example(Path::new(dir)),
+        ["corrections"] => corrections(),
         ["list"] => list(),
         _ => Err(io::Error::other(USAGE)),
     };
@@ -33,6 +35,22 @@ fn main() -> ExitCode {
 fn list() -> io::Result<bool> {
     let output = BufWriter::new(io::stdout().lock());
     listing::through_reader(io::stdin().lock(), output)?;
+    Ok(true)
+}
+
+/// Prints the corrections of standard input, as the examples do.
+fn corrections() -> io::Result<bool> {
+    let mut bytes = Vec::new();
+    io::stdin().lock().read_to_end(&mut bytes)?;
+    print!("{}", example::expected(&bytes));
+    Ok(true)
+}
+
+/// Writes the examples' stream and what they must print.
+fn write_example(dir: &Path) -> io::Result<bool> {
+    let bytes = example::stream();
+    fs::write(dir.join("stream.bin"), &bytes)?;
+    fs::write(dir.join("expected.txt"), example::expected(&bytes))?;
     Ok(true)
 }
 

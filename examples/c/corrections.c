@@ -1,0 +1,142 @@
+/* Prints the corrections of a line from standard input, one a line: position of the frame, station, Z count, satellite,
+ * PRC in mm, RRC in mm/s, UDRE limit in mm, IOD; then how many frames and corrections there were.
+ *
+ *   rt staticlib cabi
+ *   cc -std=c11 -O2 -Wall -Wextra -Iinclude examples/c/corrections.c target/staticlib/libcabi.a -o corrections
+ *   ./corrections < examples/stream.bin
+ */
+#include <inttypes.h>
+#include <stdio.h>
+#include <stdlib.h>
+
+#include "rtcm2.h"
+
+/* What was printed so far. */
+struct totals {
+    unsigned long long frames;
+    unsigned long long corrections;
+};
+
+/* Stops the program where a call that can't be refused here was refused. */
+static void check(uint8_t answer, const char *call)
+{
+    if (answer != RTCM2_OK) {
+        fprintf(stderr, "corrections: %s answered %u\n", call, (unsigned)answer);
+        exit(1);
+    }
+}
+
+/* A number, or "stop". */
+static void print_or_stop(uint8_t stop, int32_t number)
+{
+    if (stop)
+        printf(" stop");
+    else
+        printf(" %" PRId32, number);
+}
+
+/* The values of a correction of RTCM2_CORRECTION_SIZE bytes. */
+static void print_correction(const uint8_t *correction, uint8_t health)
+{
+    uint8_t scale = correction[0], udre = correction[1], satellite = correction[2], iod = correction[6];
+    int16_t prc = (int16_t)(correction[3] | correction[4] << 8);
+    int8_t rrc = (int8_t)correction[5];
+    uint8_t stop, limited;
+    int32_t mm, mm_s;
+    uint32_t limit;
+
+    printf(" %u", (unsigned)satellite);
+    check(rtcm2_prc_mm(scale, prc, &stop, &mm), "rtcm2_prc_mm");
+    print_or_stop(stop, mm);
+    check(rtcm2_rrc_mm_s(scale, rrc, &stop, &mm_s), "rtcm2_rrc_mm_s");
+    print_or_stop(stop, mm_s);
+    check(rtcm2_udre_limit_mm(health, udre, &limited, &limit), "rtcm2_udre_limit_mm");
+    if (limited)
+        printf(" %" PRIu32, limit);
+    else
+        printf(" none");
+    printf(" %u\n", (unsigned)iod);
+}
+
+/* How many corrections a frame holds: none for another type, a Z count past the hour, or an N that doesn't fit. */
+static size_t count_corrections(const uint8_t *frame, size_t length)
+{
+    size_t count;
+    uint8_t answer = rtcm2_count_corrections(frame, length, &count);
+
+    if (answer == RTCM2_OTHER_TYPE || answer == RTCM2_Z_COUNT || answer == RTCM2_WRONG_N)
+        return 0;
+    check(answer, "rtcm2_count_corrections");
+    return count;
+}
+
+/* A line for each correction of a frame. */
+static void print_frame(const uint8_t *frame, size_t length, uint32_t at, struct totals *totals)
+{
+    uint8_t type, sequence, health, n;
+    uint16_t station, z;
+    size_t record_length, count = count_corrections(frame, length);
+
+    check(rtcm2_recall(frame, length, &type, &station, &z, &sequence, &health, &n, &record_length), "rtcm2_recall");
+    for (size_t i = 0; i < count; i++) {
+        uint8_t correction[RTCM2_CORRECTION_SIZE];
+
+        check(rtcm2_correction_at(frame, length, i, correction, sizeof correction), "rtcm2_correction_at");
+        printf("%" PRIu32 " %u %u", at, (unsigned)station, (unsigned)z);
+        print_correction(correction, health);
+    }
+    totals->frames++;
+    totals->corrections += count;
+}
+
+/* Takes every frame that waits. */
+static void take_all(uint8_t *state, struct totals *totals)
+{
+    for (;;) {
+        uint8_t frame[RTCM2_FRAME_MAX];
+        size_t length;
+        uint32_t at;
+        uint8_t answer = rtcm2_take(state, RTCM2_STATE_SIZE, frame, sizeof frame, &length, &at);
+
+        if (answer == RTCM2_NO_FRAME)
+            return;
+        check(answer, "rtcm2_take");
+        print_frame(frame, length, at, totals);
+    }
+}
+
+/* Feeds bytes of the line, taking every frame as soon as it waits. */
+static void feed(uint8_t *state, const uint8_t *bytes, size_t size, struct totals *totals)
+{
+    while (size > 0) {
+        size_t used, passed;
+
+        check(rtcm2_feed_all(state, RTCM2_STATE_SIZE, bytes, size, &used, &passed), "rtcm2_feed_all");
+        take_all(state, totals);
+        bytes += used;
+        size -= used;
+    }
+}
+
+int main(void)
+{
+    uint8_t state[RTCM2_STATE_SIZE], bytes[4096];
+    struct totals totals = {0, 0};
+    size_t size;
+
+    check(rtcm2_start(state, sizeof state), "rtcm2_start");
+    while ((size = fread(bytes, 1, sizeof bytes, stdin)) > 0)
+        feed(state, bytes, size, &totals);
+    if (ferror(stdin)) {
+        perror("corrections: standard input");
+        return 1;
+    }
+    check(rtcm2_end(state, sizeof state), "rtcm2_end");
+    take_all(state, &totals);
+    printf("frames %llu corrections %llu\n", totals.frames, totals.corrections);
+    if (fflush(stdout) != 0 || ferror(stdout)) {
+        perror("corrections: standard output");
+        return 1;
+    }
+    return 0;
+}

@@ -1,0 +1,175 @@
+//! A call of the library as data: the function, numbers given, bytes to read,
+//! places lent, each in the order of `include/rtcm2.h`.
+
+use crate::place::Place;
+use rtcm2_model::library::Head;
+use std::fmt::{self, Display, Formatter};
+
+/// The functions of the library.
+#[derive(Clone, Copy, Debug, PartialEq, Eq)]
+pub enum Function {
+    StateSize,
+    Start,
+    Feed,
+    FeedAll,
+    End,
+    Take,
+    Open,
+    Write,
+    Keep,
+    Recall,
+    CountCorrections,
+    CorrectionAt,
+    MakeCorrections,
+    CountHealths,
+    HealthAt,
+    MakeHealths,
+    ReadPosition,
+    MakePosition,
+    ReadNull,
+    MakeNull,
+    ReadText,
+    MakeText,
+    PrcMm,
+    RrcMmS,
+    UdreLimitMm,
+    Cn0Dbhz,
+}
+
+/// A function, its name and every number that it can answer.
+pub struct Row {
+    /// The function.
+    pub function: Function,
+    /// Its name in the header.
+    pub name: &'static str,
+    /// Its answers.
+    pub answers: &'static [u64],
+}
+
+const fn row(function: Function, name: &'static str, answers: &'static [u64]) -> Row {
+    Row {
+        function,
+        name,
+        answers,
+    }
+}
+
+/// All functions, in the order of the header.
+pub const FUNCTIONS: [Row; 26] = [
+    row(Function::StateSize, "rtcm2_state_size", &[188]),
+    row(Function::Start, "rtcm2_start", &[0, 13]),
+    row(Function::Feed, "rtcm2_feed", &[0, 1, 2, 3, 5]),
+    row(Function::FeedAll, "rtcm2_feed_all", &[0, 2, 3, 5]),
+    row(Function::End, "rtcm2_end", &[0, 2, 3, 5]),
+    row(Function::Take, "rtcm2_take", &[0, 4, 5, 13]),
+    row(Function::Open, "rtcm2_open", &[0, 13]),
+    row(Function::Write, "rtcm2_write", &[0, 5, 7, 13, 14, 15, 16]),
+    row(Function::Keep, "rtcm2_keep", &[0, 5, 13]),
+    row(Function::Recall, "rtcm2_recall", &[0, 14, 15, 16]),
+    row(
+        Function::CountCorrections,
+        "rtcm2_count_corrections",
+        &[0, 6, 7, 8, 14, 15, 16],
+    ),
+    row(
+        Function::CorrectionAt,
+        "rtcm2_correction_at",
+        &[0, 6, 7, 8, 9, 13, 14, 15, 16],
+    ),
+    row(
+        Function::MakeCorrections,
+        "rtcm2_make_corrections",
+        &[0, 5, 6, 7, 10, 12, 13],
+    ),
+    row(
+        Function::CountHealths,
+        "rtcm2_count_healths",
+        &[0, 6, 7, 8, 14, 15, 16],
+    ),
+    row(
+        Function::HealthAt,
+        "rtcm2_health_at",
+        &[0, 6, 7, 8, 9, 13, 14, 15, 16],
+    ),
+    row(
+        Function::MakeHealths,
+        "rtcm2_make_healths",
+        &[0, 5, 6, 7, 10, 12, 13],
+    ),
+    row(
+        Function::ReadPosition,
+        "rtcm2_read_position",
+        &[0, 6, 7, 8, 10, 14, 15, 16],
+    ),
+    row(
+        Function::MakePosition,
+        "rtcm2_make_position",
+        &[0, 5, 6, 7, 10, 13],
+    ),
+    row(
+        Function::ReadNull,
+        "rtcm2_read_null",
+        &[0, 6, 7, 8, 14, 15, 16],
+    ),
+    row(Function::MakeNull, "rtcm2_make_null", &[0, 5, 6, 7, 13]),
+    row(
+        Function::ReadText,
+        "rtcm2_read_text",
+        &[0, 6, 7, 8, 11, 13, 14, 15, 16],
+    ),
+    row(
+        Function::MakeText,
+        "rtcm2_make_text",
+        &[0, 5, 6, 7, 11, 12, 13],
+    ),
+    row(Function::PrcMm, "rtcm2_prc_mm", &[0, 10]),
+    row(Function::RrcMmS, "rtcm2_rrc_mm_s", &[0, 10]),
+    row(Function::UdreLimitMm, "rtcm2_udre_limit_mm", &[0, 5, 10]),
+    row(Function::Cn0Dbhz, "rtcm2_cn0_dbhz", &[0, 10]),
+];
+
+/// The place of a function in the table.
+pub fn row_of(function: Function) -> usize {
+    let found = FUNCTIONS.iter().position(|row| row.function == function);
+    found.expect("every function has its row")
+}
+
+/// A call and all the memory that it is lent.
+#[derive(Clone, PartialEq, Eq)]
+pub struct Call {
+    /// The function.
+    pub function: Function,
+    /// Numbers given by value.
+    pub given: Vec<i64>,
+    /// Bytes that are only read.
+    pub read: Vec<Place>,
+    /// Bytes and numbers that may be changed.
+    pub lent: Vec<Place>,
+}
+
+impl Call {
+    /// The header's five numbers, of a call that makes a frame.
+    pub fn head(&self) -> Head {
+        Head {
+            kind: self.given[0] as u8,
+            station: self.given[1] as u16,
+            z: self.given[2] as u16,
+            sequence: self.given[3] as u8,
+            health: self.given[4] as u8,
+        }
+    }
+}
+
+impl Display for Call {
+    fn fmt(&self, to: &mut Formatter) -> fmt::Result {
+        writeln!(to, "{}", FUNCTIONS[row_of(self.function)].name)?;
+        writeln!(to, "  given {:?}", self.given)?;
+        for place in &self.read {
+            writeln!(to, "  read {} bytes: {}", place.size(), place.hex())?;
+        }
+        for place in &self.lent {
+            writeln!(to, "  lent {} bytes: {}", place.size(), place.hex())?;
+        }
+        Ok(())
+    }
+}

@@ -1,0 +1,81 @@
+//! Bytes that hold a reader's state, or nearly: forged counts around the limits,
+//! forged words and flags, a damaged mark, any number of bytes.
+
+use super::bits::line_bits;
+use rtcm2_model::library::state::{State, MARK, MOST_HELD, MOST_WORDS, ROOM, SIZE};
+use rtcm2_model::rng::Rng;
+
+/// Forged bytes, most of which hold a state.
+pub fn forged(rng: &mut Rng) -> Vec<u8> {
+    let mut state = match rng.below(3) {
+        0 => held_frames(rng),
+        1 => State {
+            cells: std::array::from_fn(|_| rng.draw() as u32),
+            ..State::fresh()
+        },
+        _ => State::fresh(),
+    };
+    for _ in 0..rng.place(4) {
+        forge(rng, &mut state);
+    }
+    let mut bytes: Vec<u8> = (0..SIZE + rng.place(13)).map(|_| rng.byte()).collect();
+    state.put(&mut bytes);
+    match rng.below(12) {
+        0 => bytes.truncate(rng.place(SIZE + 1)),
+        1 => damage(rng, &mut bytes),
+        _ => {}
+    }
+    bytes
+}
+
+/// A state whose cells hold line bits, a frame of them often the one that waits.
+fn held_frames(rng: &mut Rng) -> State {
+    let mut state = State::fresh();
+    let line = line_bits(rng);
+    let from = rng.place(ROOM);
+    state.end = ROOM.min(from + line.len());
+    for (place, bit) in (from..state.end).zip(&line.0) {
+        state.cells[place / 32] |= u32::from(*bit) << (31 - place % 32);
+    }
+    state.waits = rng.bit();
+    state.ended = rng.bit();
+    state.held = MOST_HELD[usize::from(state.waits)].min(state.end - from);
+    if rng.bit() {
+        // from two bits before the frame that follows the opening on
+        state.held = state.held.saturating_sub(4);
+    }
+    state.at = rng.draw() as u32;
+    state
+}
+
+/// Gives one of the numbers another value.
+fn forge(rng: &mut Rng, state: &mut State) {
+    match rng.below(10) {
+        0 => state.end = around(rng, ROOM),
+        1 => state.end = around(rng, ROOM - 64),
+        2 => state.end = state.held + rng.place(ROOM),
+        3 => state.held = around(rng, MOST_HELD[usize::from(state.waits)]),
+        4 => state.held = rng.place(state.end + 2),
+        5 => state.held = 30 * rng.place(34) + rng.place(4),
+        6 => state.words = rng.place(MOST_WORDS + 3),
+        7 => state.at = (rng.below(64) as u32).wrapping_sub(32),
+        8 => state.waits = !state.waits,
+        _ => state.ended = !state.ended,
+    }
+}
+
+/// A number near this one.
+fn around(rng: &mut Rng, number: usize) -> usize {
+    (number + rng.place(9)).saturating_sub(4)
+}
+
+/// Damages the mark or a flag, or makes a count far too large.
+fn damage(rng: &mut Rng, bytes: &mut [u8]) {
+    let any = rng.draw() as u32;
+    let (place, number) = match rng.below(3) {
+        0 => (0, MARK ^ 1 << rng.below(32)),
+        1 => (5 + rng.place(2), [2, 1 << 8, any][rng.place(3)]),
+        _ => (1 + rng.place(3), any),
+    };
+    bytes[4 * place..4 * place + 4].copy_from_slice(&number.to_le_bytes());
+}

@@ -1,0 +1,151 @@
+//! `include/rtcm2.h` in Rust.
+
+unsafe extern "C" {
+    pub safe fn rtcm2_state_size() -> usize;
+    pub fn rtcm2_start(state: *mut u8, state_size: usize) -> u8;
+    pub fn rtcm2_feed(state: *mut u8, state_size: usize, byte: u8) -> u8;
+    pub fn rtcm2_feed_all(
+        state: *mut u8,
+        state_size: usize,
+        bytes: *const u8,
+        bytes_size: usize,
+        used: *mut usize,
+        passed: *mut usize,
+    ) -> u8;
+    pub fn rtcm2_end(state: *mut u8, state_size: usize) -> u8;
+    pub fn rtcm2_take(
+        state: *mut u8,
+        state_size: usize,
+        frame: *mut u8,
+        frame_size: usize,
+        length: *mut usize,
+        at: *mut u32,
+    ) -> u8;
+    pub fn rtcm2_open(line: *mut u8, line_size: usize) -> u8;
+    pub fn rtcm2_write(
+        frame: *const u8,
+        frame_size: usize,
+        d29: *mut u8,
+        d30: *mut u8,
+        line: *mut u8,
+        line_size: usize,
+        length: *mut usize,
+    ) -> u8;
+    pub fn rtcm2_keep(
+        kind: u8,
+        station: u16,
+        z: u16,
+        sequence: u8,
+        health: u8,
+        data: *const u8,
+        data_size: usize,
+        frame: *mut u8,
+        frame_size: usize,
+        length: *mut usize,
+    ) -> u8;
+    pub fn rtcm2_recall(
+        frame: *const u8,
+        frame_size: usize,
+        kind: *mut u8,
+        station: *mut u16,
+        z: *mut u16,
+        sequence: *mut u8,
+        health: *mut u8,
+        n: *mut u8,
+        length: *mut usize,
+    ) -> u8;
+    pub fn rtcm2_count_corrections(frame: *const u8, frame_size: usize, count: *mut usize) -> u8;
+    pub fn rtcm2_correction_at(
+        frame: *const u8,
+        frame_size: usize,
+        index: usize,
+        correction: *mut u8,
+        correction_size: usize,
+    ) -> u8;
+    pub fn rtcm2_make_corrections(
+        kind: u8,
+        station: u16,
+        z: u16,
+        sequence: u8,
+        health: u8,
+        corrections: *const u8,
+        corrections_size: usize,
+        frame: *mut u8,
+        frame_size: usize,
+        length: *mut usize,
+    ) -> u8;
+    pub fn rtcm2_count_healths(frame: *const u8, frame_size: usize, count: *mut usize) -> u8;
+    pub fn rtcm2_health_at(
+        frame: *const u8,
+        frame_size: usize,
+        index: usize,
+        health: *mut u8,
+        health_size: usize,
+    ) -> u8;
+    pub fn rtcm2_make_healths(
+        kind: u8,
+        station: u16,
+        z: u16,
+        sequence: u8,
+        health: u8,
+        healths: *const u8,
+        healths_size: usize,
+        frame: *mut u8,
+        frame_size: usize,
+        length: *mut usize,
+    ) -> u8;
+    pub fn rtcm2_read_position(
+        frame: *const u8,
+        frame_size: usize,
+        x_cm: *mut i32,
+        y_cm: *mut i32,
+        z_cm: *mut i32,
+    ) -> u8;
+    pub fn rtcm2_make_position(
+        kind: u8,
+        station: u16,
+        z: u16,
+        sequence: u8,
+        health: u8,
+        x_cm: i32,
+        y_cm: i32,
+        z_cm: i32,
+        frame: *mut u8,
+        frame_size: usize,
+        length: *mut usize,
+    ) -> u8;
+    pub fn rtcm2_read_null(frame: *const u8, frame_size: usize) -> u8;
+    pub fn rtcm2_make_null(
+        kind: u8,
+        station: u16,
+        z: u16,
+        sequence: u8,
+        health: u8,
+        frame: *mut u8,
+        frame_size: usize,
+        length: *mut usize,
+    ) -> u8;
+    pub fn rtcm2_read_text(
+        frame: *const u8,
+        frame_size: usize,
+        text: *mut u8,
+        text_size: usize,
+        length: *mut usize,
+    ) -> u8;
+    pub fn rtcm2_make_text(
+        kind: u8,
+        station: u16,
+        z: u16,
+        sequence: u8,
+        health: u8,
+        text: *const u8,
+        text_size: usize,
+        frame: *mut u8,
+        frame_size: usize,
+        length: *mut usize,
+    ) -> u8;
+    pub fn rtcm2_prc_mm(scale: u8, prc: i16, stop: *mut u8, mm: *mut i32) -> u8;
+    pub fn rtcm2_rrc_mm_s(scale: u8, rrc: i8, stop: *mut u8, mm_s: *mut i32) -> u8;
+    pub fn rtcm2_udre_limit_mm(health: u8, udre: u8, limited: *mut u8, mm: *mut u32) -> u8;
+    pub fn rtcm2_cn0_dbhz(code: u8, tracked: *mut u8, dbhz: *mut u8) -> u8;
+}

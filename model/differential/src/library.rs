@@ -1,0 +1,210 @@
+//! The calls through the static library.
+
+use crate::call::{Call, Function};
+use crate::header::*;
+use crate::place::Place;
+
+/// Makes the call and gives its answer.
+pub fn answer(call: &mut Call) -> u64 {
+    match call.function {
+        Function::StateSize => rtcm2_state_size() as u64,
+        Function::Start | Function::Feed | Function::FeedAll | Function::End | Function::Take => {
+            u64::from(reader(call))
+        }
+        Function::Open | Function::Write => u64::from(writer(call)),
+        Function::Recall | Function::ReadPosition | Function::ReadNull | Function::ReadText => {
+            u64::from(read(call))
+        }
+        Function::CountCorrections
+        | Function::CorrectionAt
+        | Function::CountHealths
+        | Function::HealthAt => u64::from(list(call)),
+        Function::Keep | Function::MakeCorrections | Function::MakeHealths | Function::MakeText => {
+            u64::from(make(call))
+        }
+        Function::MakePosition => u64::from(make_position(call)),
+        Function::MakeNull => u64::from(make_null(call)),
+        Function::PrcMm | Function::RrcMmS | Function::UdreLimitMm | Function::Cn0Dbhz => {
+            u64::from(number(call))
+        }
+    }
+}
+
+// Safety of all calls below: each pointer comes with the size of its place, or
+// points to an aligned number of its type, and no two places overlap.
+
+/// Where the lent bytes or the number of a place lie.
+fn at<T>(place: &mut Place) -> *mut T {
+    place.pointer().cast()
+}
+
+/// The places, as many as the function has.
+fn of<const COUNT: usize>(places: &mut [Place]) -> &mut [Place; COUNT] {
+    places.try_into().expect("as many places as the call has")
+}
+
+fn reader(call: &mut Call) -> u8 {
+    let (state, rest) = call.lent.split_first_mut().expect("a state");
+    let (size, state) = (state.size(), at(state));
+    match call.function {
+        Function::Start => unsafe { rtcm2_start(state, size) },
+        Function::Feed => unsafe { rtcm2_feed(state, size, call.given[0] as u8) },
+        Function::FeedAll => {
+            let ([used, passed], [bytes]) = (of(rest), of(&mut call.read));
+            let (count, bytes) = (bytes.size(), at(bytes));
+            unsafe { rtcm2_feed_all(state, size, bytes, count, at(used), at(passed)) }
+        }
+        Function::End => unsafe { rtcm2_end(state, size) },
+        Function::Take => {
+            let [frame, length, position] = of(rest);
+            let (room, frame) = (frame.size(), at(frame));
+            unsafe { rtcm2_take(state, size, frame, room, at(length), at(position)) }
+        }
+        other => unreachable!("{other:?}"),
+    }
+}
+
+fn writer(call: &mut Call) -> u8 {
+    match call.function {
+        Function::Open => {
+            let [line] = of(&mut call.lent);
+            unsafe { rtcm2_open(at(line), line.size()) }
+        }
+        Function::Write => {
+            let ([frame], [d29, d30, line, length]) = (of(&mut call.read), of(&mut call.lent));
+            let (size, frame) = (frame.size(), at(frame));
+            let (room, line) = (line.size(), at(line));
+            unsafe { rtcm2_write(frame, size, at(d29), at(d30), line, room, at(length)) }
+        }
+        other => unreachable!("{other:?}"),
+    }
+}
+
+fn read(call: &mut Call) -> u8 {
+    let [frame] = of(&mut call.read);
+    let (size, frame) = (frame.size(), at(frame));
+    let lent = &mut call.lent;
+    match call.function {
+        Function::Recall => {
+            let [kind, station, z, sequence, health, n, length] = of(lent);
+            let (kind, station, z, sequence) = (at(kind), at(station), at(z), at(sequence));
+            let (health, n, length) = (at(health), at(n), at(length));
+            unsafe { rtcm2_recall(frame, size, kind, station, z, sequence, health, n, length) }
+        }
+        Function::ReadPosition => {
+            let [x, y, z] = of(lent);
+            unsafe { rtcm2_read_position(frame, size, at(x), at(y), at(z)) }
+        }
+        Function::ReadNull => unsafe { rtcm2_read_null(frame, size) },
+        Function::ReadText => {
+            let [text, length] = of(lent);
+            unsafe { rtcm2_read_text(frame, size, at(text), text.size(), at(length)) }
+        }
+        other => unreachable!("{other:?}"),
+    }
+}
+
+fn list(call: &mut Call) -> u8 {
+    let ([frame], [lent]) = (of(&mut call.read), of(&mut call.lent));
+    let (size, frame) = (frame.size(), at(frame));
+    let (room, index) = (
+        lent.size(),
+        call.given.first().map(|number| *number as usize),
+    );
+    match (call.function, index) {
+        (Function::CountCorrections, None) => unsafe {
+            rtcm2_count_corrections(frame, size, at(lent))
+        },
+        (Function::CorrectionAt, Some(index)) => unsafe {
+            rtcm2_correction_at(frame, size, index, at(lent), room)
+        },
+        (Function::CountHealths, None) => unsafe { rtcm2_count_healths(frame, size, at(lent)) },
+        (Function::HealthAt, Some(index)) => unsafe {
+            rtcm2_health_at(frame, size, index, at(lent), room)
+        },
+        other => unreachable!("{other:?}"),
+    }
+}
+
+/// The four makers that have the same arguments.
+fn make(call: &mut Call) -> u8 {
+    let maker = match call.function {
+        Function::Keep => rtcm2_keep,
+        Function::MakeCorrections => rtcm2_make_corrections,
+        Function::MakeHealths => rtcm2_make_healths,
+        Function::MakeText => rtcm2_make_text,
+        other => unreachable!("{other:?}"),
+    };
+    let head = call.head();
+    let ([bytes], [frame, length]) = (of(&mut call.read), of(&mut call.lent));
+    let (size, bytes) = (bytes.size(), at(bytes));
+    let (room, frame) = (frame.size(), at(frame));
+    unsafe {
+        maker(
+            head.kind,
+            head.station,
+            head.z,
+            head.sequence,
+            head.health,
+            bytes,
+            size,
+            frame,
+            room,
+            at(length),
+        )
+    }
+}
+
+fn make_position(call: &mut Call) -> u8 {
+    let head = call.head();
+    let [x, y, z] = [5, 6, 7].map(|i| call.given[i] as i32);
+    let [frame, length] = of(&mut call.lent);
+    let (room, frame) = (frame.size(), at(frame));
+    unsafe {
+        rtcm2_make_position(
+            head.kind,
+            head.station,
+            head.z,
+            head.sequence,
+            head.health,
+            x,
+            y,
+            z,
+            frame,
+            room,
+            at(length),
+        )
+    }
+}
+
+fn make_null(call: &mut Call) -> u8 {
+    let head = call.head();
+    let [frame, length] = of(&mut call.lent);
+    let (room, frame) = (frame.size(), at(frame));
+    unsafe {
+        rtcm2_make_null(
+            head.kind,
+            head.station,
+            head.z,
+            head.sequence,
+            head.health,
+            frame,
+            room,
+            at(length),
+        )
+    }
+}
+
+fn number(call: &mut Call) -> u8 {
+    let (given, [is, value]) = (&call.given, of(&mut call.lent));
+    let code = given[0] as u8;
+    match call.function {
+        Function::PrcMm => unsafe { rtcm2_prc_mm(code, given[1] as i16, at(is), at(value)) },
+        Function::RrcMmS => unsafe { rtcm2_rrc_mm_s(code, given[1] as i8, at(is), at(value)) },
+        Function::UdreLimitMm => unsafe {
+            rtcm2_udre_limit_mm(code, given[1] as u8, at(is), at(value))
+        },
+        Function::Cn0Dbhz => unsafe { rtcm2_cn0_dbhz(code, at(is), at(value)) },
+        other => unreachable!("{other:?}"),
+    }
+}

@@ -1,0 +1,151 @@
+//! The same calls through the model.
+
+use crate::call::{Call, Function};
+use crate::place::Place;
+use rtcm2_model::library::frames::{self, Recalled};
+use rtcm2_model::library::{line, lists, numbers, records};
+use rtcm2_model::record::position::Position;
+
+/// Makes the call and gives its answer.
+pub fn answer(call: &mut Call) -> u64 {
+    match call.function {
+        Function::StateSize => line::state_size() as u64,
+        Function::Start | Function::Feed | Function::FeedAll | Function::End | Function::Take => {
+            u64::from(reader(call))
+        }
+        Function::Open | Function::Write => u64::from(writer(call)),
+        Function::Recall | Function::ReadPosition | Function::ReadNull | Function::ReadText => {
+            u64::from(read(call))
+        }
+        Function::CountCorrections
+        | Function::CorrectionAt
+        | Function::CountHealths
+        | Function::HealthAt => u64::from(list(call)),
+        Function::Keep
+        | Function::MakeCorrections
+        | Function::MakeHealths
+        | Function::MakePosition
+        | Function::MakeNull
+        | Function::MakeText => u64::from(make(call)),
+        Function::PrcMm | Function::RrcMmS | Function::UdreLimitMm | Function::Cn0Dbhz => {
+            u64::from(number(call))
+        }
+    }
+}
+
+/// The places, as many as the function has.
+fn of<const COUNT: usize>(places: &mut [Place]) -> &mut [Place; COUNT] {
+    places.try_into().expect("as many places as the call has")
+}
+
+fn reader(call: &mut Call) -> u8 {
+    let (state, rest) = call.lent.split_first_mut().expect("a state");
+    let state = state.bytes();
+    match call.function {
+        Function::Start => line::start(state),
+        Function::Feed => line::feed(state, call.given[0] as u8),
+        Function::FeedAll => {
+            let ([used, passed], [bytes]) = (of(rest), of(&mut call.read));
+            line::feed_all(state, bytes.bytes(), used.number(), passed.number())
+        }
+        Function::End => line::end(state),
+        Function::Take => {
+            let [frame, length, at] = of(rest);
+            line::take(state, frame.bytes(), length.number(), at.number())
+        }
+        other => unreachable!("{other:?}"),
+    }
+}
+
+fn writer(call: &mut Call) -> u8 {
+    match call.function {
+        Function::Open => {
+            let [line] = of(&mut call.lent);
+            line::open(line.bytes())
+        }
+        Function::Write => {
+            let ([frame], [d29, d30, line, length]) = (of(&mut call.read), of(&mut call.lent));
+            let (d29, d30) = (d29.number(), d30.number());
+            line::write(frame.bytes(), d29, d30, line.bytes(), length.number())
+        }
+        other => unreachable!("{other:?}"),
+    }
+}
+
+fn read(call: &mut Call) -> u8 {
+    let ([frame], lent) = (of(&mut call.read), &mut call.lent);
+    let frame = frame.bytes();
+    match call.function {
+        Function::Recall => {
+            let [kind, station, z, sequence, health, n, length] = of(lent);
+            let into = Recalled {
+                kind: kind.number(),
+                station: station.number(),
+                z: z.number(),
+                sequence: sequence.number(),
+                health: health.number(),
+                n: n.number(),
+                length: length.number(),
+            };
+            frames::recall(frame, into)
+        }
+        Function::ReadPosition => {
+            let [x, y, z] = of(lent);
+            records::read_position(frame, x.number(), y.number(), z.number())
+        }
+        Function::ReadNull => records::read_null(frame),
+        Function::ReadText => {
+            let [text, length] = of(lent);
+            records::read_text(frame, text.bytes(), length.number())
+        }
+        other => unreachable!("{other:?}"),
+    }
+}
+
+fn list(call: &mut Call) -> u8 {
+    let ([frame], [lent]) = (of(&mut call.read), of(&mut call.lent));
+    let (frame, index) = (
+        frame.bytes(),
+        call.given.first().map(|number| *number as usize),
+    );
+    match (call.function, index) {
+        (Function::CountCorrections, None) => lists::count_corrections(frame, lent.number()),
+        (Function::CorrectionAt, Some(index)) => lists::correction_at(frame, index, lent.bytes()),
+        (Function::CountHealths, None) => lists::count_healths(frame, lent.number()),
+        (Function::HealthAt, Some(index)) => lists::health_at(frame, index, lent.bytes()),
+        other => unreachable!("{other:?}"),
+    }
+}
+
+fn make(call: &mut Call) -> u8 {
+    let head = call.head();
+    let [frame, length] = of(&mut call.lent);
+    let (frame, length) = (frame.bytes(), length.number());
+    let read = &mut call.read;
+    match call.function {
+        Function::Keep => frames::keep(head, of::<1>(read)[0].bytes(), frame, length),
+        Function::MakeCorrections => {
+            lists::make_corrections(head, of::<1>(read)[0].bytes(), frame, length)
+        }
+        Function::MakeHealths => lists::make_healths(head, of::<1>(read)[0].bytes(), frame, length),
+        Function::MakePosition => {
+            let [x, y, z] = [5, 6, 7].map(|i| call.given[i] as i32);
+            records::make_position(head, Position { x, y, z }, frame, length)
+        }
+        Function::MakeNull => records::make_null(head, frame, length),
+        Function::MakeText => records::make_text(head, of::<1>(read)[0].bytes(), frame, length),
+        other => unreachable!("{other:?}"),
+    }
+}
+
+fn number(call: &mut Call) -> u8 {
+    let (given, [is, value]) = (&call.given, of(&mut call.lent));
+    let (code, is) = (given[0] as u8, is.number());
+    match call.function {
+        Function::PrcMm => numbers::prc_mm(code, given[1] as i16, is, value.number()),
+        Function::RrcMmS => numbers::rrc_mm_s(code, given[1] as i8, is, value.number()),
+        Function::UdreLimitMm => numbers::udre_limit_mm(code, given[1] as u8, is, value.number()),
+        Function::Cn0Dbhz => numbers::cn0_dbhz(code, is, value.number()),
+        other => unreachable!("{other:?}"),
+    }
+}

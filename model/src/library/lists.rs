@@ -1,0 +1,140 @@
+//! The types whose frames hold a list: corrections (1 and 9) and health (5). An
+//! entry is a row of bytes.
+
+use super::{frame_in, keep_frame, numbered, Head};
+use crate::record::correction::{self, Correction};
+use crate::record::health::{self, Health};
+use crate::refusal::{Answer, Refusal};
+
+/// Bytes of a correction.
+pub const CORRECTION_SIZE: usize = 7;
+
+/// Bytes of a satellite's health.
+pub const HEALTH_SIZE: usize = 10;
+
+/// Number of corrections. Refuses with 14, 15, 16, 15, 16, 6, 7, 8.
+pub fn count_corrections(frame: &[u8], count: &mut usize) -> u8 {
+    let counted = frame_in(frame).and_then(|frame| correction::count(&frame));
+    numbered(counted.map(|found| *count = found))
+}
+
+/// One correction. Refuses with 14, 15, 16, 15, 16, 6, 7, 8, 9, 13.
+pub fn correction_at(frame: &[u8], index: usize, row: &mut [u8]) -> u8 {
+    let found = frame_in(frame).and_then(|frame| correction::entry(&frame, index));
+    numbered(found.and_then(|entry| put_row(&correction_row(&entry), row)))
+}
+
+/// Makes a frame of corrections. Refuses with 5, 6, 7, 12, 10, 13.
+pub fn make_corrections(head: Head, rows: &[u8], frame: &mut [u8], length: &mut usize) -> u8 {
+    numbered(corrections_made(head, rows, frame, length))
+}
+
+fn corrections_made(head: Head, rows: &[u8], frame: &mut [u8], length: &mut usize) -> Answer<()> {
+    let mut entries = [Correction::default(); correction::MOST];
+    for (entry, row) in entries.iter_mut().zip(rows.chunks_exact(CORRECTION_SIZE)) {
+        *entry = correction_of(row);
+    }
+    let count = row_count(rows, CORRECTION_SIZE);
+    let made = correction::make(&head.header()?, &entries, count)?;
+    keep_frame(&made, frame, length)
+}
+
+/// Number of satellites. Refuses with 14, 15, 16, 15, 16, 6, 7, 8.
+pub fn count_healths(frame: &[u8], count: &mut usize) -> u8 {
+    let counted = frame_in(frame).and_then(|frame| health::count(&frame));
+    numbered(counted.map(|found| *count = found))
+}
+
+/// One satellite's health. Refuses with 14, 15, 16, 15, 16, 6, 7, 8, 9, 13.
+pub fn health_at(frame: &[u8], index: usize, row: &mut [u8]) -> u8 {
+    let found = frame_in(frame).and_then(|frame| health::entry(&frame, index));
+    numbered(found.and_then(|entry| put_row(&health_row(&entry), row)))
+}
+
+/// Makes a frame of satellites' health. Refuses with 5, 6, 7, 12, 10, 13.
+pub fn make_healths(head: Head, rows: &[u8], frame: &mut [u8], length: &mut usize) -> u8 {
+    numbered(healths_made(head, rows, frame, length))
+}
+
+fn healths_made(head: Head, rows: &[u8], frame: &mut [u8], length: &mut usize) -> Answer<()> {
+    let mut entries = [Health::default(); health::MOST];
+    for (entry, row) in entries.iter_mut().zip(rows.chunks_exact(HEALTH_SIZE)) {
+        *entry = health_of(row);
+    }
+    let count = row_count(rows, HEALTH_SIZE);
+    let made = health::make(&head.header()?, &entries, count)?;
+    keep_frame(&made, frame, length)
+}
+
+/// Rows in the bytes; none where they are no whole number of rows.
+fn row_count(rows: &[u8], size: usize) -> usize {
+    if rows.len().is_multiple_of(size) {
+        rows.len() / size
+    } else {
+        0
+    }
+}
+
+/// Puts a row into the first of the lent bytes. Refuses with 13.
+fn put_row(row: &[u8], lent: &mut [u8]) -> Answer<()> {
+    let place = lent.get_mut(..row.len()).ok_or(Refusal::BufferTooShort)?;
+    place.copy_from_slice(row);
+    Ok(())
+}
+
+/// The row of a correction: PRC and RRC in two's complement, PRC low byte first.
+pub fn correction_row(entry: &Correction) -> [u8; CORRECTION_SIZE] {
+    let [prc_low, prc_high] = entry.prc.to_le_bytes();
+    let rrc = entry.rrc as u8;
+    [
+        entry.scale,
+        entry.udre,
+        entry.satellite,
+        prc_low,
+        prc_high,
+        rrc,
+        entry.iod,
+    ]
+}
+
+fn correction_of(row: &[u8]) -> Correction {
+    Correction {
+        scale: row[0],
+        udre: row[1],
+        satellite: row[2],
+        prc: i16::from_le_bytes([row[3], row[4]]),
+        rrc: row[5] as i8,
+        iod: row[6],
+    }
+}
+
+/// The row of a satellite's health, its fields in the order sent.
+pub fn health_row(entry: &Health) -> [u8; HEALTH_SIZE] {
+    [
+        entry.reserved_first,
+        entry.satellite,
+        entry.iod_link,
+        entry.health,
+        entry.cn0,
+        entry.enable,
+        entry.new_data,
+        entry.loss_warning,
+        entry.time,
+        entry.reserved_last,
+    ]
+}
+
+fn health_of(row: &[u8]) -> Health {
+    Health {
+        reserved_first: row[0],
+        satellite: row[1],
+        iod_link: row[2],
+        health: row[3],
+        cn0: row[4],
+        enable: row[5],
+        new_data: row[6],
+        loss_warning: row[7],
+        time: row[8],
+        reserved_last: row[9],
+    }
+}

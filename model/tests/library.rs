@@ -1,0 +1,90 @@
+//! The library's calls against the definition: streams read in pieces through
+//! the state's bytes give the frames of `scan`, and what they give is read back.
+
+use rtcm2_model::library::{line, lists, state};
+use rtcm2_model::line::bits_of_bytes;
+use rtcm2_model::record::correction;
+use rtcm2_model::rng::Rng;
+use rtcm2_model::scan::scan;
+use rtcm2_model::{journal, streams};
+
+/// Takes every frame that waits.
+fn take_all(state: &mut [u8], found: &mut Vec<(usize, Vec<u8>)>) {
+    loop {
+        let (mut frame, mut length, mut at) = ([0; 102], 0, 0);
+        match line::take(state, &mut frame, &mut length, &mut at) {
+            0 => found.push((at as usize, frame[..length].to_vec())),
+            refusal => return assert_eq!(refusal, 4),
+        }
+    }
+}
+
+/// The frames of a stream, read in random pieces.
+fn read(bytes: &[u8], rng: &mut Rng) -> Vec<(usize, Vec<u8>)> {
+    let mut state = [0xFF; state::SIZE];
+    let mut found = Vec::new();
+    let mut fed = 0;
+    assert_eq!(line::start(&mut state), 0);
+    while fed < bytes.len() {
+        let piece = &bytes[fed..bytes.len().min(fed + 1 + rng.place(200))];
+        let (mut used, mut passed) = (0, 0);
+        let answer = line::feed_all(&mut state, piece, &mut used, &mut passed);
+        assert_eq!(answer, 0);
+        fed += used;
+        take_all(&mut state, &mut found);
+    }
+    assert_eq!(line::end(&mut state), 0);
+    take_all(&mut state, &mut found);
+    found
+}
+
+#[test]
+fn streams_give_the_frames_of_the_scan() {
+    let mut rng = Rng::named("library");
+    for stream in streams::all() {
+        let mut expected = Vec::new();
+        for (at, frame) in scan(&bits_of_bytes(&stream.bytes), true) {
+            let mut record = [0; 102];
+            let length = journal::keep(&frame, &mut record).unwrap();
+            expected.push((at, record[..length].to_vec()));
+        }
+        assert_eq!(read(&stream.bytes, &mut rng), expected, "{}", stream.name);
+    }
+}
+
+#[test]
+fn corrections_are_rows_of_the_entries() {
+    let mut rng = Rng::named("rows");
+    for count in 1..=correction::MOST {
+        let frame = rtcm2_model::samples::correction_frame(&mut rng, 9, count);
+        let mut record = [0; 102];
+        journal::keep(&frame, &mut record).unwrap();
+        let mut counted = 0;
+        assert_eq!(lists::count_corrections(&record, &mut counted), 0);
+        assert_eq!(counted, count);
+        for i in 0..count {
+            let mut row = [0; lists::CORRECTION_SIZE];
+            assert_eq!(lists::correction_at(&record, i, &mut row), 0);
+            let entry = correction::entry(&frame, i).unwrap();
+            let prc = i16::from(row[4] as i8) * 256 + i16::from(row[3]);
+            assert_eq!((row[2], prc), (entry.satellite, entry.prc));
+        }
+    }
+}
+
+#[test]
+fn bytes_that_hold_no_state_are_refused() {
+    let mut state = [0; 200];
+    assert_eq!(line::start(&mut state[..187]), 13);
+    assert_eq!(line::start(&mut state), 0);
+    let fresh = state;
+    assert_eq!(&fresh[..8], b"R2S1\0\0\0\0");
+    assert_eq!(line::feed(&mut state[..187], 0x40), 5);
+    for (place, number) in [(0, 0), (20, 2), (24, 2), (21, 1), (5, 6), (12, 33)] {
+        state[place] = number;
+        assert_eq!(line::feed(&mut state, 0x40), 5, "byte {place}");
+        state[place] = fresh[place];
+    }
+    assert_eq!(state, fresh);
+    assert_eq!(line::feed(&mut state, 0x40), 0);
+}
