@@ -1,7 +1,7 @@
-// Makes the four streams of the benchmark, 400,000 bytes each, in the folder given: always the same ones.
+// Makes the streams of the benchmark, 4,000,000 bytes each, in the folder given: always the same ones.
 use std::path::Path;
 
-const LENGTH: usize = 400_000;
+const LENGTH: usize = 4_000_000;
 
 // Six line bits a byte, the first one lowest.
 const BITS: usize = 6 * LENGTH;
@@ -68,46 +68,75 @@ impl Line {
     }
 }
 
-// Right frames of types 1 and 9 back to back, after some zero bits.
-fn frames(lead: usize) -> Vec<u8> {
-    let mut random = Random(0x9E37_79B9_7F4A_7C15);
+const SEED: u64 = 0x9E37_79B9_7F4A_7C15;
+
+// A frame of type 1 or 9 with N as those have it and random data.
+fn frame(line: &mut Line, random: &mut Random) {
+    let n = [2, 4, 5, 7, 9, 10, 12, 14, 15, 17][random.below(10) as usize];
+    let kind = [1, 9][random.below(2) as usize];
+    line.header(random, kind, n);
+    line.words(random, n as u64);
+}
+
+// Bytes of a line that begins with zero bits and goes on piece by piece.
+fn stream(lead: usize, piece: impl Fn(&mut Line, &mut Random)) -> Vec<u8> {
+    let mut random = Random(SEED);
     let mut line = Line(vec![false; lead]);
     while line.0.len() < BITS {
-        let n = [2, 4, 5, 7, 9, 10, 12, 14, 15, 17][random.below(10) as usize];
-        let kind = [1, 9][random.below(2) as usize];
-        line.header(&mut random, kind, n);
-        line.words(&mut random, n as u64);
+        piece(&mut line, &mut random);
     }
     line.bytes()
+}
+
+// Before each frame a header that says N 31, up to five right words and a stray bit: it holds until a word fails, and covers the frame.
+fn false_start(line: &mut Line, random: &mut Random) {
+    line.header(random, 1, 31);
+    let n = random.below(6);
+    line.words(random, n);
+    stray(line, random);
+    frame(line, random);
+}
+
+// A header that says N 31, fewer right words than that, and a stray bit. The few frames in it are those that the random words make.
+fn cut_short(line: &mut Line, random: &mut Random) {
+    line.header(random, 1, 31);
+    let n = random.below(30);
+    line.words(random, n);
+    stray(line, random);
+}
+
+fn stray(line: &mut Line, random: &mut Random) {
+    line.0.push(random.below(2) == 1);
 }
 
 // Random line bits.
 fn noise() -> Vec<u8> {
-    let mut random = Random(0x9E37_79B9_7F4A_7C15);
+    let mut random = Random(SEED);
     (0..LENGTH).map(|_| 0x40 + random.below(64) as u8).collect()
 }
 
-// Headers with N 31, each with fewer right words than that and a stray bit after them. The few frames in it are those that the random words make.
-fn cut_short() -> Vec<u8> {
-    let mut random = Random(0x9E37_79B9_7F4A_7C15);
-    let mut line = Line(vec![false; 6]);
-    while line.0.len() < BITS {
-        line.header(&mut random, 1, 31);
-        let n = random.below(30);
-        line.words(&mut random, n);
-        let stray = random.below(2) == 1;
-        line.0.push(stray);
-    }
-    line.bytes()
+// Every bit turned over.
+fn turned(bytes: &[u8]) -> Vec<u8> {
+    bytes.iter().map(|byte| byte ^ 0x3F).collect()
+}
+
+// One byte of every 2,000 lost.
+fn dropped(bytes: &[u8]) -> Vec<u8> {
+    let kept = bytes.iter().enumerate().filter(|(i, _)| i % 2000 != 1000);
+    kept.map(|(_, byte)| *byte).collect()
 }
 
 fn main() {
     let folder = std::env::args().nth(1).expect("a folder");
+    let clean = stream(6, frame);
     let streams = [
-        ("a", frames(6)),
-        ("b", noise()),
-        ("c", frames(7)),
-        ("d", cut_short()),
+        ("turned", turned(&clean)),
+        ("dropped", dropped(&clean)),
+        ("clean", clean),
+        ("false", stream(6, false_start)),
+        ("off_grid", stream(7, frame)),
+        ("noise", noise()),
+        ("cut_short", stream(6, cut_short)),
     ];
     for (name, bytes) in streams {
         std::fs::write(Path::new(&folder).join(name), bytes).expect("a stream written");
