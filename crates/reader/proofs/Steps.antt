@@ -69,10 +69,11 @@ module _ (cells : List ℕ) (len : length cells ≡ 40) (end : ℕ) (top : end �
   nine-held c =
       ap number (sym (ap (take 9) (drop-take 1 31 (heldBits cells end left)) ∙ take-take 9 31 (drop 1 (heldBits cells end left)) (omega arith) ∙ held-bit cells end left 1 9 (omega arith) low))
 
-  pub step-seek : (k t : ℕ) → k ≡ 0 → 32 ≤ left → t ≡ number (take 9 (drop (end - left + 1) (cellBits cells))) → (t ≡ 102 → ⊥) → (t ≡ 409 → ⊥) → huntOf cells end left k false ≡ huntOf cells end (left - 1) k false
+  pub step-seek : (ended : Bool) (k t : ℕ) → k ≡ 0 → 32 ≤ left → t ≡ number (take 9 (drop (end - left + 1) (cellBits cells))) → (t ≡ 102 → ⊥) → (t ≡ 409 → ⊥)
+      → huntOf cells end left k ended ≡ huntOf cells end (left - 1) k ended
   unfolding huntOf
-  step-seek k t z c e f g =
-      rw z (ap stopOf (hunt-out false 0 (omega arith) (heldBits cells end left) (omega (arith, long)) headless ∙ ap (hunt false 0) (next-bits (omega arith))))
+  step-seek ended k t z c e f g =
+      rw z (ap stopOf (hunt-out ended 0 (omega arith) (heldBits cells end left) (omega (arith, long)) headless ∙ ap (hunt ended 0) (next-bits (omega arith))))
     where
       is : t ≡ number (take 9 (drop 1 (wordAt 0 (heldBits cells end left))))
       is = e ∙ nine-held c

@@ -1,6 +1,6 @@
 // The hunt for a frame over the bits held.
 ghost use mathlib.Core.Path.{_≡_};
-ghost use mathlib.Core.Bool.{false};
+ghost use mathlib.Core.Bool.{Bool};
 ghost use Prim.Native.Nat.{_≤_};
 ghost use lib.ListN.{length};
 ghost use Rattle.bits.specs.Bits.{bits};
@@ -22,12 +22,12 @@ fn right(k: usize, window: u32) -> bool
     ensures { λ r. ⌜ r ≡ rightly k (bits 32 window) ⌝ }
 {
     if k != 0 {
-        return word::remainder(window) == 0;
+        return word::passes(window);
     }
     if !frame::has_preamble(word::data_of(window)) {
         return false;
     }
-    word::remainder(window) == 0
+    word::passes(window)
 }
 
 // N, in the window of a second word.
@@ -41,7 +41,7 @@ pub(crate) fn n_in(window: u32) -> usize
 // hunt from here, so it may stop early.
 pub(crate) fn seek(cells: &[u32; 40], end: usize, left: usize, words: usize) -> usize
     requires { ⌜ (length (now cells) ≡ 40) × (end ≤ 1280) × (left ≤ end) ⌝ }
-    ensures { λ r. ⌜ (r ≤ left) × (huntOf (now (cells .entry)) end left words false ≡ huntOf (now (cells .entry)) end r words false) ⌝ }
+    ensures { λ r. ⌜ (r ≤ left) × ((ended : Bool) → huntOf (now (cells .entry)) end left words ended ≡ huntOf (now (cells .entry)) end r words ended) ⌝ }
 {
     if words != 0 {
         return left;
@@ -82,7 +82,7 @@ pub(crate) fn hunt(cells: &[u32; 40], end: usize, held: usize, words: usize, end
         while 32 + 30 * good <= left {
             let w = crate::cells::window(cells, end - left + 30 * good);
             if !right(good, w) {
-                left -= 1;
+                left = seek(cells, end, left - 1, 0);
                 good = 0;
                 continue 'position;
             }

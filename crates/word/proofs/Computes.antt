@@ -5,71 +5,68 @@ use mathlib.Core.List.{List, [], _∷_, _++_, map}
 use Prim.Native.Nat.{ℕ, _+_, _*_, _/_, _%_, _^_, _<_}
 use native.Mathlib.Nat.{mod-lt, mod-eq-of-lt, div-one, lt-of-le-of-lt}
 use native.Mathlib.Omega.{arith}
-use lib.Dec.{lit<}
+use lib.Dec.{eqb, lit<}
 use lib.ListN.{getD, replicate}
 use lib.Pow.{pow-pos}
 use lib.Bits.{bitAnd, bitXor, and-le-r, xor-lt}
 use lib.Count.{ones}
 use borrow.Author.Tests.{lt-leb}
-use Rattle.bits.specs.Bits.{_⊻_, _⊕_, odd, val, isOdd, bits, number}
-use Rattle.bits.proofs.Xor.{val-odd, val-xor, xor-self, getD-xor, odd-xors, map-xor}
-use Rattle.bits.proofs.Numbers.{odd-ones, bits-xor, bits-mod, bits-split, bits-number, bits-cat, length-bits, number-bits, number-lt, number-xor, number-append}
+use Rattle.bits.specs.Bits.{_⊻_, _⊕_, val, isOdd, bits, number}
+use Rattle.bits.proofs.Xor.{val-odd, xor-self, getD-xor}
+use Rattle.bits.proofs.Numbers.{odd-ones, bits-xor, bits-mod, bits-split, bits-cat, length-bits, number-bits, number-lt, number-append}
 use Rattle.bits.proofs.Linear.{columns, sum, spanned, odd-mask}
-use Rattle.word.specs.Word.{nth, d29*, d30*, rows, turnedBy, parity, dataOf, received, computed, remainderOf, passes, sent}
+use Rattle.word.specs.Word.{d29*, d30*, turnedBy, parity, dataOf, received, computed, remainderOf, passes, sent}
 use Rattle.word.specs.Answer.{sentAt, wordOf}
 use Rattle.word.specs.declared.Sent.the-variants.{Word, Refused}
-use Rattle.word.proofs.Sending.{data-number, passes-sent, data-sent}
+use Rattle.word.proofs.Linearity.{zeros, remainder-xor}
+use Rattle.word.proofs.Sending.{parity-left, passes-sent, data-sent}
 
--- the data bits of row i of the table, and the odd parity of those of a list
-abbrev terms : ℕ → List ℕ
-unfolding rows
-terms i = getD (map (λ r. r .2) rows) i []
+-- one bit of the remainder
+abbrev remainderAt : ℕ → List Bool → Bool
+remainderAt i w = getD (remainderOf w) i false
 
-abbrev among : List ℕ → List Bool → Bool
-among is ds = odd (map (nth ds) is)
+at-xor : (i : ℕ) (v w : List Bool) → remainderAt i (v ⊕ w) ≡ remainderAt i v ⊻ remainderAt i w
+at-xor i v w = ap (λ r. getD r i false) (remainder-xor v w) ∙ getD-xor (remainderOf v) (remainderOf w) i
 
-among-xor : (is : List ℕ) (a b : List Bool) → among is (a ⊕ b) ≡ among is a ⊻ among is b
-among-xor is a b =
-    ap odd (map-xor (nth (a ⊕ b)) (nth a) (nth b) (getD-xor (false ∷ a) (false ∷ b)) is) ∙ odd-xors (map (nth a) is) (map (nth b) is)
-
--- a mask that has the row's bits does what the row says
-masked : (is : List ℕ) (m n : ℕ) → columns _⊻_ false (among is) 24 ≡ bits 24 m → m < 2 ^ 24 → among is (bits 24 n) ≡ isOdd (ones (bitAnd n m))
-masked is m n e h =
-    spanned _⊻_ false (among is) (among-xor is) (λ a. xor-self (among is a)) (bits 24 n)
-    ∙ ap (λ k. sum _⊻_ false (bits 24 n) (columns _⊻_ false (among is) k)) (length-bits 24 n)
-    ∙ ap (sum _⊻_ false (bits 24 n)) e
-    ∙ sym (odd-mask 24 n m)
-    ∙ sym (odd-ones 24 (bitAnd n m))
-    ∙ ap (λ k. isOdd (ones k)) (mod-eq-of-lt (lt-of-le-of-lt (and-le-r n m) h))
-
--- one mask's answer, as `odd_of` gives it
-abbrev oddOf : ℕ → ℕ → ℕ
-oddOf x c = (ones x + c % 2) % 2
-
-row : (is : List ℕ) (m n c : ℕ) (b : Bool) → columns _⊻_ false (among is) 24 ≡ bits 24 m → m < 2 ^ 24 → val b ≡ c % 2
-    → oddOf (bitAnd n m) c ≡ val (b ⊻ among is (bits 24 n))
-row is m n c b e h v = omega (arith, val-xor b (among is (bits 24 n)), ap val (masked is m n e h), val-odd (ones (bitAnd n m)))
+-- a mask that has the columns of that bit gives it, as `odd_of` does
+masked : (i m n : ℕ) → columns _⊻_ false (remainderAt i) 32 ≡ bits 32 m → m < 2 ^ 32 → ones (bitAnd n m) % 2 ≡ val (remainderAt i (bits 32 n))
+masked i m n e h =
+    sym (val-odd (ones (bitAnd n m)))
+    ∙ ap val
+    (ap (λ k. isOdd (ones k)) (sym (mod-eq-of-lt (lt-of-le-of-lt (and-le-r n m) h)))
+    ∙ odd-ones 32 (bitAnd n m)
+    ∙ odd-mask 32 n m
+    ∙ ap (sum _⊻_ false (bits 32 n)) (sym e)
+    ∙ ap (λ k. sum _⊻_ false (bits 32 n) (columns _⊻_ false (remainderAt i) k)) (sym (length-bits 32 n))
+    ∙ sym (spanned _⊻_ false (remainderAt i) (at-xor i) (λ a. xor-self (remainderAt i a)) (bits 32 n)))
 
 six : (b₁ b₂ b₃ b₄ b₅ b₆ : Bool) {n₁ n₂ n₃ n₄ n₅ n₆ : ℕ} → n₁ ≡ val b₁ → n₂ ≡ val b₂ → n₃ ≡ val b₃ → n₄ ≡ val b₄ → n₅ ≡ val b₅ → n₆ ≡ val b₆
-    → n₁ * 32 + n₂ * 16 + n₃ * 8 + n₄ * 4 + n₅ * 2 + n₆ ≡ number (b₁ ∷ b₂ ∷ b₃ ∷ b₄ ∷ b₅ ∷ b₆ ∷ [])
+    → ((((n₁ * 2 + n₂) * 2 + n₃) * 2 + n₄) * 2 + n₅) * 2 + n₆ ≡ number (b₁ ∷ b₂ ∷ b₃ ∷ b₄ ∷ b₅ ∷ b₆ ∷ [])
 unfolding number
 six b₁ b₂ b₃ b₄ b₅ b₆ e₁ e₂ e₃ e₄ e₅ e₆ = omega arith
 
-pub parity-law : (c n : ℕ)
-    → oddOf (bitAnd n 0xec7cd2) (c / 2) * 32 + oddOf (bitAnd n 0x763e69) c * 16 + oddOf (bitAnd n 0xbb1f34) (c / 2) * 8
-    + oddOf (bitAnd n 0x5d8f9a) c * 4 + oddOf (bitAnd n 0xaec7cd) c * 2 + oddOf (bitAnd n 0x2dea27) (c / 2)
-    ≡ number (parity (d29* (bits 2 c)) (d30* (bits 2 c)) (bits 24 n))
-unfolding bits parity
-parity-law c n =
-    let b : val (isOdd (c / 1)) ≡ c % 2 = omega (arith, val-odd (c / 1)) in
-    let a = val-odd (c / 2) in
+-- what one mask keeps of n, modulo two
+abbrev oddOf : ℕ → ℕ → ℕ
+oddOf n m = ones (bitAnd n m) % 2
+
+abbrev pub sixOdd : ℕ → ℕ
+sixOdd w =
+    ((((oddOf w 0xbb1f34a0 * 2 + oddOf w 0x5d8f9a50) * 2 + oddOf w 0xaec7cd08) * 2 + oddOf w 0x5763e684) * 2 + oddOf w 0x2bb1f342) * 2 + oddOf w 0xcb7a89c1
+
+pub remainder-law : (w : ℕ) → sixOdd w ≡ number (remainderOf (bits 32 w))
+unfolding bits remainderOf received computed parity dataOf
+remainder-law w =
     six _ _ _ _ _ _
-    (row (terms 0) 0xec7cd2 n (c / 2) (isOdd (c / 2)) refl (lit< tt) a)
-    (row (terms 1) 0x763e69 n c (isOdd (c / 1)) refl (lit< tt) b)
-    (row (terms 2) 0xbb1f34 n (c / 2) (isOdd (c / 2)) refl (lit< tt) a)
-    (row (terms 3) 0x5d8f9a n c (isOdd (c / 1)) refl (lit< tt) b)
-    (row (terms 4) 0xaec7cd n c (isOdd (c / 1)) refl (lit< tt) b)
-    (row (terms 5) 0x2dea27 n (c / 2) (isOdd (c / 2)) refl (lit< tt) a)
+    (masked 0 0xbb1f34a0 w refl (lit< tt))
+    (masked 1 0x5d8f9a50 w refl (lit< tt))
+    (masked 2 0xaec7cd08 w refl (lit< tt))
+    (masked 3 0x5763e684 w refl (lit< tt))
+    (masked 4 0x2bb1f342 w refl (lit< tt))
+    (masked 5 0xcb7a89c1 w refl (lit< tt))
+
+pub test-law : (w : ℕ) → passes (bits 32 w) ≡ eqb (sixOdd w) 0
+unfolding passes
+test-law w = ap (λ n. eqb n 0) (sym (remainder-law w))
 
 flat : (b : Bool) → bits 24 (val b * 16777215) ≡ replicate 24 b
 unfolding bits
@@ -93,44 +90,35 @@ pub data-law : (w : ℕ) → number (turnedBy (d30* (bits 2 (w / 2 ^ 30))) (bits
 unfolding bits turnedBy dataOf
 data-law w = ap (λ l. number (dataOf l)) (sym (whole w))
 
-ends : (w : ℕ) → received (bits 32 w) ≡ bits 6 w
-unfolding bits received
-ends w = refl
-
-first : (w : ℕ) → d29* (bits 32 w) ≡ d29* (bits 2 (w / 2 ^ 30))
-unfolding bits
-first w = ap d29* (whole w)
-
-second : (w : ℕ) → d30* (bits 32 w) ≡ d30* (bits 2 (w / 2 ^ 30))
-unfolding bits
-second w = ap d30* (whole w)
-
-asked : (w : ℕ) → computed (bits 32 w) ≡ parity (d29* (bits 2 (w / 2 ^ 30))) (d30* (bits 2 (w / 2 ^ 30))) (dataOf (bits 32 w))
-unfolding computed
-asked w = ap₂ (λ a b. parity a b (dataOf (bits 32 w))) (first w) (second w)
-
-parts : (w : ℕ) → number (remainderOf (bits 32 w)) ≡ bitXor (number (received (bits 32 w))) (number (computed (bits 32 w)))
-unfolding remainderOf received computed parity
-parts w = number-xor 6 (received (bits 32 w)) (computed (bits 32 w)) refl refl
-
-pub remainder-law : (w : ℕ)
-    → bitXor (w % 64) (number (parity (d29* (bits 2 (w / 2 ^ 30))) (d30* (bits 2 (w / 2 ^ 30))) (bits 24 (number (dataOf (bits 32 w))))))
-    ≡ number (remainderOf (bits 32 w))
-remainder-law w =
-    ap₂ (λ a b. bitXor a (number b)) (sym (ap number (ends w) ∙ number-bits 6 w)) (ap (parity (d29* (bits 2 (w / 2 ^ 30))) (d30* (bits 2 (w / 2 ^ 30)))) (data-number (bits 32 w)) ∙ sym (asked w))
-    ∙ sym (parts w)
-
-pub sent-law : (a b : Bool) (ds : List Bool) → number (turnedBy b ds) * 64 + number (parity a b ds) ≡ number (sent a b ds)
-unfolding sent
-sent-law a b ds = sym (number-append (turnedBy b ds) (parity a b ds))
-
 pub turned-lt : (b : Bool) (ds : List Bool) → number (turnedBy b ds) < 2 ^ 24
 unfolding turnedBy
 turned-lt b ds = number-lt (turnedBy b ds)
 
-pub parity-lt : (a b : Bool) (ds : List Bool) → number (parity a b ds) < 2 ^ 6
-unfolding parity
-parity-lt a b ds = number-lt (parity a b ds)
+pub remainder-lt : (r : ℕ) (w : List Bool) → r ≡ number (remainderOf w) → r < 2 ^ 6
+unfolding remainderOf received computed parity
+remainder-lt r w e = omega (arith, number-lt (remainderOf w))
+
+-- the word to send: the data turned, and for parity the remainder that it has with parity bits of zeros
+pub sent-law : (c d : ℕ) → c < 4
+    → number (turnedBy (d30* (bits 2 c)) (bits 24 d)) * 64
+    + number (remainderOf (bits 32 (c * 2 ^ 30 + number (turnedBy (d30* (bits 2 c)) (bits 24 d)) * 64)))
+    ≡ number (sentAt c d)
+unfolding bits number turnedBy parity sent
+sent-law c d h =
+    ap (λ r. number t * 64 + number r) (ap remainderOf (ap (λ n. bits 32 (c * 2 ^ 30 + n)) padded ∙ bits-cat 2 30 c (t ++ zeros) refl h) ∙ parity-left a b (bits 24 d) (length-bits 24 d))
+    ∙ sym (number-append t (parity a b (bits 24 d)))
+  where
+    a : Bool
+    a = d29* (bits 2 c)
+
+    b : Bool
+    b = d30* (bits 2 c)
+
+    t : List Bool
+    t = turnedBy b (bits 24 d)
+
+    padded : number t * 64 ≡ number (t ++ zeros)
+    padded = omega (arith, number-append t zeros)
 
 -- the window that the encoder's word makes with its carried bits: it passes, and gives the data back
 made : (c d : ℕ) → c < 4 → bits 32 (c * 2 ^ 30 + number (sentAt c d)) ≡ d29* (bits 2 c) ∷ d30* (bits 2 c) ∷ sentAt c d

@@ -8,8 +8,8 @@ use lib.ListN.{length}
 use Rattle.bits.specs.Bits.{_⊻_, bits, number}
 use Rattle.bits.proofs.Xor.{xor-cancel}
 use Rattle.bits.proofs.Numbers.{tab-id, bits-number}
-use Rattle.word.specs.Word.{nth, D, d29*, d30*, places, turnedBy, parity, dataOf, received, computed, passes, sent}
-use Rattle.word.proofs.Linearity.{passes-equal}
+use Rattle.word.specs.Word.{nth, D, d29*, d30*, places, turnedBy, parity, dataOf, received, computed, remainderOf, passes, sent}
+use Rattle.word.proofs.Linearity.{zeros, passes-equal}
 
 -- the data bits of a window are those of their number
 pub data-number : (w : List Bool) → bits 24 (number (dataOf w)) ≡ dataOf w
@@ -24,9 +24,19 @@ pub length-dataOf : (w : List Bool) → length (dataOf w) ≡ 24
 unfolding dataOf
 length-dataOf w = refl
 
+-- data turned for sending come back, whatever parity bits stand behind them
+data-back : (a b : Bool) (ds ps : List Bool) → length ds ≡ 24 → dataOf (a ∷ b ∷ turnedBy b ds ++ ps) ≡ ds
+unfolding dataOf turnedBy
+data-back a b ds ps h = simp xor-cancel (rw h at (tab-id ds))
+
 pub data-sent : (a b : Bool) (ds : List Bool) → length ds ≡ 24 → dataOf (a ∷ b ∷ sent a b ds) ≡ ds
-unfolding dataOf sent turnedBy
-data-sent a b ds h = simp xor-cancel (rw h at (tab-id ds))
+unfolding sent
+data-sent a b ds h = data-back a b ds (parity a b ds) h
+
+-- with parity bits of zeros the remainder is the parity to send
+pub parity-left : (a b : Bool) (ds : List Bool) → length ds ≡ 24 → remainderOf (a ∷ b ∷ turnedBy b ds ++ zeros) ≡ parity a b ds
+unfolding remainderOf received computed parity turnedBy
+parity-left a b ds h = ap (parity a b) (data-back a b ds zeros h)
 
 pub passes-sent : (a b : Bool) (ds : List Bool) → length ds ≡ 24 → passes (a ∷ b ∷ sent a b ds) ≡ true
 unfolding received computed sent turnedBy

@@ -4,7 +4,11 @@ use Rattle.word.proofs.remainder.Statement.{statement}
 use Rattle.word.proofs.remainder.Tie as tie
 
 returns : tie.Need-returns
-returns c = cc (remainder-law (c .before .before .args .window))
+returns c = cc (remainder-law (c .before .before .before .before .before .before .args .window))
 
 pub remainder-spec : {M : Type 1} → statement M
-remainder-spec = tie.close (tie.spec (λ c κs. search needs) (λ c κs. search needs) returns)
+remainder-spec =
+    tie.close
+    (tie.spec (λ c κs. search needs) (λ c κs. search needs) (λ c κs. search needs) (λ c κs. search needs) (λ c κs. search needs) (λ c κs. search needs)
+    (λ c. search needs) (λ c. search needs) (λ c. search needs) (λ c. search needs) (λ c. search needs)
+    (λ c. search needs) (λ c. search needs) (λ c. search needs) (λ c. search needs) (λ c. search needs) returns)

@@ -34,15 +34,22 @@ window-requires : tie.Need-window-requires Inv-loop μ-loop Inv-position μ-posi
 window-requires c κs =
     (c .before .before .before .before .pre .0, omega arith)
 
+seek-requires : tie.Need-seek-requires Inv-loop μ-loop Inv-position μ-position
+seek-requires c κs = (c .before .before .before .before .before .before .before .pre .0, omega arith, omega arith)
+
+position-less : tie.Need-position-less Inv-loop μ-loop Inv-position μ-position
+position-less c = omega (arith, c .seek .ensures .0)
+
 position-again : tie.Need-position-again Inv-loop μ-loop Inv-position μ-position
 position-again c =
-    let s = c .before .before .before .before .before .before .before in
+    let s = c .before .before .before .before .before .before .before .before in
     let a = s .args in
-    let h = c .before .before .before .before .loop in (
+    let h = c .before .before .before .before .before .loop in (
+      omega (arith, c .seek .ensures .0),
       omega arith,
-      omega arith,
-      h .inv .4 ∙ step-out (now (a .cells)) (s .pre .0) (a .end) (s .pre .1) (h .left) (omega arith) (a .ended) (h .good) (c .before .before .window .result) (h .inv .3) (c .before .before .before .loop-test .taken) (c .before .before .window .ensures)
-          (sym (c .before .right .ensures) ∙ not-true _ (c .if1 .taken)),
+      h .inv .4 ∙ step-out (now (a .cells)) (s .pre .0) (a .end) (s .pre .1) (h .left) (omega arith) (a .ended) (h .good) (c .before .before .before .window .result) (h .inv .3) (c .before .before .before .before .loop-test .taken) (c .before .before .before .window .ensures)
+          (sym (c .before .before .right .ensures) ∙ not-true _ (c .before .if1 .taken))
+          ∙ c .seek .ensures .1 (a .ended),
     )
 
 window-requires-2 : tie.Need-window-requires-2 Inv-loop μ-loop Inv-position μ-position
@@ -120,7 +127,7 @@ hunt-spec =
     tie.close
     (tie.spec Inv-loop μ-loop Inv-position μ-position (λ c. search needs) (λ c. search needs)
     (λ c. search needs) (λ c. search needs) (λ c. search needs) (λ c. search needs) (λ c. search needs)
-    window-requires (λ c κs. search needs) (λ c. search needs) (λ c. search needs) position-again
+    window-requires (λ c κs. search needs) (λ c. search needs) seek-requires position-less position-again
     (λ c. search needs) (λ c. search needs) (λ c. search needs) window-requires-2 (λ c κs. search needs)
     add-if3 returns (λ c. search needs) loop-again (λ c. search needs) loop-again-2 returns-2
     (λ c. search needs) (λ c. search needs) position-again-2 returns-3)

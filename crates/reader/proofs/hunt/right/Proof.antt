@@ -2,7 +2,6 @@ use borrow.Author.Needs.{needs}
 use borrow.Author.Tests.{not-true, not-false}
 use mathlib.Core.Path.{_≡_, sym, ap, _∙_}
 use mathlib.Core.Bool.{_&&_}
-use lib.Dec.{eqb}
 use Rattle.bits.specs.Bits.{bits}
 use Rattle.word.specs.Word.{passes}
 use Rattle.frame.specs.Header.{preambled}
@@ -12,10 +11,9 @@ use Rattle.reader.proofs.hunt.right.Statement.{statement}
 use Rattle.reader.proofs.hunt.right.Tie as tie
 
 returns : tie.Need-returns
-unfolding passes
 returns c =
     let a = c .before .before .args in
-    ap (λ n. eqb n 0) (c .remainder .ensures) ∙ sym (right-later (a .k) (bits 32 (a .window)) (c .before .if1 .taken))
+    c .passes .ensures ∙ sym (right-later (a .k) (bits 32 (a .window)) (c .before .if1 .taken))
 
 returns-2 : tie.Need-returns-2
 returns-2 c =
@@ -24,11 +22,10 @@ returns-2 c =
     sym (right-at-first (a .k) (bits 32 (a .window)) (c .before .before .before .if1 .left) ∙ ap (λ b. b && passes (bits 32 (a .window))) none)
 
 returns-3 : tie.Need-returns-3
-unfolding passes
 returns-3 c =
     let a = c .before .before .before .before .before .args in
     let there = sym (c .before .before .has-preamble .ensures ∙ ap preambled (bits-data (a .window) _ (c .before .before .before .data-of .ensures))) ∙ not-false _ (c .before .if2 .left) in
-    ap (λ n. eqb n 0) (c .remainder2 .ensures)
+    c .passes2 .ensures
     ∙ sym (right-at-first (a .k) (bits 32 (a .window)) (c .before .before .before .before .if1 .left) ∙ ap (λ b. b && passes (bits 32 (a .window))) there)
 
 pub right-spec : {M : Type 1} → statement M

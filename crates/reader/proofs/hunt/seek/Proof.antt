@@ -1,7 +1,7 @@
 use borrow.Author.Needs.{needs}
 use denote.Ref.{now}
 use mathlib.Core.Path.{_≡_, refl, ap, _∙_}
-use mathlib.Core.Bool.{false}
+use mathlib.Core.Bool.{Bool}
 use Prim.Native.Nat.{_+_, _-_, _/_, _%_, _^_, _≤_}
 use native.Mathlib.Omega.{arith}
 use Rattle.reader.specs.Cells.{pairAt}
@@ -15,19 +15,19 @@ use Rattle.reader.proofs.hunt.seek.Tie as tie
 abbrev Inv-loop : tie.InvT-loop
 Inv-loop cells end left words bit both l₀ off₀ l off =
     (words ≡ 0) × (31 ≤ l) × (l ≤ left) × (off + l ≡ (end - left) % 32 + left) × (both ≡ pairAt cells ((end - left) / 32))
-    × (huntOf cells end left words false ≡ huntOf cells end l words false)
+    × ((ended : Bool) → huntOf cells end left words ended ≡ huntOf cells end l words ended)
 
 abbrev μ-loop : tie.MeasureT-loop
 μ-loop cells end left words bit both l₀ off₀ l off = l
 
 returns : tie.Need-returns Inv-loop μ-loop
-returns c = (omega arith, refl)
+returns c = (omega arith, λ ended. refl)
 
 returns-2 : tie.Need-returns-2 Inv-loop μ-loop
-returns-2 c = (omega arith, refl)
+returns-2 c = (omega arith, λ ended. refl)
 
 loop-holds : tie.Need-loop-holds Inv-loop μ-loop
-loop-holds c = (c .before .before .if1 .left, omega (arith, c .before .if2 .left), omega arith, refl, c .pair .ensures, refl)
+loop-holds c = (c .before .before .if1 .left, omega (arith, c .before .if2 .left), omega arith, refl, c .pair .ensures, λ ended. refl)
 
 returns-3 : tie.Need-returns-3 Inv-loop μ-loop
 returns-3 c = let v = c .before .before .loop .inv in (v .2, v .5)
@@ -51,7 +51,7 @@ loop-again c =
       omega arith,
       omega arith,
       v .4,
-      v .5 ∙ step-seek (now (a .cells)) (s .pre .0) (a .end) (s .pre .1) (h .l) (omega arith) (a .words) _ (v .0) (c .before .before .before .loop-test .taken) e (c .before .if4 .left) (c .if5 .left),
+      λ ended. v .5 ended ∙ step-seek (now (a .cells)) (s .pre .0) (a .end) (s .pre .1) (h .l) (omega arith) ended (a .words) _ (v .0) (c .before .before .before .loop-test .taken) e (c .before .if4 .left) (c .if5 .left),
     )
 
 returns-6 : tie.Need-returns-6 Inv-loop μ-loop
