@@ -40,8 +40,8 @@ use Rattle.record.specs.declared.health.SatelliteHealth.{SatelliteHealth}
 use Rattle.record.specs.declared.correction.CorrectionRead.the-variants as correction-read
 use Rattle.record.specs.declared.health.HealthRead.the-variants as health-read
 use Rattle.record.proofs.StageLaws.{done-apart, done-frame}
-use Rattle.record.proofs.CorrectionTrips.{corrections-made-read}
-use Rattle.record.proofs.HealthTrips.{healths-made-read}
+use Rattle.record_laws.proofs.CorrectionTrips.{corrections-made-read}
+use Rattle.record_laws.proofs.HealthTrips.{healths-made-read}
 use Rattle.entry_bytes.specs.Rows.{size, countOf, entryOf, entriesIn, rowAfter}
 use Rattle.entry_bytes.specs.Corrections as correction-bytes
 use Rattle.entry_bytes.specs.Healths as health-bytes

@@ -30,12 +30,12 @@ use Rattle.record.specs.declared.stage.Making.{Making}
 use Rattle.record.specs.declared.stage.Making.the-variants as making
 use Rattle.record.specs.declared.stage.Made.{Made}
 use Rattle.record.proofs.StageLaws.{done-apart}
-use Rattle.record.proofs.CorrectionTrips.{corrections-made-read, corrections-read-made}
-use Rattle.record.proofs.HealthTrips.{healths-made-read, healths-read-made}
-use Rattle.record.proofs.PositionTrips.{position-made-read, position-read-made}
-use Rattle.record.proofs.NullTrips.{null-made-read, null-read-made}
-use Rattle.record.proofs.TextTrips.{text-made-read}
-use Rattle.record.proofs.TextAgain.{text-read-made}
+use Rattle.record_laws.proofs.CorrectionTrips.{corrections-made-read, corrections-read-made}
+use Rattle.record_laws.proofs.HealthTrips.{healths-made-read, healths-read-made}
+use Rattle.record_laws.proofs.PositionTrips.{position-made-read, position-read-made}
+use Rattle.record_laws.proofs.NullTrips.{null-made-read, null-read-made}
+use Rattle.record_laws.proofs.TextTrips.{text-made-read}
+use Rattle.record_laws.proofs.TextAgain.{text-read-made}
 use Rattle.journal.specs.Journal.{recordOf, keepOrder, keptBy, heldBy, recalledBy, saysKept, saysRecalled}
 use Rattle.journal.specs.declared.Kept.the-variants as kept
 use Rattle.journal.proofs.KeepLaws.{length-record}

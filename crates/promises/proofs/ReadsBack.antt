@@ -25,11 +25,11 @@ use Rattle.record.specs.Positions as positions
 use Rattle.record.specs.Nulls as nulls
 use Rattle.record.specs.Texts as texts
 use Rattle.record.proofs.StageLaws.{done-apart, done-frame}
-use Rattle.record.proofs.CorrectionTrips.{corrections-sent}
-use Rattle.record.proofs.HealthTrips.{healths-sent}
-use Rattle.record.proofs.PositionTrips.{position-sent}
-use Rattle.record.proofs.NullTrips.{null-sent}
-use Rattle.record.proofs.TextTrips.{text-sent}
+use Rattle.record_laws.proofs.CorrectionTrips.{corrections-sent}
+use Rattle.record_laws.proofs.HealthTrips.{healths-sent}
+use Rattle.record_laws.proofs.PositionTrips.{position-sent}
+use Rattle.record_laws.proofs.NullTrips.{null-sent}
+use Rattle.record_laws.proofs.TextTrips.{text-sent}
 use Rattle.writer.specs.Sending.{bitsAfter, carriedOn, bytesOf}
 use Rattle.writer.specs.Answer.{writeChecks, writtenBy, saysWritten}
 use Rattle.writer.specs.OneFrame.{Wrote}

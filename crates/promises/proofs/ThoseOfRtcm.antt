@@ -31,8 +31,8 @@ use Rattle.frame.specs.declared.Frame.{Frame}
 use Rattle.frame.specs.declared.Layout.the-variants as layout
 use Rattle.frame.proofs.HeaderLaws.{length-first, length-second, header-words, n-words, first-preambled, first-header, second-header, header-inside, n-lt, words-answered}
 use Rattle.pack.specs.Coding.{frameBits}
-use Rattle.record.proofs.SatelliteLaws.{satellite-back, code-back}
-use Rattle.record.proofs.ListTrips.{CountRead, count-read}
+use Rattle.record_laws.proofs.SatelliteLaws.{satellite-back, code-back}
+use Rattle.record_laws.proofs.ListTrips.{CountRead, count-read}
 use Rattle.record.proofs.TextCode.{length-le, some-words}
 use Rattle.record.specs.Stages.{saysCount}
 use Rattle.record.specs.Corrections as corrections

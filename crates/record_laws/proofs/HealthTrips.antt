@@ -14,15 +14,15 @@ use Rattle.frame.specs.declared.Layout.the-variants as layout
 use Rattle.frame.proofs.WidthLaws.{both-false}
 use Rattle.pack.specs.Coding.{frameWith}
 use Rattle.pack.proofs.Round.{Faithful}
 use Rattle.record.specs.declared.stage.Count.the-variants as count
 use Rattle.record.specs.declared.health.SatelliteHealth.{SatelliteHealth}
 use Rattle.record.specs.declared.health.HealthRead.the-variants as read
 use Rattle.record.specs.Satellites.{satelliteOf}
 use Rattle.record.specs.Stages.{countIn, doneMade, Sent}
 use Rattle.record.specs.Healths.{widths, meant, codes, coding, fill, flagsOut, codesOut, outOfRange, countHealths, healthAt, makeHealths, HealthsMade, InRange, SendableHealths, HoldsHealths, ReadsHealths}
-use Rattle.record.proofs.SatelliteLaws.{satellite-back, code-back, satellite-some, satellite-few}
-use Rattle.record.proofs.ListTrips.{list-held, made-then-read, read-then-made, each-any, no-fill}
-use Rattle.record.proofs.SentLaws.{list-made, list-told, list-read}
+use Rattle.record_laws.proofs.SatelliteLaws.{satellite-back, code-back, satellite-some, satellite-few}
+use Rattle.record_laws.proofs.ListTrips.{list-held, made-then-read, read-then-made, each-any, no-fill}
+use Rattle.record_laws.proofs.SentLaws.{list-made, list-told, list-read}
 
 -- the types say nothing of an entry that its range does not say
 abbrev pub Good : SatelliteHealth → Type 0

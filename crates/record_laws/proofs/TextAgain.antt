@@ -21,13 +21,13 @@ use Rattle.frame.specs.declared.Layout.the-variants as layout
 use Rattle.frame.proofs.FrameLaws.{header-within, length-data as length-data-words}
 use Rattle.pack.specs.Coding.{frameBits, entryIn, rowsOf, frameWith}
 use Rattle.pack.proofs.Round.{made-again}
 use Rattle.record.specs.declared.stage.Count.the-variants as count
 use Rattle.record.specs.Stages.{makeOrder, refusedMade, doneMade}
 use Rattle.record.specs.Texts.{widths, coding, fill, characters, lengthIn, textIn, forbidden, textOrder, readText, bufferAfter, makeText}
 use Rattle.record.proofs.StageLaws.{of-apart}
 use Rattle.record.proofs.TextCode.{length-characters, length-le, some-words}
-use Rattle.record.proofs.TextHeld.{closing}
-use Rattle.record.proofs.TextLaws.{Good, faithful, zeros-fill}
+use Rattle.record_laws.proofs.TextHeld.{closing}
+use Rattle.record_laws.proofs.TextLaws.{Good, faithful, zeros-fill}
 
 -- rows of one character each, from bit o on, all of them 0
 zero-rows : (k o : ℕ) (bs : List Bool) → ((j : ℕ) → j < k → fieldAt (o + j * 8) 8 bs ≡ 0) → rowsAt widths k o bs ≡ rowsOf coding (replicate k 0)

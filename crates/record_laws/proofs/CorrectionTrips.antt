@@ -17,15 +17,15 @@ use Rattle.frame.specs.declared.Layout.the-variants as layout
 use Rattle.frame.proofs.WidthLaws.{both-false}
 use Rattle.pack.specs.Coding.{frameWith, Each}
 use Rattle.pack.proofs.Round.{Faithful}
 use Rattle.record.specs.declared.stage.Count.the-variants as count
 use Rattle.record.specs.declared.correction.Correction.{Correction}
 use Rattle.record.specs.declared.correction.CorrectionRead.the-variants as read
 use Rattle.record.specs.Satellites.{satelliteOf}
 use Rattle.record.specs.Stages.{countIn, doneMade, Sent}
 use Rattle.record.specs.Corrections.{widths, meant, codes, coding, fill, StandardFill, numbersOut, outOfRange, countCorrections, correctionAt, makeCorrections, Typed, CorrectionsMade, InRange, SendableCorrections, HoldsCorrections, ReadsCorrections}
-use Rattle.record.proofs.SatelliteLaws.{satellite-back, code-back, satellite-some, satellite-few}
-use Rattle.record.proofs.ListTrips.{list-held, made-then-read, read-then-made}
-use Rattle.record.proofs.SentLaws.{list-made, list-told, list-read}
+use Rattle.record_laws.proofs.SatelliteLaws.{satellite-back, code-back, satellite-some, satellite-few}
+use Rattle.record_laws.proofs.ListTrips.{list-held, made-then-read, read-then-made}
+use Rattle.record_laws.proofs.SentLaws.{list-made, list-told, list-read}
 
 -- what the types say of an entry, and what the range check adds
 pub record Good (e : Correction) : Type 0 where

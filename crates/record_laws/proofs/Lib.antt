@@ -1,0 +1,12 @@
+pub mod SatelliteLaws
+pub mod SentLaws
+pub mod ListTrips
+pub mod CorrectionTrips
+pub mod HealthTrips
+pub mod PositionTrips
+pub mod NullTrips
+pub mod TextLaws
+pub mod TextHeld
+pub mod TextTrips
+pub mod TextAgain
+pub mod Worked
