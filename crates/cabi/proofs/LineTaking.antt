@@ -1,6 +1,6 @@
 -- TAKE refuses in the order 5, 4, 13, and keeping adds no other refusal: a frame that was taken is within its widths. Assumes nothing.
 use mathlib.Core.Path.{_≡_, refl, ap, _∙_}
-use mathlib.Core.Bool.{Bool, true, false, cond, not}
+use mathlib.Core.Bool.{Bool, false, cond, not}
 use mathlib.Core.List.{List, [], _∷_}
 use Prim.Native.Nat.{ℕ, _+_, _*_}
 use lib.Dec.{ltb}
@@ -19,12 +19,14 @@ use Rattle.reader.specs.declared.Taken.{Taken}
 use Rattle.journal.specs.Journal.{keptBy, saysKept}
 use Rattle.journal.specs.declared.Kept.{Kept}
 use Rattle.journal.specs.declared.Kept.the-variants as kept
-use Rattle.state_bytes.specs.State.{holdsState, stateIn}
+use Rattle.state_bytes.specs.State.{stateIn}
 use Rattle.cabi.specs.Answer.{andThen}
-use Rattle.cabi.specs.Line.{doneBy, readBy, takenIn}
+use Rattle.cabi.specs.Line.{readBy, takenIn}
+use Rattle.cabi.specs.Orders.{shortFor, heldOrder, takeOrder}
+use Rattle.cabi.proofs.LineOrders.{held-order}
 
 -- what taking leaves of a reader in which a frame waits
-abbrev taken : Reader → Taken
+abbrev pub taken : Reader → Taken
 taken r = record {
   answer = Done;
   at = r .candidate .at;
@@ -39,7 +41,7 @@ waiting r = (past r, 5) ∷ (not (r .candidate .waits), 4) ∷ []
 -- a frame within its widths is refused by a short buffer alone
 kept-order : (f : Frame) (frame : List ℕ) (t : Taken) → outside f ≡ false
     → andThen {B = ℕ × Taken} (saysKept (keptBy f frame)) (λ size. answers (size, t))
-    ≡ inOrder ((ltb (length frame) (3 * f .n + 9), 13) ∷ []) refuses (answers (3 * f .n + 9, t))
+    ≡ inOrder (shortFor f frame ∷ []) refuses (answers (3 * f .n + 9, t))
 kept-order f frame t e =
     ap (λ b. after (cond b (kept.Refused 5) (cond short (kept.Refused 13) (kept.Done (3 * f .n + 9))))) e
     ∙ order-map after ((short, 13) ∷ []) kept.Refused (kept.Done (3 * f .n + 9))
@@ -52,30 +54,21 @@ kept-order f frame t e =
 
 module _ (state : List ℕ) where
   reached : readBy (λ (t : Taken). t .answer) takenBy state
-      ≡ inOrder ((not (holdsState state), 5) ∷ waiting (stateIn state)) refuses (answers (taken (stateIn state)))
+      ≡ inOrder (heldOrder state (waiting (stateIn state))) refuses (answers (taken (stateIn state)))
   unfolding takenBy
-  reached = go (holdsState state)
-    where
-      r : Reader
-      r = stateIn state
-
-      go : (t : Bool) → andThen (cond t (answers r) (refuses 5)) (λ q. doneBy (takenBy q .answer) (takenBy q))
-          ≡ cond (not t) (refuses 5) (inOrder (waiting r) refuses (answers (taken r)))
-      go true = order-map (λ (x : Taken). doneBy (x .answer) x) (waiting r) (λ n. record { answer = Refused n; at = 0; frame = blank; reader = r }) (taken r)
-      go false = refl
+  reached =
+      held-order (λ (t : Taken). t .answer) takenBy state (waiting (stateIn state))
+      (λ n. record { answer = Refused n; at = 0; frame = blank; reader = stateIn state }) (taken (stateIn state)) (λ n. refl) refl refl
 
   -- the whole order: 5 for bytes that hold no state, 5, 4, and 13 for a buffer shorter than the record
   pub take-order : (frame : List ℕ)
       → takenIn state frame
-      ≡ inOrder (
-      (not (holdsState state), 5) ∷ (past (stateIn state), 5) ∷ (not (stateIn state .candidate .waits), 4)
-      ∷ (ltb (length frame) (3 * frameAt (bitsOf (stateIn state)) .n + 9), 13) ∷ []
-      ) refuses (answers (3 * frameAt (bitsOf (stateIn state)) .n + 9, taken (stateIn state)))
+      ≡ inOrder (takeOrder state frame) refuses (answers (3 * frameAt (bitsOf (stateIn state)) .n + 9, taken (stateIn state)))
   unfolding takenIn
   take-order frame =
       ap (λ s. andThen s keep) reached
-      ∙ order-map (λ (s : Says Taken). andThen s keep) ((not (holdsState state), 5) ∷ waiting r) refuses (answers (taken r))
-      ∙ ap (λ s. inOrder ((not (holdsState state), 5) ∷ waiting r) refuses s) (kept-order (frameAt (bitsOf r)) frame (taken r) (frame-within (bitsOf r)))
+      ∙ order-map (λ (s : Says Taken). andThen s keep) (heldOrder state (waiting r)) refuses (answers (taken r))
+      ∙ ap (λ s. inOrder (heldOrder state (waiting r)) refuses s) (kept-order (frameAt (bitsOf r)) frame (taken r) (frame-within (bitsOf r)))
     where
       r : Reader
       r = stateIn state

@@ -1,59 +1,62 @@
--- The refusals of a call that makes a frame of a list, in ONE order: 5, 6, 7, 12, 10, 13. A frame that was made is within its widths,
--- so keeping it adds 13 alone. Assumes nothing.
+-- The refusals of a call that makes or keeps a frame, in ONE order: 5, 6, 7, the layout's own, 13. A frame that was made is within its
+-- widths, so keeping it adds 13 alone. Assumes nothing.
 use mathlib.Core.Path.{_≡_, refl, ap, _∙_}
-use mathlib.Core.Bool.{Bool, false, _||_}
-use mathlib.Core.List.{List, [], _∷_, _++_}
-use Prim.Native.Nat.{ℕ, _+_, _*_, _≤_}
+use mathlib.Core.Bool.{Bool, true, false, not, _||_}
+use mathlib.Core.List.{List, [], _∷_}
+use Prim.Native.Nat.{ℕ, zero, suc, _+_, _*_, _/_, _%_, _≤_}
 use native.Mathlib.Omega.{arith}
 use lib.Dec.{ltb, eqb}
-use lib.ListN.{length, take, length-take}
+use lib.IntN.{ℤ}
+use lib.ListN.{length, take, drop, length-take}
 use borrow.Author.Tests.{ltb-false}
 use Rattle.answer.specs.Order.{Says, refuses, answers, Check, inOrder, NoneApplies}
 use Rattle.answer.proofs.OrderLaws.{order-map, says-order}
 use Rattle.bits.specs.Fields.{span}
-use Rattle.frame.specs.Header.{stateOf}
-use Rattle.frame.specs.Widths.{outside}
+use Rattle.frame.specs.Frames.{framed, Below}
+use Rattle.frame.specs.Widths.{headerOutside, outside}
 use Rattle.frame.specs.declared.Frame.{Frame}
 use Rattle.frame.specs.declared.Header.{Header}
 use Rattle.frame.specs.declared.Layout.{Layout}
 use Rattle.frame.specs.declared.Layout.the-variants as layout
+use Rattle.frame.proofs.FrameLaws.{framed-inside}
 use Rattle.frame.proofs.WidthLaws.{both-false}
-use Rattle.journal.specs.Journal.{keepOrder, saysKept}
+use Rattle.journal.specs.Bytes.{wordsIn}
+use Rattle.journal.specs.Journal.{keepOrder as keptOrder, saysKept}
 use Rattle.journal.specs.declared.Kept.the-variants as kept
-use Rattle.pack.specs.Coding.{Coding, anyEntry, frameWith}
+use Rattle.journal.proofs.WordLaws.{length-words, fit-words}
+use Rattle.pack.specs.Coding.{Coding, frameWith}
 use Rattle.pack.proofs.Round.{made-inside}
 use Rattle.record.specs.Stages.{makeOrder, refusedMade, doneMade, saysMade}
-use Rattle.record.specs.Lists.{listMade}
+use Rattle.record.specs.declared.stage.Made.{Made}
 use Rattle.record.specs.Corrections as correction
 use Rattle.record.specs.Healths as health
+use Rattle.record.specs.Positions as position
+use Rattle.record.specs.declared.position.Position.{Position}
+use Rattle.record.specs.Nulls as null
+use Rattle.record.specs.Texts as text
 use Rattle.entry_bytes.specs.Rows.{countOf, entriesIn}
 use Rattle.entry_bytes.specs.Corrections as correction-bytes
 use Rattle.entry_bytes.specs.Healths as health-bytes
 use Rattle.cabi.specs.Header.{headed, saysHeaded}
 use Rattle.cabi.specs.declared.header.Headed.the-variants as of
 use Rattle.cabi.specs.Answer.{andThen}
-use Rattle.cabi.specs.Frames.{keptTo}
+use Rattle.cabi.specs.Frames.{keptTo, wordsSaid, keepSaid}
 use Rattle.cabi.specs.Corrections as corrections
 use Rattle.cabi.specs.Healths as healths
-use Rattle.cabi.proofs.ReadOrders.{pass-five}
+use Rattle.cabi.specs.Positions as positions
+use Rattle.cabi.specs.Nulls as nulls
+use Rattle.cabi.specs.Texts as texts
+use Rattle.cabi.specs.Orders.{shortFor, headerOf, madeOrder, listChecks, textChecks}
+use Rattle.cabi.specs.Orders.{correctionsFrame, correctionsOrder, healthsFrame, healthsOrder, positionFrame, positionMadeOrder}
+use Rattle.cabi.specs.Orders.{nullFrame, nullMadeOrder, textFrame, textMadeOrder, wordsFrame, keepOrder}
+use Rattle.cabi.proofs.Orders.{after-order, pass-five}
 
--- the header of five numbers
-abbrev pub headerOf : ℕ → ℕ → ℕ → ℕ → ℕ → Header
-headerOf kind station z sequence code = record { kind = kind; station = station; z = z; sequence = sequence; state = stateOf code }
-
--- keeping after an order whose frame is within its widths
-kept-order : (cs : List Check) (f : Frame) (buffer : List ℕ) → (NoneApplies cs → outside f ≡ false)
-    → keptTo (inOrder cs refuses (answers f)) buffer
-    ≡ inOrder (cs ++ ((ltb (length buffer) (3 * f .n + 9), 13) ∷ [])) refuses (answers (3 * f .n + 9))
-kept-order cs f buffer h =
+-- keeping after an order: 5, 13
+kept-after : (cs : List Check) (f : Frame) (buffer : List ℕ)
+    → keptTo (inOrder cs refuses (answers f)) buffer ≡ inOrder cs refuses (inOrder (keptOrder f buffer) refuses (answers (3 * f .n + 9)))
+kept-after cs f buffer =
     order-map (λ s. keptTo s buffer) cs refuses (answers f)
-    ∙ ap (inOrder cs refuses) (says-order saysKept kept.Refused (λ n. refl) (kept.Done (3 * f .n + 9)) (keepOrder f buffer) refl)
-    ∙ pass-five cs (outside f) ((ltb (length buffer) (3 * f .n + 9), 13) ∷ []) (answers (3 * f .n + 9)) h
-
--- what is made, as an order
-made-order : (cs : List Check) (f : Frame) → saysMade (inOrder cs refusedMade (doneMade f)) ≡ inOrder cs refuses (answers f)
-unfolding refusedMade doneMade
-made-order cs f = says-order saysMade refusedMade (λ n. refl) (doneMade f) cs refl
+    ∙ ap (inOrder cs refuses) (says-order saysKept kept.Refused (λ n. refl) (kept.Done (3 * f .n + 9)) (keptOrder f buffer) refl)
 
 -- a health over 7 comes first
 headed-order : {A : Type 0} (kind station z sequence code : ℕ) (next : Header → Says A)
@@ -63,77 +66,129 @@ headed-order kind station z sequence code next =
     (says-order saysHeaded of.Refused (λ n. refl) (of.Header (headerOf kind station z sequence code)) ((ltb 7 code, 5) ∷ []) refl)
     ∙ order-map (λ s. andThen s next) ((ltb 7 code, 5) ∷ []) refuses (answers (headerOf kind station z sequence code))
 
--- ---- a list of at most `most` entries, which fit a frame
-
-module _ {A : Type 0} (asked : Layout) (k : Coding A) (pattern most : ℕ) (out : A → Bool)
-    (fits : (c : ℕ) → c ≤ most → c * span (k .widths) ≤ 744) (es : List A) (c : ℕ) (buffer : List ℕ) where
-  abbrev pub madeFrame : Header → Frame
-  madeFrame h = frameWith pattern k h (take c es)
-
-  -- 12, 10, then 13
-  abbrev pub listChecks : Header → List Check
-  listChecks h =
-      (eqb c 0 || ltb most c, 12) ∷ (anyEntry out (take c es), 10) ∷ (ltb (length buffer) (3 * madeFrame h .n + 9), 13) ∷ []
-
-  list-made : (h : Header) → keptTo (saysMade (listMade asked k pattern most out h es c)) buffer
-      ≡ inOrder (makeOrder asked h (listChecks h)) refuses (answers (3 * madeFrame h .n + 9))
-  list-made h =
-      ap (λ s. keptTo s buffer) (made-order checks (madeFrame h)) ∙ kept-order checks (madeFrame h) buffer within
-    where
-      checks : List Check
-      checks = makeOrder asked h ((eqb c 0 || ltb most c, 12) ∷ (anyEntry out (take c es), 10) ∷ [])
-
-      within : NoneApplies checks → outside (madeFrame h) ≡ false
-      within none =
-          let few = ltb-false most c (both-false (eqb c 0) (ltb most c) (none .1 .1 .1 .0) .1) in
-          made-inside k pattern h (take c es) (none .0) (fits (length (take c es)) (omega (arith, few, length-take c es)))
-
-  -- MAKING, from the five numbers on
-  pub list-order : (kind station z sequence code : ℕ)
-      → keptTo (andThen (headed kind station z sequence code) (λ h. saysMade (listMade asked k pattern most out h es c))) buffer
-      ≡ inOrder ((ltb 7 code, 5) ∷ makeOrder asked (headerOf kind station z sequence code) (listChecks (headerOf kind station z sequence code))) refuses
-      (answers (3 * madeFrame (headerOf kind station z sequence code) .n + 9))
-  list-order kind station z sequence code =
-      let h = headerOf kind station z sequence code in
-      let next : Header → Says Frame = λ g. saysMade (listMade asked k pattern most out g es c) in
-      ap (λ s. keptTo s buffer) (headed-order kind station z sequence code next)
-      ∙ order-map (λ s. keptTo s buffer) ((ltb 7 code, 5) ∷ []) refuses (next h)
-      ∙ ap (inOrder ((ltb 7 code, 5) ∷ []) refuses) (list-made h)
-
--- ---- the two lists: 5, 6, 7, 12, 10, 13
-
-module _ (kind station z sequence code : ℕ) (bs buffer : List ℕ) where
-  corrections-fit : (c : ℕ) → c ≤ 18 → c * 40 ≤ 744
-  corrections-fit c h = omega arith
-
-  healths-fit : (c : ℕ) → c ≤ 31 → c * 24 ≤ 744
-  healths-fit c h = omega arith
-
+module _ (kind station z sequence code : ℕ) (buffer : List ℕ) where
   abbrev H : Header
   H = headerOf kind station z sequence code
 
-  pub corrections-made : let es = entriesIn correction-bytes.row 18 bs in
-      let c = countOf 7 (length bs) in
-      let n = frameWith correction.fill correction.coding H (take c es) .n in
-      keptTo (corrections.madeSaid (headed kind station z sequence code) bs) buffer
-      ≡ inOrder
-      ((ltb 7 code, 5) ∷ makeOrder layout.Correction H
-      ((eqb c 0 || ltb 18 c, 12) ∷ (anyEntry correction.outOfRange (take c es), 10) ∷ (ltb (length buffer) (3 * n + 9), 13) ∷ [])) refuses
-      (answers (3 * n + 9))
-  unfolding correction.makeCorrections
-  corrections-made =
-      list-order layout.Correction correction.coding correction.fill 18 correction.outOfRange corrections-fit (entriesIn correction-bytes.row 18 bs)
-      (countOf 7 (length bs)) buffer kind station z sequence code
+  -- what follows the five numbers is kept in its order
+  kept-headed : (next : Header → Says Frame) (cs : List Check) (f : Frame) → next H ≡ inOrder cs refuses (answers f)
+      → keptTo (andThen (headed kind station z sequence code) next) buffer
+      ≡ inOrder ((ltb 7 code, 5) ∷ cs) refuses (inOrder (keptOrder f buffer) refuses (answers (3 * f .n + 9)))
+  kept-headed next cs f is =
+      ap (λ s. keptTo s buffer) (headed-order kind station z sequence code next ∙ ap (inOrder ((ltb 7 code, 5) ∷ []) refuses) is)
+      ∙ kept-after ((ltb 7 code, 5) ∷ cs) f buffer
 
-  pub healths-made : let es = entriesIn health-bytes.row 31 bs in
-      let c = countOf 10 (length bs) in
-      let n = frameWith health.fill health.coding H (take c es) .n in
-      keptTo (healths.madeSaid (headed kind station z sequence code) bs) buffer
-      ≡ inOrder
-      ((ltb 7 code, 5) ∷ makeOrder layout.Health H
-      ((eqb c 0 || ltb 31 c, 12) ∷ (anyEntry health.outOfRange (take c es), 10) ∷ (ltb (length buffer) (3 * n + 9), 13) ∷ [])) refuses
-      (answers (3 * n + 9))
-  unfolding health.makeHealths
-  healths-made =
-      list-order layout.Health health.coding health.fill 31 health.outOfRange healths-fit (entriesIn health-bytes.row 31 bs)
-      (countOf 10 (length bs)) buffer kind station z sequence code
+  -- MAKING: 5, 6, 7, the layout's own, 13
+  module _ (asked : Layout) (more : List Check) (made : Frame) (make : Header → Made)
+      (is : make H ≡ inOrder (makeOrder asked H more) refusedMade (doneMade made))
+      (within : NoneApplies (makeOrder asked H more) → outside made ≡ false) where
+    make-order : keptTo (andThen (headed kind station z sequence code) (λ h. saysMade (make h))) buffer
+        ≡ inOrder (madeOrder kind station z sequence code asked more made buffer) refuses (answers (3 * made .n + 9))
+    unfolding refusedMade doneMade
+    make-order =
+        kept-headed (λ h. saysMade (make h)) (makeOrder asked H more) made
+        (ap saysMade is ∙ says-order saysMade refusedMade (λ n. refl) (doneMade made) (makeOrder asked H more) refl)
+        ∙ pass-five ((ltb 7 code, 5) ∷ makeOrder asked H more) [] (outside made) (shortFor made buffer ∷ []) (answers (3 * made .n + 9))
+        (λ none. within (none .1))
+
+  -- of entries that fit a frame, once the layout's own checks have passed
+  module _ {A : Type 0} (asked : Layout) (k : Coding A) (pattern : ℕ) (es : List A) (more : List Check) (make : Header → Made)
+      (is : make H ≡ inOrder (makeOrder asked H more) refusedMade (doneMade (frameWith pattern k H es)))
+      (fits : NoneApplies more → length es * span (k .widths) ≤ 744) where
+    entries-order : keptTo (andThen (headed kind station z sequence code) (λ h. saysMade (make h))) buffer
+        ≡ inOrder (madeOrder kind station z sequence code asked more (frameWith pattern k H es) buffer) refuses
+        (answers (3 * frameWith pattern k H es .n + 9))
+    entries-order = make-order asked more (frameWith pattern k H es) make is (λ none. made-inside k pattern H es (none .0) (fits (none .1 .1 .1)))
+
+  -- a list of at most so many entries
+  few : {A : Type 0} (es : List A) (c most : ℕ) → (eqb c 0 || ltb most c) ≡ false → length (take c es) ≤ most
+  few es c most e = omega (arith, ltb-false most c (both-false (eqb c 0) (ltb most c) e .1), length-take c es)
+
+  -- ---- the two lists: 5, 6, 7, 12, 10, 13
+
+  module _ (bs : List ℕ) where
+    pub corrections-made : keptTo (corrections.madeSaid (headed kind station z sequence code) bs) buffer
+        ≡ inOrder (correctionsOrder kind station z sequence code bs buffer) refuses
+        (answers (3 * correctionsFrame kind station z sequence code bs .n + 9))
+    unfolding correction.makeCorrections
+    corrections-made =
+        let es = entriesIn correction-bytes.row 18 bs in
+        let c = countOf 7 (length bs) in
+        entries-order layout.Correction correction.coding correction.fill (take c es) (listChecks 18 correction.outOfRange es c)
+        (λ h. correction.makeCorrections h es c) refl (λ none. omega (arith, few es c 18 (none .0)))
+
+    pub healths-made : keptTo (healths.madeSaid (headed kind station z sequence code) bs) buffer
+        ≡ inOrder (healthsOrder kind station z sequence code bs buffer) refuses (answers (3 * healthsFrame kind station z sequence code bs .n + 9))
+    unfolding health.makeHealths
+    healths-made =
+        let es = entriesIn health-bytes.row 31 bs in
+        let c = countOf 10 (length bs) in
+        entries-order layout.Health health.coding health.fill (take c es) (listChecks 31 health.outOfRange es c)
+        (λ h. health.makeHealths h es c) refl (λ none. omega (arith, few es c 31 (none .0)))
+
+  -- ---- a position: 5, 6, 7, 10, 13
+
+  pub position-made : (x y up : ℤ) → let p : Position = record { x = x; y = y; z = up } in
+      keptTo (positions.makeSaid kind station z sequence code x y up) buffer
+      ≡ inOrder (positionMadeOrder kind station z sequence code p buffer) refuses (answers (3 * positionFrame kind station z sequence code p .n + 9))
+  unfolding position.makePosition
+  position-made x y up =
+      let p : Position = record { x = x; y = y; z = up } in
+      entries-order layout.Position position.coding position.fill (p ∷ []) ((position.outOfRange p, 10) ∷ []) (λ h. position.makePosition h p) refl
+      (λ none. omega arith)
+
+  -- ---- a text: 5, 6, 7, 12, 11, 13
+
+  pub text-made : (t : List ℕ) → keptTo (texts.makeSaid kind station z sequence code t) buffer
+      ≡ inOrder (textMadeOrder kind station z sequence code t buffer) refuses (answers (3 * textFrame kind station z sequence code t .n + 9))
+  unfolding text.makeText
+  text-made t =
+      entries-order layout.Text text.coding text.fill t (textChecks t) (λ h. text.makeText h t) refl
+      (λ none. omega (arith, ltb-false 90 (length t) (both-false (eqb (length t) 0) (ltb 90 (length t)) (none .0) .1)))
+
+  -- ---- the null frame: 5, 6, 7, 13
+
+  pub null-made : keptTo (nulls.makeSaid kind station z sequence code) buffer
+      ≡ inOrder (nullMadeOrder kind station z sequence code buffer) refuses (answers (3 * nullFrame kind station z sequence code .n + 9))
+  unfolding null.makeNull
+  null-made = make-order layout.Null [] (framed H []) null.makeNull refl (λ none. framed-inside H [] (none .0) tt (omega arith))
+
+  -- ---- a frame of any type: 5, 13
+
+  below : (n : ℕ) (bs : List ℕ) → Below (wordsIn 3 n bs)
+  unfolding wordsIn
+  below zero bs = tt
+  below (suc n) bs = (fit-words 3 (suc n) bs .0, below n (drop 3 bs))
+
+  header-outside : (ws : List ℕ) → headerOutside H ≡ true → outside (framed H ws) ≡ true
+  unfolding framed outside
+  header-outside ws e = rw e
+
+  -- words within their widths: the frame is outside exactly when its header is
+  outside-framed : (ws : List ℕ) → Below ws → length ws ≤ 31 → outside (framed H ws) ≡ headerOutside H
+  outside-framed ws b l = go (headerOutside H) refl
+    where
+      go : (t : Bool) → headerOutside H ≡ t → outside (framed H ws) ≡ t
+      go false e = framed-inside H ws e b l
+      go true e = header-outside ws e
+
+  pub keep-order : (bs : List ℕ) → keptTo (keepSaid kind station z sequence code bs) buffer
+      ≡ inOrder (keepOrder kind station z sequence code bs buffer) refuses (answers (3 * wordsFrame kind station z sequence code bs .n + 9))
+  keep-order bs =
+      kept-headed (λ h. wordsSaid h bs) whole f refl
+      ∙ after-order ((ltb 7 code, 5) ∷ whole) (inOrder (keptOrder f buffer) refuses (answers (3 * f .n + 9)))
+      (inOrder ((headerOutside H, 5) ∷ shortFor f buffer ∷ []) refuses (answers (3 * f .n + 9)))
+      (λ none. ap (λ t. inOrder ((t, 5) ∷ shortFor f buffer ∷ []) refuses (answers (3 * f .n + 9)))
+      (outside-framed words (below n bs) (omega (arith, length-words 3 n bs, ltb-false 31 n (none .1 .1 .0)))))
+    where
+      n : ℕ
+      n = length bs / 3
+
+      words : List ℕ
+      words = wordsIn 3 n bs
+
+      f : Frame
+      f = framed H words
+
+      whole : List Check
+      whole = (not (eqb (length bs % 3) 0), 5) ∷ (ltb 31 n, 5) ∷ []

@@ -2,15 +2,13 @@
 -- recalled is within its widths, so the reading's own 5 never comes. Assumes nothing.
 use mathlib.Core.Path.{_≡_, refl, sym, ap, _∙_}
 use mathlib.Core.Bool.{Bool, false}
-use mathlib.Core.Logic.{_⊎_, inl, inr}
 use mathlib.Core.List.{List, [], _∷_, _++_}
 use Prim.Native.Nat.{ℕ, _+_, _*_}
 use lib.Dec.{ltb, leb}
 use lib.ListN.{length}
-use Rattle.answer.specs.Order.{Says, refuses, answers, Check, inOrder, NoneApplies, FirstIs}
-use Rattle.answer.proofs.OrderLaws.{order-answers, order-refuses, first-or-none, order-append, order-map, says-order}
-use Rattle.frame.specs.Frames.{frameOf}
-use Rattle.frame.specs.Widths.{outside, late}
+use Rattle.answer.specs.Order.{Says, refuses, answers, Check, inOrder, NoneApplies}
+use Rattle.answer.proofs.OrderLaws.{order-answers, order-append, order-map, says-order}
+use Rattle.frame.specs.Widths.{anyOf, outside}
 use Rattle.frame.specs.declared.Frame.{Frame}
 use Rattle.frame.specs.declared.Layout.{Layout}
 use Rattle.frame.specs.declared.Layout.the-variants as layout
@@ -19,71 +17,73 @@ use Rattle.journal.specs.Forms.{nByte, wordsAfter}
 use Rattle.journal.specs.Journal.{refused, recalled, recallOrder, saysRecalled}
 use Rattle.journal.proofs.RoundTrip.{reread}
 use Rattle.pack.specs.Coding.{Coding, frameBits, entryIn}
-use Rattle.record.specs.Stages.{otherLayout, countIn, misfit, readOrder, saysCount}
+use Rattle.record.specs.Stages.{countIn, misfit, wrongSize, readOrder, saysCount}
 use Rattle.record.specs.declared.stage.Count.the-variants as count
 use Rattle.record.specs.Corrections as correction
 use Rattle.record.specs.Healths as health
+use Rattle.record.specs.Positions as position
+use Rattle.record.specs.Nulls as null
+use Rattle.record.specs.Texts as text
 use Rattle.record.specs.declared.correction.CorrectionRead.the-variants as correction-read
 use Rattle.record.specs.declared.health.HealthRead.the-variants as health-read
+use Rattle.record.specs.declared.position.PositionRead.the-variants as position-read
+use Rattle.record.specs.declared.null.NullRead.the-variants as null-read
 use Rattle.entry_bytes.specs.Rows.{size, putOrder, saysPut}
 use Rattle.entry_bytes.specs.declared.row.Put.the-variants.{Done, Refused}
 use Rattle.entry_bytes.specs.Corrections as correction-bytes
 use Rattle.entry_bytes.specs.Healths as health-bytes
 use Rattle.cabi.specs.Answer.{andThen}
-use Rattle.cabi.specs.Frames.{frameIn}
+use Rattle.cabi.specs.Frames.{recallSaid, frameIn}
 use Rattle.cabi.specs.Rows.{rowTo}
 use Rattle.cabi.specs.Corrections as corrections
 use Rattle.cabi.specs.Healths as healths
+use Rattle.cabi.specs.Positions.{positionSaid}
+use Rattle.cabi.specs.Nulls.{nullSaid}
+use Rattle.cabi.specs.Texts.{textSaid}
+use Rattle.cabi.specs.Orders.{frameFrom, recordChecks, countOrder, entryChecks, entryOrder, positionOrder, nullOrder, textOrder}
+use Rattle.cabi.proofs.Orders.{pass-five}
 
--- a 5 that can't apply once the checks before it have passed is no part of the order
-pub pass-five : {A : Type 0} (cs : List Check) (five : Bool) (after : List Check) (answer : Says A) → (NoneApplies cs → five ≡ false)
-    → inOrder cs refuses (inOrder ((five, 5) ∷ after) refuses answer) ≡ inOrder (cs ++ after) refuses answer
-pass-five {A} cs five after answer h = go (first-or-none cs) ∙ sym (order-append cs after refuses answer)
-  where
-    last : Says A
-    last = inOrder after refuses answer
+-- RECALL: 14, 15, 16, 15, 16; the last for either of two reasons
+pub recall-order : (bs : List ℕ) → recallSaid bs ≡ inOrder (recallOrder bs) refuses (answers (3 * nByte bs + 9, frameFrom bs))
+recall-order bs = says-order saysRecalled refused (λ n. refl) (recalled (nByte bs) (wordsAfter 3 bs)) (recallOrder bs) refl
 
-    go : NoneApplies cs ⊎ ((n : ℕ) × FirstIs cs n) → inOrder cs refuses (inOrder ((five, 5) ∷ after) refuses answer) ≡ inOrder cs refuses last
-    go (inl none) = ap (λ t. inOrder cs refuses (inOrder ((t, 5) ∷ after) refuses answer)) (h none)
-    go (inr (n, first)) =
-        order-refuses refuses (inOrder ((five, 5) ∷ after) refuses answer) cs n first ∙ sym (order-refuses refuses last cs n first)
-
--- the frame of the words in a record
-abbrev pub frameAt : List ℕ → Frame
-frameAt bs = frameOf (wordsAfter 3 bs)
-
--- what comes in, as an order
-frame-order : (bs : List ℕ) → frameIn bs ≡ inOrder (recallOrder bs) refuses (answers (frameAt bs))
+-- the frame alone
+frame-order : (bs : List ℕ) → frameIn bs ≡ inOrder (recallOrder bs) refuses (answers (frameFrom bs))
 frame-order bs =
-    ap (λ s. andThen s (λ r. answers (r .1)))
-    (says-order saysRecalled refused (λ n. refl) (recalled (nByte bs) (wordsAfter 3 bs)) (recallOrder bs) refl)
-    ∙ order-map (λ s. andThen s (λ r. answers (r .1))) (recallOrder bs) refuses (answers (3 * nByte bs + 9, frameAt bs))
+    ap (λ s. andThen s (λ r. answers (r .1))) (recall-order bs)
+    ∙ order-map (λ s. andThen s (λ r. answers (r .1))) (recallOrder bs) refuses (answers (3 * nByte bs + 9, frameFrom bs))
 
 module _ (bs : List ℕ) (fits : AreBytes bs) where
-  within : NoneApplies (recallOrder bs) → outside (frameAt bs) ≡ false
-  within none =
-      reread bs fits (frameAt bs) (3 * nByte bs + 9)
-      (ap saysRecalled (order-answers refused (recalled (nByte bs) (wordsAfter 3 bs)) (recallOrder bs) none)) .inside
+  -- NEVER 5: a frame that was recalled is within its widths
+  pub recalled-within : (f : Frame) (bytes : ℕ) → recallSaid bs ≡ answers (bytes, f) → outside f ≡ false
+  recalled-within f bytes e = reread bs fits f bytes e .inside
 
-  -- READING: 14, 15, 16, 15, 16, then what the reading has after its 5
-  module _ {A : Type 0} (say : Frame → Says A) (after : List Check) (value : A)
-      (said : say (frameAt bs) ≡ inOrder ((outside (frameAt bs), 5) ∷ after) refuses (answers value)) where
-    pub read-order : andThen (frameIn bs) say ≡ inOrder (recallOrder bs ++ after) refuses (answers value)
+  within : NoneApplies (recallOrder bs) → outside (frameFrom bs) ≡ false
+  within none =
+      recalled-within (frameFrom bs) (3 * nByte bs + 9)
+      (recall-order bs ∙ order-answers refuses (answers (3 * nByte bs + 9, frameFrom bs)) (recallOrder bs) none)
+
+  -- READING: 14, 15, 16, 15, 16, then what the reading has before and after its 5 for the frame
+  module _ {A : Type 0} (say : Frame → Says A) (before after : List Check) (value : A)
+      (said : say (frameFrom bs) ≡ inOrder (before ++ ((outside (frameFrom bs), 5) ∷ after)) refuses (answers value)) where
+    pub read-order : andThen (frameIn bs) say ≡ inOrder (recallOrder bs ++ (before ++ after)) refuses (answers value)
     read-order =
         ap (λ s. andThen s say) (frame-order bs)
-        ∙ order-map (λ s. andThen s say) (recallOrder bs) refuses (answers (frameAt bs))
+        ∙ order-map (λ s. andThen s say) (recallOrder bs) refuses (answers (frameFrom bs))
         ∙ ap (inOrder (recallOrder bs) refuses) said
-        ∙ pass-five (recallOrder bs) (outside (frameAt bs)) after (answers value) within
+        ∙ pass-five (recallOrder bs) before (outside (frameFrom bs)) after (answers value) within
 
--- ---- lists
+-- ---- a record of a layout
 
--- another type, Z count, wrong N: 6, 7, 8
-abbrev pub listChecks : Layout → ℕ → Frame → List Check
-listChecks asked width f = (otherLayout asked (f .header .kind), 6) ∷ (late (f .header .z), 7) ∷ (misfit width (f .n), 8) ∷ []
-
--- and no such entry: 9
-abbrev pub entryChecks : Layout → ℕ → Frame → ℕ → List Check
-entryChecks asked width f i = listChecks asked width f ++ ((leb (countIn width (f .n)) i, 9) ∷ [])
+-- a reading in its order, through the type of its answer
+module _ (bs : List ℕ) (fits : AreBytes bs) (asked : Layout) (wrongN : Bool) (more : List Check) {A B : Type 0}
+    (says : B → Says A) (refuse : ℕ → B) (refusal : (n : ℕ) → says (refuse n) ≡ refuses n) (read : Frame → B) (answer : B) {value : A}
+    (ready : says answer ≡ answers value) (is : read (frameFrom bs) ≡ inOrder (readOrder asked (frameFrom bs) wrongN more) refuse answer) where
+  record-order : andThen (frameIn bs) (λ f. says (read f))
+      ≡ inOrder (recallOrder bs ++ recordChecks asked (frameFrom bs) wrongN more) refuses (answers value)
+  record-order =
+      read-order bs fits (λ f. says (read f)) [] (recordChecks asked (frameFrom bs) wrongN more) value
+      (ap says is ∙ says-order says refuse refusal answer (readOrder asked (frameFrom bs) wrongN more) ready)
 
 -- a row after an order: its own 13 comes last
 row-order : {A : Type 0} (k : Coding A) (cs : List Check) (e : A) (lent : List ℕ)
@@ -94,56 +94,71 @@ row-order k cs e lent =
     ∙ sym (order-append cs ((ltb (length lent) (size k), 13) ∷ []) refuses (answers tt))
 
 module _ (bs : List ℕ) (fits : AreBytes bs) where
+  abbrev F : Frame
+  F = frameFrom bs
+
   -- COUNT: 14, 15, 16, 15, 16, 6, 7, 8
   pub corrections-counted : corrections.countSaid (frameIn bs)
-      ≡ inOrder (recallOrder bs ++ listChecks layout.Correction 40 (frameAt bs)) refuses (answers (countIn 40 (frameAt bs .n)))
+      ≡ inOrder (countOrder layout.Correction 40 bs) refuses (answers (countIn 40 (frameFrom bs .n)))
   unfolding correction.countCorrections
   corrections-counted =
-      read-order bs fits (λ f. saysCount (correction.countCorrections f)) (listChecks layout.Correction 40 (frameAt bs)) (countIn 40 (frameAt bs .n))
-      (says-order saysCount count.Refused (λ n. refl) (count.Of (countIn 40 (frameAt bs .n)))
-      (readOrder layout.Correction (frameAt bs) (misfit 40 (frameAt bs .n)) []) refl)
+      record-order bs fits layout.Correction (misfit 40 (F .n)) [] saysCount count.Refused (λ n. refl) correction.countCorrections
+      (count.Of (countIn 40 (F .n))) refl refl
 
   pub healths-counted : healths.countSaid (frameIn bs)
-      ≡ inOrder (recallOrder bs ++ listChecks layout.Health 24 (frameAt bs)) refuses (answers (countIn 24 (frameAt bs .n)))
+      ≡ inOrder (countOrder layout.Health 24 bs) refuses (answers (countIn 24 (frameFrom bs .n)))
   unfolding health.countHealths
   healths-counted =
-      read-order bs fits (λ f. saysCount (health.countHealths f)) (listChecks layout.Health 24 (frameAt bs)) (countIn 24 (frameAt bs .n))
-      (says-order saysCount count.Refused (λ n. refl) (count.Of (countIn 24 (frameAt bs .n)))
-      (readOrder layout.Health (frameAt bs) (misfit 24 (frameAt bs .n)) []) refl)
+      record-order bs fits layout.Health (misfit 24 (F .n)) [] saysCount count.Refused (λ n. refl) health.countHealths
+      (count.Of (countIn 24 (F .n))) refl refl
+
+  -- POSITION: 14, 15, 16, 15, 16, 6, 7, 8, 10
+  pub position-order : positionSaid (frameIn bs) ≡ inOrder (positionOrder bs) refuses (answers (position.positionIn (frameFrom bs)))
+  unfolding position.readPosition
+  position-order =
+      record-order bs fits layout.Position (wrongSize 4 (F .n)) ((position.outOfRange (position.positionIn F), 10) ∷ []) position.saysPositionRead
+      position-read.Refused (λ n. refl) position.readPosition (position-read.At (position.positionIn F)) refl refl
+
+  -- NULL: 14, 15, 16, 15, 16, 6, 7, 8
+  pub null-order : nullSaid (frameIn bs) ≡ inOrder (nullOrder bs) refuses (answers tt)
+  unfolding null.readNull
+  null-order =
+      record-order bs fits layout.Null (wrongSize 0 (F .n)) [] null.saysNullRead null-read.Refused (λ n. refl) null.readNull null-read.Null refl refl
+
+  -- TEXT: 14, 15, 16, 15, 16, 6, 7, 8, 11, 13
+  pub text-order : (buffer : List ℕ) → textSaid (frameIn bs) buffer ≡ inOrder (textOrder bs buffer) refuses (answers (text.lengthIn (frameFrom bs)))
+  unfolding text.readText
+  text-order buffer =
+      record-order bs fits layout.Text (text.wrongWords (F .n))
+      ((anyOf text.forbidden (text.textIn F), 11) ∷ (ltb (length buffer) (text.lengthIn F), 13) ∷ []) saysCount count.Refused (λ n. refl)
+      (λ f. text.readText f buffer) (count.Of (text.lengthIn F)) refl refl
 
   -- ENTRY: 14, 15, 16, 15, 16, 6, 7, 8, 9, and 13 for its row
   module _ (i : ℕ) where
     pub correction-entry : corrections.entrySaid (frameIn bs) i
-        ≡ inOrder (recallOrder bs ++ entryChecks layout.Correction 40 (frameAt bs) i) refuses
-        (answers (entryIn correction.coding i (frameBits (frameAt bs))))
+        ≡ inOrder (recallOrder bs ++ entryChecks layout.Correction 40 (frameFrom bs) i) refuses
+        (answers (entryIn correction.coding i (frameBits (frameFrom bs))))
     unfolding correction.correctionAt
     correction-entry =
-        read-order bs fits (λ f. correction.saysCorrectionRead (correction.correctionAt f i)) (entryChecks layout.Correction 40 (frameAt bs) i)
-        (entryIn correction.coding i (frameBits (frameAt bs)))
-        (says-order correction.saysCorrectionRead correction-read.Refused (λ n. refl)
-        (correction-read.Entry (entryIn correction.coding i (frameBits (frameAt bs))))
-        (readOrder layout.Correction (frameAt bs) (misfit 40 (frameAt bs .n)) ((leb (countIn 40 (frameAt bs .n)) i, 9) ∷ [])) refl)
+        record-order bs fits layout.Correction (misfit 40 (F .n)) ((leb (countIn 40 (F .n)) i, 9) ∷ []) correction.saysCorrectionRead
+        correction-read.Refused (λ n. refl) (λ f. correction.correctionAt f i)
+        (correction-read.Entry (entryIn correction.coding i (frameBits F))) refl refl
 
     pub health-entry : healths.entrySaid (frameIn bs) i
-        ≡ inOrder (recallOrder bs ++ entryChecks layout.Health 24 (frameAt bs) i) refuses (answers (entryIn health.coding i (frameBits (frameAt bs))))
+        ≡ inOrder (recallOrder bs ++ entryChecks layout.Health 24 (frameFrom bs) i) refuses (answers (entryIn health.coding i (frameBits (frameFrom bs))))
     unfolding health.healthAt
     health-entry =
-        read-order bs fits (λ f. health.saysHealthRead (health.healthAt f i)) (entryChecks layout.Health 24 (frameAt bs) i)
-        (entryIn health.coding i (frameBits (frameAt bs)))
-        (says-order health.saysHealthRead health-read.Refused (λ n. refl)
-        (health-read.Entry (entryIn health.coding i (frameBits (frameAt bs))))
-        (readOrder layout.Health (frameAt bs) (misfit 24 (frameAt bs .n)) ((leb (countIn 24 (frameAt bs .n)) i, 9) ∷ [])) refl)
+        record-order bs fits layout.Health (misfit 24 (F .n)) ((leb (countIn 24 (F .n)) i, 9) ∷ []) health.saysHealthRead
+        health-read.Refused (λ n. refl) (λ f. health.healthAt f i) (health-read.Entry (entryIn health.coding i (frameBits F))) refl refl
 
     pub correction-row-order : (lent : List ℕ) → rowTo correction-bytes.row (corrections.entrySaid (frameIn bs) i) lent
-        ≡ inOrder ((recallOrder bs ++ entryChecks layout.Correction 40 (frameAt bs) i) ++ ((ltb (length lent) 7, 13) ∷ [])) refuses (answers tt)
+        ≡ inOrder (entryOrder layout.Correction 40 correction-bytes.row bs i lent) refuses (answers tt)
     correction-row-order lent =
         ap (λ s. rowTo correction-bytes.row s lent) correction-entry
-        ∙ row-order correction-bytes.row (recallOrder bs ++ entryChecks layout.Correction 40 (frameAt bs) i)
-        (entryIn correction.coding i (frameBits (frameAt bs))) lent
+        ∙ row-order correction-bytes.row (recallOrder bs ++ entryChecks layout.Correction 40 F i) (entryIn correction.coding i (frameBits F)) lent
 
     pub health-row-order : (lent : List ℕ) → rowTo health-bytes.row (healths.entrySaid (frameIn bs) i) lent
-        ≡ inOrder ((recallOrder bs ++ entryChecks layout.Health 24 (frameAt bs) i) ++ ((ltb (length lent) 10, 13) ∷ [])) refuses (answers tt)
+        ≡ inOrder (entryOrder layout.Health 24 health-bytes.row bs i lent) refuses (answers tt)
     health-row-order lent =
         ap (λ s. rowTo health-bytes.row s lent) health-entry
-        ∙ row-order health-bytes.row (recallOrder bs ++ entryChecks layout.Health 24 (frameAt bs) i)
-        (entryIn health.coding i (frameBits (frameAt bs))) lent
+        ∙ row-order health-bytes.row (recallOrder bs ++ entryChecks layout.Health 24 F i) (entryIn health.coding i (frameBits F)) lent

@@ -10,3 +10,4 @@ pub mod Values
 pub mod Rows
 pub mod Corrections
 pub mod Healths
+pub mod Orders

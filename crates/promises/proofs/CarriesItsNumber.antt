@@ -55,7 +55,7 @@ number-inj : {A : Type 0} (m n : ℕ) → _≡_ {A = Says A} (refuses m) (refuse
 number-inj m n e = cc
 
 -- what an order says is its first number or its value
-ordered : {A : Type 0} {numbers : List ℕ} (cs : List Check) {s : Says A} (value : A) → s ≡ inOrder cs refuses (answers value)
+pub ordered : {A : Type 0} {numbers : List ℕ} (cs : List Check) {s : Says A} (value : A) → s ≡ inOrder cs refuses (answers value)
     → numbersOf cs ≡ numbers → anyOf (λ n. ltb n 1 || ltb 16 n) numbers ≡ false → Ordered numbers cs s
 ordered {A} {numbers} cs {s} value e numbered table = record {
   numbered = numbered;

@@ -55,7 +55,7 @@ abbrev taken-none : Reader → ℕ → Taken
 taken-none r n = record { answer = Refused n; at = 0; frame = blank; reader = r }
 
 -- what is made of each refusal is what was there, so what is made of the order is
-keeps : {A X B : Type 0} {numbers : List ℕ} {cs : List Check} {s : Says A} → Ordered numbers cs s
+pub keeps : {A X B : Type 0} {numbers : List ℕ} {cs : List Check} {s : Says A} → Ordered numbers cs s
     → (of : X → B) (refuse : ℕ → X) (answer : X) (was : B) → ((n : ℕ) → of (refuse n) ≡ was) → Keeps s (of (inOrder cs refuse answer)) was
 keeps {cs} o of refuse answer was same n e = ap of (order-refuses refuse answer cs n (o .only n e)) ∙ same n
 

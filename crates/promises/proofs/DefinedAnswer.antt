@@ -2,10 +2,10 @@
 use mathlib.Core.Path.{_≡_, sym, _∙_}
 use Rattle.promises.specs.DefinedAnswer.{DefinedAnswer, TrustsNoCaller}
 
-alike : {X : Type 0} {x x′ y : X} → x ≡ y → x′ ≡ y → x ≡ x′
+pub alike : {X : Type 0} {x x′ y : X} → x ≡ y → x′ ≡ y → x ≡ x′
 alike p q = p ∙ sym q
 
-both : {X Y : Type 0} {x x′ y : X} {b b′ c : Y} → (x ≡ y) × (b ≡ c) → (x′ ≡ y) × (b′ ≡ c) → (x ≡ x′) × (b ≡ b′)
+pub both : {X Y : Type 0} {x x′ y : X} {b b′ c : Y} → (x ≡ y) × (b ≡ c) → (x′ ≡ y) × (b′ ≡ c) → (x ≡ x′) × (b ≡ b′)
 both p q = (alike (p .0) (q .0), alike (p .1) (q .1))
 
 pub defined-answer : DefinedAnswer
@@ -14,6 +14,7 @@ defined-answer = record {
   byte-of = λ κs a z z′ e e′ p q. alike p q;
   data-of = λ κs a z z′ e e′ p q. alike p q;
   word-remainder = λ κs a z z′ e e′ p q. alike p q;
+  word-passes = λ κs a z z′ e e′ p q. alike p q;
   word-of = λ κs a z z′ e e′ p q. alike p q;
   state-of = λ κs a z z′ e e′ p q. alike p q;
   health-of = λ κs a z z′ e e′ p q. alike p q;
@@ -75,6 +76,7 @@ trusts-no-caller = record {
   byte-of = λ κs a. tt;
   data-of = λ κs a. tt;
   word-remainder = λ κs a. tt;
+  word-passes = λ κs a. tt;
   word-of = λ κs a. tt;
   state-of = λ κs a. tt;
   health-of = λ κs a. tt;

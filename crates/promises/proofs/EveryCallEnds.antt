@@ -3,6 +3,7 @@ use Rattle.line.proofs.six_of.Met as six-of
 use Rattle.line.proofs.byte_of.Met as byte-of
 use Rattle.word.proofs.data_of.Met as data-of
 use Rattle.word.proofs.remainder.Met as word-remainder
+use Rattle.word.proofs.passes.Met as word-passes
 use Rattle.word.proofs.word_of.Met as word-of
 use Rattle.frame.proofs.state_of.Met as state-of
 use Rattle.frame.proofs.health_of.Met as health-of
@@ -64,6 +65,7 @@ every-call-ends = record {
   byte-of = byte-of.met;
   data-of = data-of.met;
   word-remainder = word-remainder.met;
+  word-passes = word-passes.met;
   word-of = word-of.met;
   state-of = state-of.met;
   health-of = health-of.met;

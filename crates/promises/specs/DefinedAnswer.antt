@@ -7,6 +7,7 @@ use Rattle.line.proofs.six_of.Reads as six-of
 use Rattle.line.proofs.byte_of.Reads as byte-of
 use Rattle.word.proofs.data_of.Reads as data-of
 use Rattle.word.proofs.remainder.Reads as word-remainder
+use Rattle.word.proofs.passes.Reads as word-passes
 use Rattle.word.proofs.word_of.Reads as word-of
 use Rattle.frame.proofs.state_of.Reads as state-of
 use Rattle.frame.proofs.health_of.Reads as health-of
@@ -79,6 +80,7 @@ pub record DefinedAnswer : Type 0 where
   -- word
   pub data-of : OneAnswer data-of.Learnt
   pub word-remainder : OneAnswer word-remainder.Learnt
+  pub word-passes : OneAnswer word-passes.Learnt
   pub word-of : OneAnswer word-of.Learnt
   -- frame
   pub state-of : OneAnswer state-of.Learnt
@@ -150,6 +152,7 @@ pub record TrustsNoCaller : Type 0 where
   pub byte-of : AsksNothing byte-of.Asked
   pub data-of : AsksNothing data-of.Asked
   pub word-remainder : AsksNothing word-remainder.Asked
+  pub word-passes : AsksNothing word-passes.Asked
   pub word-of : AsksNothing word-of.Asked
   pub state-of : AsksNothing state-of.Asked
   pub health-of : AsksNothing health-of.Asked

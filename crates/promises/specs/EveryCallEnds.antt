@@ -4,6 +4,7 @@ use Rattle.line.proofs.six_of.Statement as six-of
 use Rattle.line.proofs.byte_of.Statement as byte-of
 use Rattle.word.proofs.data_of.Statement as data-of
 use Rattle.word.proofs.remainder.Statement as word-remainder
+use Rattle.word.proofs.passes.Statement as word-passes
 use Rattle.word.proofs.word_of.Statement as word-of
 use Rattle.frame.proofs.state_of.Statement as state-of
 use Rattle.frame.proofs.health_of.Statement as health-of
@@ -63,6 +64,7 @@ pub record EveryCallEnds : Type 2 where
   pub byte-of : {M : Type 1} → byte-of.statement M
   pub data-of : {M : Type 1} → data-of.statement M
   pub word-remainder : {M : Type 1} → word-remainder.statement M
+  pub word-passes : {M : Type 1} → word-passes.statement M
   pub word-of : {M : Type 1} → word-of.statement M
   pub state-of : {M : Type 1} → state-of.statement M
   pub health-of : {M : Type 1} → health-of.statement M

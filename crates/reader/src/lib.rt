@@ -86,22 +86,22 @@ pub fn new() -> Reader
 pub fn feed(reader: Reader, byte: u8) -> Next
     ensures { λ r. ⌜ r ≡ fedBy reader byte ⌝ }
 {
-    let candidate = reader.candidate;
-    let ready = readiness(&reader.cells, candidate, reader.ended);
+    let mut next = reader;
+    let candidate = next.candidate;
+    let ready = readiness(&next.cells, candidate, next.ended);
     if let Ready::Refused(n) = ready {
         return Next {
             answer: Answer::Refused(n),
-            reader,
+            reader: next,
         };
     }
     let line = line::six_of(byte);
     let Six::Bits(six) = line else {
         return Next {
             answer: Answer::Refused(1),
-            reader,
+            reader: next,
         };
     };
-    let mut next = reader;
     let stepped = step(&mut next.cells, candidate, six);
     next.candidate = stepped;
     Next {
@@ -114,17 +114,17 @@ pub fn feed(reader: Reader, byte: u8) -> Next
 pub fn feed_all(reader: Reader, bytes: &[u8]) -> FedAll
     ensures { λ r. ⌜ r ≡ fedAllBy reader (now (bytes .entry)) ⌝ }
 {
-    let candidate = reader.candidate;
-    let ready = readiness(&reader.cells, candidate, reader.ended);
+    let mut next = reader;
+    let candidate = next.candidate;
+    let ready = readiness(&next.cells, candidate, next.ended);
     if let Ready::Refused(n) = ready {
         return FedAll {
             answer: Answer::Refused(n),
             used: 0,
             passed: 0,
-            reader,
+            reader: next,
         };
     }
-    let mut next = reader;
     let ran = run(&mut next.cells, candidate, bytes);
     let last = ran.candidate;
     next.candidate = last;

@@ -7,17 +7,17 @@ use Rattle.reader.proofs.Stepping.{free, all-refused, all-done}
 use Rattle.reader.proofs.feed_all.Statement.{statement}
 use Rattle.reader.proofs.feed_all.Tie as tie
 
-len : (c : tie.Start) → length (c .args .t1 .cells) ≡ 40
+len : (c : tie.Start) → length (c .args .reader .cells) ≡ 40
 len c = search needs
 
 returns : tie.Need-returns
 returns c =
     let a = c .before .before .before .before .before .before .before .before .args in
-    all-refused (a .t1) (now (a .bytes)) (c .before .before .before .readiness .result) (c .before .before .before .readiness .ensures) _ (c .before .ready .given .1)
+    all-refused (a .reader) (now (a .bytes)) (c .before .before .before .readiness .result) (c .before .before .before .readiness .ensures) _ (c .before .ready .given .1)
 
 run-requires : tie.Need-run-requires
 run-requires c κs =
-    let r = c .before .before .before .before .before .before .before .before .args .t1 in
+    let r = c .before .before .before .before .before .before .before .before .args .reader in
     let f = free r (c .before .before .before .readiness .result) (c .before .before .before .readiness .ensures) (c .before .enum-told .given .1) in
     let a = to-accepted (r .cells) (r .candidate) (f .fine) in
     (len (c .before .before .before .before .before .before .before .before), a .top, a .low, room-free (r .cells) (r .candidate) a (f .none), a .few, f .none)
@@ -25,7 +25,7 @@ run-requires c κs =
 returns-2 : tie.Need-returns-2
 returns-2 c =
     let a = c .before .before .before .before .before .before .before .before .before .before .args in
-    all-done (a .t1) (now (a .bytes)) (c .before .before .before .before .before .readiness .result) (c .before .before .before .before .before .readiness .ensures) (c .before .before .before .enum-told .given .1) _ (c .before .run .ensures)
+    all-done (a .reader) (now (a .bytes)) (c .before .before .before .before .before .readiness .result) (c .before .before .before .before .before .readiness .ensures) (c .before .before .before .enum-told .given .1) _ (c .before .run .ensures)
 
 pub feed-all-spec : {M : Type 1} → statement M
 feed-all-spec =
