@@ -1,18 +1,17 @@
 -- Data words and their bits are inverse; a field of up to 32 bits at any bit is read from three words; the fill as a number.
 -- Assumes nothing.
-use mathlib.Core.Path.{_≡_, refl, sym, ap, ap₂, subst, _∙_}
+use mathlib.Core.Path.{_≡_, refl, sym, ap, ap₂, _∙_}
 use mathlib.Core.Bool.{Bool}
 use mathlib.Core.List.{List, [], _∷_, _++_, append-assoc}
-use Prim.Native.Nat.{ℕ, zero, suc, _+_, _*_, _-_, _/_, _%_, _^_, _≤_, _<_}
+use Prim.Native.Nat.{ℕ, zero, suc, _+_, _*_, _-_, _/_, _%_, _^_, _≤_}
 use native.Mathlib.Nat.{add-zero}
 use native.Mathlib.Omega.{arith}
 use lib.ListN.{length, take, drop, getD, length-append, length-take, length-drop, take-append-drop}
 use lib.Seq.{take-at, drop-at, drop-drop, getD-drop, drop-nil}
-use lib.Pow.{pow-add, high, low}
 use Rattle.bits.specs.Bits.{bits, number}
 use Rattle.bits.specs.Fields.{fieldAt}
 use Rattle.bits.specs.Rows.{dataBits, cutWords, fillOf, filled, wordsIn}
-use Rattle.bits.proofs.Numbers.{length-bits, number-bits, number-lt, bits-number, bits-split, number-append}
+use Rattle.bits.proofs.Numbers.{length-bits, number-bits, bits-number, bits-split, number-append}
 use Rattle.bits.proofs.FieldLaws.{field-front, number-part}
 
 -- WORDS AND BITS

@@ -6,7 +6,6 @@ use Rattle.frame.specs.declared.Header.{Header}
 use Rattle.frame.specs.declared.Frame.{Frame}
 use Rattle.cabi.specs.Answer.{andThen}
 use Rattle.cabi.specs.Header.{headedBy, saysHeaded, headed}
-use Rattle.cabi.specs.declared.header.Headed.{Headed}
 use Rattle.cabi.specs.declared.header.Headed.the-variants as of
 
 module _ (kind station z sequence health : ℕ) (next : Header → Says Frame) where

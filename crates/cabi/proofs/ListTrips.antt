@@ -14,6 +14,7 @@ use Rattle.bits.proofs.SignedLaws.{mag-signed}
 use Rattle.bits.proofs.WordLaws.{length-words}
 use Rattle.bits.specs.Fields.{span}
 use Rattle.bits.specs.Rows.{wordsIn, filled}
+use Rattle.frame.specs.Widths.{anyOf}
 use Rattle.frame.specs.declared.Frame.{Frame}
 use Rattle.frame.specs.declared.Header.{Header}
 use Rattle.frame.specs.declared.Layout.{Layout}
@@ -24,7 +25,7 @@ use Rattle.journal.specs.Bytes.{octets, AreBytes}
 use Rattle.journal.specs.Journal.{keptBy, saysKept}
 use Rattle.journal.proofs.ByteLaws.{fit-take, fit-drop}
 use Rattle.journal.proofs.RoundTrip.{recall-kept}
-use Rattle.pack.specs.Coding.{Coding, anyEntry, entryBits, frameWith}
+use Rattle.pack.specs.Coding.{Coding, entryBits, frameWith}
 use Rattle.pack.proofs.Round.{Faithful, length-entries}
 use Rattle.record.specs.Stages.{makeOrder, refusedMade, doneMade, saysMade, saysCount}
 use Rattle.record.specs.Lists.{listMade}
@@ -88,7 +89,7 @@ within : {A : Type 0} (asked : Layout) (k : Coding A) (pattern most : ℕ) (out 
 unfolding frameWith wordsIn
 within asked k pattern most out fit h es c f e =
     let t = order-told refusedMade (doneMade (frameWith pattern k h (take c es))) (doneMade f) (λ n. done-apart n f)
-    (makeOrder asked h ((eqb c 0 || ltb most c, 12) ∷ (anyEntry out (take c es), 10) ∷ [])) e in
+    (makeOrder asked h ((eqb c 0 || ltb most c, 12) ∷ (anyOf out (take c es), 10) ∷ [])) e in
     let few : c ≤ most = ltb-false most c (both-false (eqb c 0) (ltb most c) (t .0 .1 .1 .1 .0) .1) in
     let bits = entryBits k (take c es) in
     let n = (length bits + 23) / 24 in

@@ -18,7 +18,6 @@ use Rattle.frame.proofs.StateLaws.{state-inside}
 use Rattle.journal.specs.Bytes.{wordsIn}
 use Rattle.journal.specs.Forms.{nByte, wordsAfter, startOrder}
 use Rattle.journal.specs.Journal.{dataOrder, recallOrder, refused, recalled, recalledBy, saysFound, saysRecalled}
-use Rattle.journal.specs.declared.Found.{Found}
 use Rattle.journal.specs.declared.Found.the-variants as found
 use Rattle.journal.specs.declared.Recalled.{Recalled}
 use Rattle.journal.proofs.WordLaws.{length-words}

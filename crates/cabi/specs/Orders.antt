@@ -18,7 +18,7 @@ use Rattle.journal.specs.Bytes.{wordsIn}
 use Rattle.journal.specs.Forms.{wordsAfter}
 use Rattle.journal.specs.Journal.{recallOrder}
 use Rattle.writer.specs.Sending.{bytesOf}
-use Rattle.pack.specs.Coding.{Coding, anyEntry, frameWith}
+use Rattle.pack.specs.Coding.{Coding, frameWith}
 use Rattle.record.specs.Stages.{otherLayout, countIn, misfit, wrongSize, makeOrder}
 use Rattle.record.specs.Corrections as correction
 use Rattle.record.specs.Healths as health
@@ -103,7 +103,7 @@ headerOf kind station z sequence code = record { kind = kind; station = station;
 
 -- a list's own: 12, 10
 abbrev pub listChecks : {A : Type 0} → ℕ → (A → Bool) → List A → ℕ → List Check
-listChecks most out es c = (eqb c 0 || ltb most c, 12) ∷ (anyEntry out (take c es), 10) ∷ []
+listChecks most out es c = (eqb c 0 || ltb most c, 12) ∷ (anyOf out (take c es), 10) ∷ []
 
 -- a text's own: 12, 11
 abbrev pub textChecks : List ℕ → List Check

@@ -2,7 +2,7 @@
 use mathlib.Core.Path.{_≡_, refl, sym, ap, ap₂, subst, _∙_}
 use mathlib.Core.Bool.{Bool, true, false, cond, not}
 use mathlib.Core.List.{List, [], _∷_, _++_}
-use Prim.Native.Nat.{ℕ, zero, suc, _+_, _-_, _*_, _≤_, _<_}
+use Prim.Native.Nat.{ℕ, zero, suc, _+_, _-_, _≤_, _<_}
 use native.Mathlib.Nat.{add-zero, zero-add, add-assoc}
 use native.Mathlib.Omega.{arith}
 use lib.ListN.{length, take, drop, length-append, length-drop}
@@ -13,21 +13,17 @@ use Rattle.line.specs.Line.{isData, six}
 use Rattle.frame.specs.Header.{headerOf}
 use Rattle.frame.specs.Frames.{framed, frameOf, blank}
 use Rattle.frame.specs.Widths.{stateOutside}
-use Rattle.frame.specs.declared.State.{State}
 use Rattle.frame.proofs.StateLaws.{state-inside}
 use Rattle.stream.specs.Standing.{frameAt}
-use Rattle.reader.specs.Reading.{bitsOf, past, busy, stepCells, stepTo, Run, spent, runTo, ranBy, fedAllBy, takeTo, takenBy}
+use Rattle.reader.specs.Reading.{bitsOf, past, stepCells, stepTo, spent, runTo, ranBy, fedAllBy, takeTo, takenBy}
 use Rattle.reader.specs.declared.Candidate.{Candidate}
 use Rattle.reader.specs.declared.Reader.{Reader}
-use Rattle.reader.specs.declared.Answer.{Answer}
 use Rattle.reader.specs.declared.Answer.the-variants.{Done, Refused}
-use Rattle.reader.specs.declared.FedAll.{FedAll}
 use Rattle.reader.specs.declared.Taken.{Taken}
 use Rattle.listing.specs.Text.{frameLine}
 use Rattle.listing.specs.Listing.{fedOn, handedOn, Lines, lineThen, linesOf, linedBy}
 use Rattle.listing.specs.declared.Listing.{Listing}
 use Rattle.listing.specs.declared.Fed.{Fed}
-use Rattle.listing.specs.declared.Lined.{Lined}
 use Rattle.listing.proofs.StoreLaws.{sets-append}
 
 -- ---- the reader's answers

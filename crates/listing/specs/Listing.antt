@@ -1,14 +1,12 @@
 -- What the calls of a listing answer, by the reader's own calls: feeding, taking, ending. Assumes nothing.
-use mathlib.Core.Bool.{cond}
 use mathlib.Core.List.{List, [], _∷_, _++_}
 use Prim.Native.Nat.{ℕ, zero, suc, _+_, _*_, _/_, _%_, _^_}
 use lib.Dec.{ltb}
 use lib.ListN.{length, drop}
 use lib.Seq.{sets}
-use Rattle.answer.specs.Order.{Says, refuses, answers, Check, inOrder}
+use Rattle.answer.specs.Order.{Says, Check, inOrder}
 use Rattle.reader.specs.Reading.{started, past, busy, fedAllBy, endedBy, takenBy, saysAnswer, carrying}
 use Rattle.reader.specs.declared.Reader.{Reader}
-use Rattle.reader.specs.declared.Taken.{Taken}
 use Rattle.reader.specs.declared.Answer.{Answer}
 use Rattle.reader.specs.declared.Answer.the-variants.{Done, Refused}
 use Rattle.listing.specs.Text.{frameLine, lastLine}
@@ -95,7 +93,7 @@ pieceText l bs out = inOrder (pieceOrder l (length out)) (λ n. out) (sets out 0
 
 -- room for the lines that the end may still release, 16 at most, and the last line
 abbrev pub endRoom : ℕ
-endRoom = 2499
+endRoom = (16 + 1) * lineRoom
 
 -- the input has ended
 unfoldable pub endedOn : Listing → Reader → Listing

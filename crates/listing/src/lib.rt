@@ -1,10 +1,8 @@
 // What a technician reads: a line for each frame, and a last line of totals.
 ghost use mathlib.Core.Path.{_≡_};
-ghost use mathlib.Core.List.{[], _∷_};
 ghost use Prim.Native.Nat.{_*_, _≤_};
 ghost use lib.ListN.{length};
 ghost use lib.Seq.{sets};
-ghost use Rattle.answer.specs.Order.{inOrder};
 ghost use Rattle.listing.specs.Listing.{begun, fedOn, handedOn, endedOn, linesOf, linedBy, readyBy, refused, pieceBy, pieceText, finishBy, finishText};
 
 mod text;

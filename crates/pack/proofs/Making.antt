@@ -13,13 +13,13 @@ use Rattle.bits.specs.Rows.{dataBits, rowsAt, filled, wordsIn}
 use Rattle.bits.proofs.RowLaws.{fields-front, rows-front}
 use Rattle.bits.proofs.WordLaws.{length-data, data-append}
 use Rattle.frame.specs.Frames.{framed, dataWords}
-use Rattle.frame.specs.Widths.{outside}
+use Rattle.frame.specs.Widths.{anyOf, outside}
 use Rattle.frame.specs.declared.Header.{Header}
 use Rattle.frame.specs.declared.Frame.{Frame}
 use Rattle.frame.proofs.FrameLaws.{length-data as length-data-words}
 use Rattle.pack.specs.declared.Packer.{Packer}
 use Rattle.pack.specs.Packing.{emptyPacker, pushedAll, pushedRows, filledUp}
-use Rattle.pack.specs.Coding.{Coding, frameBits, rowsOf, entryBits, frameWith, anyEntry}
+use Rattle.pack.specs.Coding.{Coding, frameBits, rowsOf, entryBits, frameWith}
 use Rattle.pack.proofs.Holds.{Narrow, Ready, empty-holds, rows-hold, fill-holds, whole-holds}
 
 -- ---- the entries below a count, one by one
@@ -29,11 +29,11 @@ module _ {A : Type 0} (es : List A) (n i : ℕ) (d : A) (l : n ≤ length es) (h
   first = drop-cons (take n es) i d (omega (arith, length-take n es))
       ∙ ap₂ _∷_ (getD-take n es i d h) (ap (λ k. drop k (take n es)) (sym (add-one i)))
 
-  pub any-miss : (p : A → Bool) → p (getD es i d) ≡ false → anyEntry p (drop i (take n es)) ≡ anyEntry p (drop (i + 1) (take n es))
-  any-miss p e = ap (anyEntry p) first ∙ ap (λ b. b || anyEntry p (drop (i + 1) (take n es))) e
+  pub any-miss : (p : A → Bool) → p (getD es i d) ≡ false → anyOf p (drop i (take n es)) ≡ anyOf p (drop (i + 1) (take n es))
+  any-miss p e = ap (anyOf p) first ∙ ap (λ b. b || anyOf p (drop (i + 1) (take n es))) e
 
-  pub any-hit : (p : A → Bool) → p (getD es i d) ≡ true → anyEntry p (drop i (take n es)) ≡ true
-  any-hit p e = ap (anyEntry p) first ∙ ap (λ b. b || anyEntry p (drop (i + 1) (take n es))) e
+  pub any-hit : (p : A → Bool) → p (getD es i d) ≡ true → anyOf p (drop i (take n es)) ≡ true
+  any-hit p e = ap (anyOf p) first ∙ ap (λ b. b || anyOf p (drop (i + 1) (take n es))) e
 
   pub rows-next : (k : Coding A) (p : Packer)
       → pushedRows (k .widths) (rowsOf k (drop i (take n es))) p

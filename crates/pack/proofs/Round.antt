@@ -13,11 +13,11 @@ use Rattle.bits.specs.Rows.{dataBits, cutWords, packedRows, rowsAt, AllFit, fil
 use Rattle.bits.proofs.RowLaws.{length-rows, rows-put, put-rows, fits-rows, length-rows-at, rows-at}
 use Rattle.bits.proofs.WordLaws.{length-data, length-words, length-fill, data-wordsIn}
 use Rattle.frame.specs.Frames.{framed, dataWords}
-use Rattle.frame.specs.Widths.{headerOutside, outside}
+use Rattle.frame.specs.Widths.{anyOf, headerOutside, outside}
 use Rattle.frame.specs.declared.Header.{Header}
 use Rattle.frame.specs.declared.Frame.{Frame}
 use Rattle.frame.proofs.FrameLaws.{data-framed, framed-inside, framed-again, words-below, below-take, length-data as length-data-words}
-use Rattle.pack.specs.Coding.{Coding, frameBits, entryIn, rowsOf, entryBits, frameWith, anyEntry, Each}
+use Rattle.pack.specs.Coding.{Coding, frameBits, entryIn, rowsOf, entryBits, frameWith, Each}
 use Rattle.pack.proofs.Words.{below-cut, words-data}
 
 -- a good entry's codes fit their widths and mean it; codes that fit are those of what they mean
@@ -174,6 +174,6 @@ module _ {A : Type 0} (k : Coding A) where
 
 -- a property that no codes' meaning has, no entry read has
 pub none-read : {A : Type 0} (k : Coding A) (p : A → Bool) → ((vs : List ℕ) → Fit (k .widths) vs → p (k .meant vs) ≡ false)
-    → (rs : List (List ℕ)) → AllFit (k .widths) rs → anyEntry p (map (k .meant) rs) ≡ false
+    → (rs : List (List ℕ)) → AllFit (k .widths) rs → anyOf p (map (k .meant) rs) ≡ false
 none-read k p each [] f = refl
 none-read k p each (r ∷ rs) f = rw (each r (f .0)) (none-read k p each rs (f .1))

@@ -1,6 +1,6 @@
 -- What a layout says of its entries, as data: the widths of the fields, what their codes mean, the codes of an entry. A frame is read
 -- and made by these definitions alone. Assumes nothing.
-use mathlib.Core.Bool.{Bool, false, _||_}
+use mathlib.Core.Bool.{Bool}
 use mathlib.Core.List.{List, [], _∷_, map}
 use Prim.Native.Nat.{ℕ, _*_}
 use Rattle.bits.specs.Fields.{fieldsAt, span}
@@ -32,11 +32,6 @@ entryBits k es = packedRows (k .widths) (rowsOf k es)
 -- the frame of these entries, its last word filled by a pattern; N follows from the entries
 unfoldable pub frameWith : {A : Type 0} → ℕ → Coding A → Header → List A → Frame
 frameWith pattern k h es = framed h (wordsIn pattern (entryBits k es))
-
--- one of the entries has a property
-abbrev pub anyEntry : {A : Type 0} → (A → Bool) → List A → Bool
-anyEntry p [] = false
-anyEntry p (e ∷ es) = p e || anyEntry p es
 
 -- each entry of a list
 abbrev pub Each : {A : Type 0} → (A → Type 0) → List A → Type 0

@@ -17,7 +17,7 @@ use Rattle.frame.specs.declared.Frame.{Frame}
 use Rattle.frame.specs.declared.Layout.{Layout}
 use Rattle.frame.specs.declared.Layout.the-variants as layout
 use Rattle.frame.proofs.FrameLaws.{n-within, length-framed}
-use Rattle.pack.specs.Coding.{entryBits, frameWith, anyEntry}
+use Rattle.pack.specs.Coding.{entryBits, frameWith}
 use Rattle.record.specs.Stages.{makeOrder, refusedMade, doneMade, HeaderFor, Sent}
 use Rattle.record.specs.Corrections as corrections
 use Rattle.record.specs.Healths as healths
@@ -88,13 +88,13 @@ what-can-be-sent = record {
   corrections = λ h es c d typed s.
       let sent = corrections-sent h es c d typed s in
       sent-reads-back layout.Correction h
-      (makeOrder layout.Correction h ((eqb c 0 || ltb 18 c, 12) ∷ (anyEntry corrections.outOfRange (take c es), 10) ∷ []))
+      (makeOrder layout.Correction h ((eqb c 0 || ltb 18 c, 12) ∷ (anyOf corrections.outOfRange (take c es), 10) ∷ []))
       (wordsIn corrections.fill (entryBits corrections.coding (take c es)))
       (corrections.CorrectionsMade h es c d) sent (s .header) (sent .reads .header) (sent .reads .inside);
   healths = λ h es c d s.
       let sent = healths-sent h es c d s in
       sent-reads-back layout.Health h
-      (makeOrder layout.Health h ((eqb c 0 || ltb 31 c, 12) ∷ (anyEntry healths.outOfRange (take c es), 10) ∷ []))
+      (makeOrder layout.Health h ((eqb c 0 || ltb 31 c, 12) ∷ (anyOf healths.outOfRange (take c es), 10) ∷ []))
       (wordsIn healths.fill (entryBits healths.coding (take c es)))
       (healths.HealthsMade h es c d) sent (s .header) (sent .reads .header) (sent .reads .inside);
   position = λ h p typed s.

@@ -23,7 +23,6 @@ use Rattle.reader.specs.declared.Reader.{Reader}
 use Rattle.writer.specs.Answer.{openChecks, openedBy, writeChecks, writtenBy, saysOpened, saysWritten}
 use Rattle.writer.specs.declared.Carried.{Carried}
 use Rattle.journal.specs.Journal.{keepOrder, keptBy, recallOrder, recalledBy, saysKept, saysRecalled}
-use Rattle.pack.specs.Coding.{anyEntry}
 use Rattle.record.specs.Stages.{otherLayout, countIn, misfit, wrongSize, askedOf, readOrder, makeOrder, saysAsked, saysCount, saysMade}
 use Rattle.record.specs.Corrections as corrections
 use Rattle.record.specs.Healths as healths
@@ -79,11 +78,11 @@ pub record CarriesItsNumber : Type 0 where
   -- making a frame: 5, 6, 7, 12, then 10 or 11
   pub make-corrections : (h : Header) (es : List Correction) (c : ℕ)
       → Ordered (5 ∷ 6 ∷ 7 ∷ 12 ∷ 10 ∷ [])
-      (makeOrder layout.Correction h ((eqb c 0 || ltb 18 c, 12) ∷ (anyEntry corrections.outOfRange (take c es), 10) ∷ []))
+      (makeOrder layout.Correction h ((eqb c 0 || ltb 18 c, 12) ∷ (anyOf corrections.outOfRange (take c es), 10) ∷ []))
       (saysMade (corrections.makeCorrections h es c))
   pub make-healths : (h : Header) (es : List SatelliteHealth) (c : ℕ)
       → Ordered (5 ∷ 6 ∷ 7 ∷ 12 ∷ 10 ∷ [])
-      (makeOrder layout.Health h ((eqb c 0 || ltb 31 c, 12) ∷ (anyEntry healths.outOfRange (take c es), 10) ∷ []))
+      (makeOrder layout.Health h ((eqb c 0 || ltb 31 c, 12) ∷ (anyOf healths.outOfRange (take c es), 10) ∷ []))
       (saysMade (healths.makeHealths h es c))
   pub make-position : (h : Header) (p : Position)
       → Ordered (5 ∷ 6 ∷ 7 ∷ 10 ∷ []) (makeOrder layout.Position h ((positions.outOfRange p, 10) ∷ [])) (saysMade (positions.makePosition h p))

@@ -1,17 +1,16 @@
 -- What the calls' code computes against what the definitions say of it, over plain values. Assumes nothing.
 use mathlib.Core.Path.{_≡_, refl, sym, ap, _∙_}
 use mathlib.Core.Bool.{Bool, true, false, cond, not}
-use mathlib.Core.List.{List, [], _∷_, _++_}
-use Prim.Native.Nat.{ℕ, _+_, _-_, _*_, _≤_, _<_}
+use mathlib.Core.List.{List, [], _∷_}
+use Prim.Native.Nat.{ℕ, _+_, _-_}
 use native.Mathlib.Omega.{arith}
 use Rattle.answer.specs.Order.{inOrder}
 use Rattle.answer.proofs.OrderLaws.{order-map, order-append}
 use Rattle.bits.specs.Bits.{number}
 use Rattle.line.specs.Line.{isData, six}
-use Rattle.stream.specs.Standing.{size}
 use Rattle.reader.specs.Cells.{roomEnd, pushedCells}
 use Rattle.reader.specs.Hunting.{huntOf}
-use Rattle.reader.specs.Reading.{candidateBits, pastOf, busy, readyOf, movedTo, stepCells, stepTo, pushed, fedBy, Run, runTo, ranBy, fedAllBy, endTo, endedBy}
+use Rattle.reader.specs.Reading.{pastOf, busy, readyOf, movedTo, stepCells, stepTo, pushed, fedBy, Run, runTo, ranBy, fedAllBy, endTo, endedBy}
 use Rattle.reader.specs.declared.hunt.Stop.{Stop}
 use Rattle.reader.specs.declared.Candidate.{Candidate}
 use Rattle.reader.specs.declared.Reader.{Reader}

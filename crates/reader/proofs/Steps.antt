@@ -1,14 +1,14 @@
 -- The hunt over the buffer, one test at a time: what the loops of `seek` and `hunt` go by. Assumes nothing.
-use mathlib.Core.Path.{_≡_, refl, sym, ap, _∙_}
-use mathlib.Core.Bool.{Bool, true, false, _&&_}
+use mathlib.Core.Path.{_≡_, sym, ap, _∙_}
+use mathlib.Core.Bool.{Bool, true, false}
 use mathlib.Core.List.{List}
-use Prim.Native.Nat.{ℕ, zero, suc, _+_, _-_, _*_, _≤_, _<_}
+use Prim.Native.Nat.{ℕ, suc, _+_, _-_, _*_, _≤_, _<_}
 use native.Mathlib.Omega.{arith}
 use lib.ListN.{length, take, drop}
 use lib.Seq.{take-take}
 use Rattle.bits.specs.Bits.{number, bits}
 use Rattle.bits.proofs.Numbers.{bits-number}
-use Rattle.word.specs.Word.{dataOf, passes}
+use Rattle.word.specs.Word.{dataOf}
 use Rattle.frame.specs.Header.{preambled, nOf}
 use Rattle.stream.specs.Standing.{wordAt, right, nAt, size}
 use Rattle.stream.specs.Verdict.{hunt}

@@ -9,11 +9,11 @@ use lib.ListN.{length, take, getD}
 use Rattle.answer.specs.Order.{inOrder}
 use Rattle.bits.specs.Fields.{span}
 use Rattle.bits.specs.Rows.{FillAfter}
-use Rattle.frame.specs.Widths.{outside}
+use Rattle.frame.specs.Widths.{anyOf, outside}
 use Rattle.frame.specs.declared.Header.{Header}
 use Rattle.frame.specs.declared.Frame.{Frame}
 use Rattle.frame.specs.declared.Layout.{Layout}
-use Rattle.pack.specs.Coding.{Coding, frameBits, entryIn, frameWith, anyEntry}
+use Rattle.pack.specs.Coding.{Coding, frameBits, entryIn, frameWith}
 use Rattle.record.specs.declared.stage.Count.{Count}
 use Rattle.record.specs.declared.stage.Count.the-variants as count
 use Rattle.record.specs.declared.stage.Made.{Made}
@@ -33,7 +33,7 @@ module _ {A : Type 0} (asked : Layout) (k : Coding A) where
   -- MAKING: 5, 6, 7, 12, 10; the entries past the count are not looked at
   abbrev pub listMade : (pattern most : ℕ) → (A → Bool) → Header → List A → ℕ → Made
   listMade pattern most out h es c =
-      inOrder (makeOrder asked h ((eqb c 0 || ltb most c, 12) ∷ (anyEntry out (take c es), 10) ∷ [])) refusedMade
+      inOrder (makeOrder asked h ((eqb c 0 || ltb most c, 12) ∷ (anyOf out (take c es), 10) ∷ [])) refusedMade
       (doneMade (frameWith pattern k h (take c es)))
 
 -- A made frame f reads back: its header, its count, every entry; it is within its widths, N is worked out, its fill is standard

@@ -1,11 +1,12 @@
 // Types 1 and 9: corrections, 40 bits a satellite, 1 to 18 satellites.
 ghost use mathlib.Core.Path.{_≡_};
 ghost use Prim.Native.Nat.{_+_, _*_, _≤_, _<_};
-ghost use lib.ListN.{length, take};
+ghost use lib.ListN.{take};
 ghost use Rattle.bits.specs.Fields.{fieldsAt};
 ghost use Rattle.bits.specs.Rows.{dataBits};
+ghost use Rattle.frame.specs.Widths.{anyOf};
 ghost use Rattle.pack.specs.Packing.{emptyPacker, pushedAll, pushedRows, filledUp};
-ghost use Rattle.pack.specs.Coding.{anyEntry, rowsOf};
+ghost use Rattle.pack.specs.Coding.{rowsOf};
 ghost use Rattle.record.specs.Corrections.{widths, codes, meant, coding, fill, numbersOut, outOfRange, countCorrections, correctionAt, makeCorrections};
 use crate::stage::Asked;
 use crate::stage::Count;
@@ -127,7 +128,7 @@ fn numbers_out(scale: u8, udre: u8, satellite: u8) -> bool
 // An entry below the count is outside its range.
 fn any_out(entries: [Correction; 18], count: usize) -> bool
     requires { ⌜ count ≤ 18 ⌝ }
-    ensures { λ r. ⌜ r ≡ anyEntry outOfRange (take count entries) ⌝ }
+    ensures { λ r. ⌜ r ≡ anyOf outOfRange (take count entries) ⌝ }
 {
     let mut i = 0;
     while i < count {

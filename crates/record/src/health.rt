@@ -1,11 +1,12 @@
 // Type 5: satellite health, one word a satellite, 1 to 31 satellites.
 ghost use mathlib.Core.Path.{_≡_};
 ghost use Prim.Native.Nat.{_+_, _*_, _≤_, _<_};
-ghost use lib.ListN.{length, take};
+ghost use lib.ListN.{take};
 ghost use Rattle.bits.specs.Fields.{fieldsAt};
 ghost use Rattle.bits.specs.Rows.{dataBits};
+ghost use Rattle.frame.specs.Widths.{anyOf};
 ghost use Rattle.pack.specs.Packing.{emptyPacker, pushedAll, pushedRows, filledUp};
-ghost use Rattle.pack.specs.Coding.{anyEntry, rowsOf};
+ghost use Rattle.pack.specs.Coding.{rowsOf};
 ghost use Rattle.record.specs.Healths.{widths, codes, meant, coding, fill, outOfRange, countHealths, healthAt, makeHealths};
 use crate::stage::Asked;
 use crate::stage::Count;
@@ -124,7 +125,7 @@ pub fn health_at(frame: Frame, index: usize) -> HealthRead
 // An entry below the count is outside its range.
 fn any_out(entries: [SatelliteHealth; 31], count: usize) -> bool
     requires { ⌜ count ≤ 31 ⌝ }
-    ensures { λ r. ⌜ r ≡ anyEntry outOfRange (take count entries) ⌝ }
+    ensures { λ r. ⌜ r ≡ anyOf outOfRange (take count entries) ⌝ }
 {
     let mut i = 0;
     while i < count {

@@ -17,13 +17,13 @@ use Rattle.bits.specs.Rows.{dataBits, rowsAt, fillOf, FillAfter}
 use Rattle.bits.proofs.RowLaws.{fits-rows}
 use Rattle.bits.proofs.WordLaws.{length-data}
 use Rattle.frame.specs.Frames.{framed, dataWords}
-use Rattle.frame.specs.Widths.{outside, late}
+use Rattle.frame.specs.Widths.{anyOf, outside, late}
 use Rattle.frame.specs.declared.Header.{Header}
 use Rattle.frame.specs.declared.Frame.{Frame}
 use Rattle.frame.specs.declared.Layout.{Layout}
 use Rattle.frame.proofs.FrameLaws.{header-within, n-within, length-data as length-data-words}
 use Rattle.frame.proofs.WidthLaws.{both-false}
-use Rattle.pack.specs.Coding.{Coding, frameBits, entryIn, frameWith, anyEntry, Each}
+use Rattle.pack.specs.Coding.{Coding, frameBits, entryIn, frameWith, Each}
 use Rattle.pack.proofs.Round.{Faithful, made-n, made-inside, made-fill, made-entry, entries-read, made-again, none-read}
 use Rattle.record.specs.declared.stage.Count.the-variants as count
 use Rattle.record.specs.Stages.{otherLayout, countIn, misfit, readOrder, makeOrder, refusedMade, doneMade}
@@ -104,10 +104,10 @@ no-fill asked k pattern f c full n whole = none ∙ sym (ap (λ l. take (length 
 
 -- an entry that no check refuses is good, entry by entry
 each-good : {A : Type 0} (out : A → Bool) (Typed Good : A → Type 0) → ((e : A) → Typed e → out e ≡ false → Good e)
-    → (es : List A) → Each Typed es → anyEntry out es ≡ false → Each Good es
+    → (es : List A) → Each Typed es → anyOf out es ≡ false → Each Good es
 each-good out Typed Good good [] t e = tt
 each-good out Typed Good good (x ∷ es) t e =
-    let s = both-false (out x) (anyEntry out es) e in (good x (t .0) (s .0), each-good out Typed Good good es (t .1) (s .1))
+    let s = both-false (out x) (anyOf out es) e in (good x (t .0) (s .0), each-good out Typed Good good es (t .1) (s .1))
 
 module _ {A B : Type 0} (asked : Layout) (k : Coding A) (pattern most : ℕ) (out : A → Bool) (refuse : ℕ → B) (entry : A → B)
     (Typed Good : A → Type 0) (law : Faithful k Good)
@@ -171,7 +171,7 @@ module _ {A B : Type 0} (asked : Layout) (k : Coding A) (pattern most : ℕ) (ou
         → FillAfter pattern (c * span (k .widths)) (frameBits f)
         → listMade asked k pattern most out (f .header) es c ≡ doneMade f
     read-then-made f es c d full long n e fill =
-        order-answers refusedMade _ (makeOrder asked (f .header) ((eqb c 0 || ltb most c, 12) ∷ (anyEntry out (take c es), 10) ∷ [])) (
+        order-answers refusedMade _ (makeOrder asked (f .header) ((eqb c 0 || ltb most c, 12) ∷ (anyOf out (take c es), 10) ∷ [])) (
           header-within f (r .inside),
           (
             r .same,
@@ -179,7 +179,7 @@ module _ {A B : Type 0} (asked : Layout) (k : Coding A) (pattern most : ℕ) (ou
               r .hour,
               (
                 count-fits,
-                (ap (anyEntry out) same ∙ none-read k out none (rowsAt (k .widths) c 0 (frameBits f)) (fits-rows (k .widths) c 0 (frameBits f)), tt),
+                (ap (anyOf out) same ∙ none-read k out none (rowsAt (k .widths) c 0 (frameBits f)) (fits-rows (k .widths) c 0 (frameBits f)), tt),
               ),
             ),
           ),

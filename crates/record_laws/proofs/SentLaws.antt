@@ -19,9 +19,8 @@ use Rattle.frame.specs.declared.Frame.{Frame}
 use Rattle.frame.specs.declared.Layout.{Layout}
 use Rattle.frame.specs.declared.Layout.the-variants as layout
 use Rattle.frame.proofs.WidthLaws.{both-false}
-use Rattle.pack.specs.Coding.{Coding, frameBits, entryIn, frameWith, anyEntry}
+use Rattle.pack.specs.Coding.{Coding, frameBits, entryIn, frameWith}
 use Rattle.record.specs.declared.stage.Count.the-variants as count
-use Rattle.record.specs.declared.stage.Making.the-variants as making
 use Rattle.record.specs.Stages.{layoutNumber, otherLayout, countIn, misfit, wrongSize, readOrder, makeOrder, refusedMade, doneMade, HeaderFor, FrameFor}
 use Rattle.record.specs.Lists.{listMade, listCount, listEntry, Sendable, Holding, ListRead}
 use Rattle.record.proofs.ListCode.{count-right}
@@ -108,25 +107,25 @@ told-some-few c most e = let s = both-false (eqb c 0) (ltb most c) e in (positiv
 
 -- ---- 10 and 11: no entry has a property when none has it, by number
 
-pub none-entry : {A : Type 0} (p : A → Bool) (es : List A) (d : A) → ((i : ℕ) → i < length es → p (getD es i d) ≡ false) → anyEntry p es ≡ false
+pub none-entry : {A : Type 0} (p : A → Bool) (es : List A) (d : A) → ((i : ℕ) → i < length es → p (getD es i d) ≡ false) → anyOf p es ≡ false
 none-entry p [] d h = refl
 none-entry p (e ∷ es) d h = rw (h 0 (omega arith)) (none-entry p es d (λ i l. h (suc i) (omega arith)))
 
 -- of the first c entries
-pub none-taken : {A : Type 0} (p : A → Bool) (es : List A) (c : ℕ) (d : A) → ((i : ℕ) → i < c → p (getD es i d) ≡ false) → anyEntry p (take c es) ≡ false
+pub none-taken : {A : Type 0} (p : A → Bool) (es : List A) (c : ℕ) (d : A) → ((i : ℕ) → i < c → p (getD es i d) ≡ false) → anyOf p (take c es) ≡ false
 none-taken p es c d h = none-entry p (take c es) d (λ i l. at i (omega (arith, length-take c es)))
   where
     at : (i : ℕ) → i < c → p (getD (take c es) i d) ≡ false
     at i l = ap p (getD-take c es i d l) ∙ h i l
 
 -- and back
-pub told-entry : {A : Type 0} (p : A → Bool) (es : List A) (d : A) (i : ℕ) → anyEntry p es ≡ false → i < length es → p (getD es i d) ≡ false
+pub told-entry : {A : Type 0} (p : A → Bool) (es : List A) (d : A) (i : ℕ) → anyOf p es ≡ false → i < length es → p (getD es i d) ≡ false
 told-entry p [] d i e l = absurd (omega arith)
-told-entry p (x ∷ es) d zero e l = both-false (p x) (anyEntry p es) e .0
-told-entry p (x ∷ es) d (suc i) e l = told-entry p es d i (both-false (p x) (anyEntry p es) e .1) (omega arith)
+told-entry p (x ∷ es) d zero e l = both-false (p x) (anyOf p es) e .0
+told-entry p (x ∷ es) d (suc i) e l = told-entry p es d i (both-false (p x) (anyOf p es) e .1) (omega arith)
 
 -- the same test over numbers
-pub any-entry : (p : ℕ → Bool) (es : List ℕ) → anyOf p es ≡ anyEntry p es
+pub any-entry : (p : ℕ → Bool) (es : List ℕ) → anyOf p es ≡ anyOf p es
 any-entry p [] = refl
 any-entry p (e ∷ es) = ap (λ b. p e || b) (any-entry p es)
 
@@ -140,25 +139,25 @@ module _ {A : Type 0} (asked : Layout) (k : Coding A) (pattern most : ℕ) (out 
       → listMade asked k pattern most out h es c ≡ doneMade (frameWith pattern k h (take c es))
   list-made right h es c d s =
       order-answers refusedMade (doneMade (frameWith pattern k h (take c es)))
-      (makeOrder asked h ((eqb c 0 || ltb most c, 12) ∷ (anyEntry out (take c es), 10) ∷ []))
-      (make-passes asked h ((eqb c 0 || ltb most c, 12) ∷ (anyEntry out (take c es), 10) ∷ []) (s .header)
+      (makeOrder asked h ((eqb c 0 || ltb most c, 12) ∷ (anyOf out (take c es), 10) ∷ []))
+      (make-passes asked h ((eqb c 0 || ltb most c, 12) ∷ (anyOf out (take c es), 10) ∷ []) (s .header)
       (some-few c most (s .some) (s .few), (none-taken out es c d (λ i l. right (getD es i d) (s .ranges i l)), tt)))
 
   -- and what is not refused could be sent
   pub list-told : ((e : A) → out e ≡ false → InRange e) → (h : Header) (es : List A) (c : ℕ) (d : A) (f : Frame) → c ≤ length es
       → listMade asked k pattern most out h es c ≡ doneMade f → Sendable asked most InRange h es c d
   list-told told h es c d f there e = record {
-    header = make-passed asked h ((eqb c 0 || ltb most c, 12) ∷ (anyEntry out (take c es), 10) ∷ []) (t .0);
+    header = make-passed asked h ((eqb c 0 || ltb most c, 12) ∷ (anyOf out (take c es), 10) ∷ []) (t .0);
     some = told-some-few c most (t .0 .1 .1 .1 .0) .0;
     few = told-some-few c most (t .0 .1 .1 .1 .0) .1;
     there = there;
     ranges = λ i l. told (getD es i d) (at i l);
   }
     where
-      t : NoneApplies (makeOrder asked h ((eqb c 0 || ltb most c, 12) ∷ (anyEntry out (take c es), 10) ∷ []))
+      t : NoneApplies (makeOrder asked h ((eqb c 0 || ltb most c, 12) ∷ (anyOf out (take c es), 10) ∷ []))
           × (doneMade (frameWith pattern k h (take c es)) ≡ doneMade f)
       t = order-told refusedMade (doneMade (frameWith pattern k h (take c es))) (doneMade f) (λ n. done-apart n f)
-          (makeOrder asked h ((eqb c 0 || ltb most c, 12) ∷ (anyEntry out (take c es), 10) ∷ [])) e
+          (makeOrder asked h ((eqb c 0 || ltb most c, 12) ∷ (anyOf out (take c es), 10) ∷ [])) e
 
       at : (i : ℕ) → i < c → out (getD es i d) ≡ false
       at i l = ap out (sym (getD-take c es i d l)) ∙ told-entry out (take c es) d i (t .0 .1 .1 .1 .1 .0) (omega (arith, length-take c es))

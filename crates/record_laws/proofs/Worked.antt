@@ -21,14 +21,10 @@ use Rattle.record.specs.declared.correction.Correction.{Correction}
 use Rattle.record.specs.declared.health.SatelliteHealth.{SatelliteHealth}
 use Rattle.record.specs.declared.position.Position.{Position}
 use Rattle.record.specs.Stages.{layoutNumber, otherLayout, misfit, refusedMade, doneMade, saysCount, saysMade}
-use Rattle.record.specs.Corrections as corrections
 use Rattle.record.specs.Corrections.{numbersOut, countCorrections, correctionAt, makeCorrections, saysCorrectionRead}
-use Rattle.record.specs.Positions as positions
 use Rattle.record.specs.Positions.{tooLow, outOfRange as positionOut, readPosition, makePosition, saysPositionRead}
-use Rattle.record.specs.Healths as healths
 use Rattle.record.specs.Healths.{flagsOut, codesOut, outOfRange as healthOut, countHealths, healthAt, makeHealths, saysHealthRead}
 use Rattle.record.specs.Nulls.{readNull, makeNull, saysNullRead}
-use Rattle.record.specs.Texts as texts
 use Rattle.record.specs.Texts.{characters, textLength, readText, bufferAfter, makeText}
 
 -- the header of a type: station 5, Z count 100, sequence 3, health 0

@@ -7,19 +7,17 @@ use Prim.Native.Nat.{ℕ, zero, suc, _+_, _*_, _≤_, _<_}
 use native.Mathlib.Nat.{zero-add, add-suc, suc-add, not-suc-le-zero}
 use native.Mathlib.Omega.{arith}
 use lib.Dec.{eqb}
-use lib.ListN.{length, take, drop, length-append, length-drop, take-append-drop}
-use lib.Seq.{take-all, take-take, drop-drop, drop-append-le, drop-at}
+use lib.ListN.{length, take, drop, length-drop, take-append-drop}
+use lib.Seq.{take-all, take-take, drop-append-le, drop-at}
 use borrow.Author.Tests.{eqb-true, eqb-false}
 use borrow.Author.Count.{below-more}
-use Rattle.bits.specs.Bits.{_⊻_, _⊕_, weight, differ, val, number}
+use Rattle.bits.specs.Bits.{_⊻_, differ, val, number}
 use Rattle.bits.proofs.Xor.{xor-zero}
 use Rattle.bits.proofs.Numbers.{number-inj}
-use Rattle.word.specs.Word.{dataOf, passes}
 use Rattle.word.proofs.Distance.{few-turned}
-use Rattle.frame.specs.Header.{nOf}
-use Rattle.stream.specs.Standing.{wordAt, right, nAt, size, Stands, Placed, placed, framesIn}
+use Rattle.stream.specs.Standing.{wordAt, nAt, size, Stands, Placed, framesIn}
 use Rattle.stream.specs.Verdict.{RuledOut}
-use Rattle.stream.specs.Places.{FirstDamaged, Damaged, StandsIn}
+use Rattle.stream.specs.Places.{FirstDamaged, Damaged}
 use Rattle.stream.proofs.Words.{word-long, right-passes, not-right}
 use Rattle.stream.proofs.Data.{word-later}
 use Rattle.stream.proofs.Stand.{stands-long, stands-append}

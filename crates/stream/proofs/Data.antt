@@ -6,7 +6,7 @@ use Prim.Native.Nat.{ℕ, zero, suc, _+_, _-_, _*_, _^_, _<_}
 use native.Mathlib.Omega.{arith}
 use lib.ListN.{length, take, drop, replicate, length-append, length-replicate}
 use lib.Seq.{drop-drop}
-use Rattle.bits.specs.Bits.{bits, number}
+use Rattle.bits.specs.Bits.{number}
 use Rattle.bits.proofs.Numbers.{number-lt}
 use Rattle.word.specs.Word.{dataOf}
 use Rattle.word.proofs.Sending.{data-number, length-dataOf}

@@ -8,7 +8,7 @@ use native.Mathlib.Omega.{arith}
 use lib.Dec.{leb}
 use lib.ListN.{length, drop}
 use borrow.Author.Tests.{le-leb, lt-leb, leb-true, leb-false}
-use Rattle.stream.specs.Standing.{wordAt, right, nAt, size}
+use Rattle.stream.specs.Standing.{wordAt, right, size}
 use Rattle.stream.specs.Verdict.{Verdict, out, standing, undecided, judged, verdictFrom, Hunted, huntBy, hunt}
 use Rattle.stream.proofs.Words.{unlike, n-lt}
 

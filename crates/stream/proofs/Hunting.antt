@@ -1,13 +1,13 @@
 -- The hunt is the scan: it passes over nothing that stands, whatever comes later, and stops at a frame that stands or at a word that has not
 -- come. Assumes nothing.
-use mathlib.Core.Path.{_≡_, refl, sym, ap, _∙_}
+use mathlib.Core.Path.{_≡_, refl, _∙_}
 use mathlib.Core.Bool.{Bool, true, false, not}
 use mathlib.Core.List.{List, [], _∷_, _++_, map, append-nil}
-use Prim.Native.Nat.{ℕ, zero, suc, _+_, _-_, _*_, _≤_, _<_}
+use Prim.Native.Nat.{ℕ, suc, _+_, _-_, _*_, _≤_, _<_}
 use native.Mathlib.Nat.{add-suc, add-zero, zero-add, suc-add}
 use native.Mathlib.Omega.{arith}
-use lib.ListN.{length, drop, length-map}
-use Rattle.stream.specs.Standing.{nAt, size, Stands, Placed, scan}
+use lib.ListN.{length, drop}
+use Rattle.stream.specs.Standing.{Stands, scan}
 use Rattle.stream.specs.Verdict.{RuledOut, RightSoFar, Verdict, out, standing, undecided, verdictFrom, decided, Hunted, huntBy, hunt}
 use Rattle.stream.proofs.Words.{unlike, n-lt}
 use Rattle.stream.proofs.Verdicts.{none-so-far, Judged, is-out, is-standing, is-undecided, judge, out-append, out-stays, undecided-falls}

@@ -1,16 +1,16 @@
 -- A frame that stands is among those decided once 990 bits from its first have come, or a frame decided before covers its first bit.
 -- Assumes nothing.
-use mathlib.Core.Path.{_≡_, refl, ap, _∙_}
+use mathlib.Core.Path.{refl, ap}
 use mathlib.Core.Bool.{Bool}
-use mathlib.Core.Logic.{_⊎_, inl, inr}
+use mathlib.Core.Logic.{inl, inr}
 use mathlib.Core.List.{List, [], _∷_, List·Memᴰ·head}
-use Prim.Native.Nat.{ℕ, zero, suc, _+_, _-_, _*_, _≤_, _<_}
+use Prim.Native.Nat.{ℕ, zero, suc, _+_, _-_, _*_, _≤_}
 use native.Mathlib.Nat.{add-suc, add-zero, suc-add, not-suc-le-zero, le-of-suc-le-suc}
 use native.Mathlib.Decide.{decLe}
 use native.Mathlib.Omega.{arith}
 use lib.ListN.{length, drop}
 use lib.Seq.{drop-nil}
-use Rattle.stream.specs.Standing.{nAt, size, Stands, Placed, placed}
+use Rattle.stream.specs.Standing.{size, Stands, Placed, placed}
 use Rattle.stream.specs.Verdict.{Verdict, verdict, decidedBy, decided}
 use Rattle.stream.specs.Places.{FoundOrCovered}
 use Rattle.stream.proofs.Words.{frame-n}

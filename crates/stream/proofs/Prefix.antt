@@ -1,15 +1,15 @@
 -- What is decided stays so: the frames decided by the bits that have come are the first ones of the scan, and of what is decided later,
 -- whatever comes. Assumes nothing.
-use mathlib.Core.Path.{_≡_, refl, sym, ap, _∙_}
+use mathlib.Core.Path.{_≡_, refl, ap}
 use mathlib.Core.Bool.{Bool}
 use mathlib.Core.List.{List, [], _∷_, _++_}
-use Prim.Native.Nat.{ℕ, zero, suc, _+_, _-_, _*_, _≤_, _<_}
+use Prim.Native.Nat.{ℕ, zero, suc, _+_, _-_, _*_}
 use native.Mathlib.Nat.{add-suc, add-zero, suc-add}
 use native.Mathlib.Omega.{arith}
-use lib.ListN.{length, drop, length-append}
-use Rattle.stream.specs.Standing.{wordAt, right, nAt, size, Stands, stands, Placed, placed, scan}
-use Rattle.stream.specs.Verdict.{RuledOut, Verdict, out, standing, undecided, verdict, decidedBy, decided}
-use Rattle.stream.proofs.Words.{word-append, n-append}
+use lib.ListN.{drop}
+use Rattle.stream.specs.Standing.{size, Stands, Placed, placed, scan}
+use Rattle.stream.specs.Verdict.{RuledOut, Verdict, undecided, verdict, decidedBy, decided}
+use Rattle.stream.proofs.Words.{n-append}
 use Rattle.stream.proofs.Stand.{stands-long, stands-append, stands-test, not-test, placed-append}
 use Rattle.stream.proofs.Verdicts.{Judged, is-out, is-standing, is-undecided, judge-all, out-stays, out-append, verdict-standing, verdict-out}
 

@@ -1,6 +1,6 @@
 -- The scan against the definition of a frame that stands: only such frames, each once and apart from the others, and every one unless another
 -- covers its first bit. Assumes nothing.
-use mathlib.Core.Path.{_≡_, refl, sym, ap, subst, _∙_}
+use mathlib.Core.Path.{_≡_, refl, ap, subst, _∙_}
 use mathlib.Core.Bool.{Bool, true, false, cond}
 use mathlib.Core.Logic.{_⊎_, inl, inr}
 use mathlib.Core.List.{List, [], _∷_, List·Memᴰ, List·Memᴰ·head, List·Memᴰ·tail, List·Memᴰ·not-nil, List·Memᴰ·cases-cons}
@@ -10,8 +10,8 @@ use native.Mathlib.Decide.{decLe}
 use native.Mathlib.Omega.{arith}
 use lib.ListN.{length, drop}
 use lib.Seq.{drop-nil}
-use Rattle.stream.specs.Standing.{nAt, size, Stands, stands, Placed, placed, endOf, scan}
-use Rattle.stream.specs.Places.{StandsIn, Covers, FoundOrCovered, Apart}
+use Rattle.stream.specs.Standing.{size, Stands, stands, Placed, placed, endOf, scan}
+use Rattle.stream.specs.Places.{StandsIn, FoundOrCovered, Apart}
 use Rattle.stream.proofs.Words.{frame-n}
 use Rattle.stream.proofs.Stand.{stands-long, stands-test, test-stands, not-test}
 

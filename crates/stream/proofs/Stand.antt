@@ -1,14 +1,14 @@
 -- A frame that stands: it stands in every longer stream and is the same frame there, and the test says exactly that it stands. Assumes nothing.
-use mathlib.Core.Path.{_≡_, refl, sym, ap, _∙_}
-use mathlib.Core.Bool.{Bool, true, false, _&&_}
-use mathlib.Core.List.{List, [], _∷_, _++_}
+use mathlib.Core.Path.{_≡_, refl, ap, _∙_}
+use mathlib.Core.Bool.{Bool, true, false}
+use mathlib.Core.List.{List, _++_}
 use Prim.Native.Nat.{ℕ, zero, suc, _+_, _*_, _≤_, _<_}
 use native.Mathlib.Nat.{add-suc, add-zero, zero-add, suc-add, not-suc-le-zero, le-of-suc-le-suc}
 use native.Mathlib.Omega.{arith}
 use lib.Dec.{leb}
 use lib.ListN.{length, length-append}
 use borrow.Author.Tests.{le-leb, leb-true}
-use Rattle.stream.specs.Standing.{wordAt, right, nAt, size, Stands, allRight, stands, frameAt, Placed, placed}
+use Rattle.stream.specs.Standing.{wordAt, right, nAt, size, Stands, allRight, stands, placed}
 use Rattle.stream.proofs.Words.{both-left, both-right, word-append, n-append, frame-append}
 
 -- a frame that stands has two words

@@ -2,7 +2,7 @@
 use mathlib.Core.Path.{_≡_, refl, sym, ap, ap₂, _∙_}
 use mathlib.Core.Bool.{Bool, true, false, not, _&&_, cond, Bool·not-not}
 use mathlib.Core.List.{List, [], _∷_, map}
-use Prim.Native.Nat.{ℕ, zero, suc, _+_, _-_, _*_, _≤_, _<_}
+use Prim.Native.Nat.{ℕ, zero, suc, _+_, _-_, _*_, _≤_}
 use native.Mathlib.Nat.{add-suc, suc-add}
 use native.Mathlib.Omega.{arith}
 use lib.Dec.{leb}
@@ -11,10 +11,9 @@ use borrow.Author.Tests.{leb-true, lt-leb}
 use Rattle.bits.specs.Bits.{number}
 use Rattle.word.specs.Word.{dataOf, passes}
 use Rattle.word.proofs.Linearity.{data-turned, passes-turned}
-use Rattle.frame.specs.Header.{preambled, nOf, headerOf}
-use Rattle.frame.specs.Frames.{framed}
-use Rattle.stream.specs.Standing.{wordAt, right, nAt, size, Stands, stands, dataFrom, frameAt, Placed, placed, scan}
-use Rattle.stream.specs.Verdict.{Verdict, out, standing, undecided, judged, verdictFrom, verdict, decidedBy, decided}
+use Rattle.frame.specs.Header.{preambled, nOf}
+use Rattle.stream.specs.Standing.{wordAt, right, nAt, size, Stands, stands, dataFrom, frameAt, placed, scan}
+use Rattle.stream.specs.Verdict.{judged, verdictFrom}
 use Rattle.stream.proofs.Words.{unlike, word-long}
 use Rattle.stream.proofs.Stand.{stands-long, stands-test, test-stands, not-test}
 

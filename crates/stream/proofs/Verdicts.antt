@@ -1,9 +1,9 @@
 -- The verdict by words in order is right: it says that a frame stands exactly when one does, and that a position is ruled out exactly when a
 -- word that has come fails; and no position waits once 990 bits from it have come. Assumes nothing.
-use mathlib.Core.Path.{_≡_, refl, sym, ap, subst, _∙_}
+use mathlib.Core.Path.{_≡_, refl, ap, _∙_}
 use mathlib.Core.Logic.{_↔_}
 use mathlib.Core.Bool.{Bool, true, false}
-use mathlib.Core.List.{List, [], _∷_, _++_, append-nil}
+use mathlib.Core.List.{List, _++_}
 use Prim.Native.Nat.{ℕ, zero, suc, _+_, _*_, _≤_, _<_}
 use native.Mathlib.Nat.{zero-add, add-suc, suc-add, not-suc-le-zero}
 use native.Mathlib.Omega.{arith}
@@ -11,7 +11,7 @@ use lib.Dec.{leb}
 use lib.ListN.{length, length-append}
 use borrow.Author.Count.{below-more}
 use borrow.Author.Tests.{leb-true, leb-false}
-use Rattle.stream.specs.Standing.{wordAt, right, nAt, size, Stands}
+use Rattle.stream.specs.Standing.{wordAt, right, size, Stands}
 use Rattle.stream.specs.Verdict.{RuledOut, RightSoFar, Verdict, out, standing, undecided, judged, verdictFrom, verdict}
 use Rattle.stream.proofs.Words.{unlike, n-lt, word-append, n-append}
 

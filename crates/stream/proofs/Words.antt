@@ -1,16 +1,16 @@
 -- Laws of the words of a position: what more bits change, how long a word is, when it is right. Assumes nothing.
-use mathlib.Core.Path.{_≡_, refl, sym, ap, ap₂, _∙_}
+use mathlib.Core.Path.{_≡_, refl, ap, _∙_}
 use mathlib.Core.Bool.{Bool, true, false, _&&_}
 use mathlib.Core.List.{List, [], _∷_, _++_}
 use Prim.Native.Nat.{ℕ, zero, suc, _+_, _*_, _≤_, _<_}
 use native.Mathlib.Nat.{add-suc, add-zero, suc-add}
 use native.Mathlib.Omega.{arith}
-use lib.ListN.{length, take, drop, length-append, length-take, length-drop}
+use lib.ListN.{length, drop, length-take, length-drop}
 use lib.Seq.{drop-append-le, take-append-le}
 use Rattle.bits.specs.Bits.{number}
 use Rattle.bits.proofs.FieldLaws.{fits-field}
 use Rattle.word.specs.Word.{dataOf, passes}
-use Rattle.frame.specs.Header.{preambled, nOf, headerOf}
+use Rattle.frame.specs.Header.{preambled, nOf}
 use Rattle.frame.specs.Frames.{framed}
 use Rattle.stream.specs.Standing.{wordAt, right, nAt, size, dataFrom, frameAt}
 

@@ -1,7 +1,7 @@
 -- What the functions compute, as numbers, against the definitions. Assumes nothing.
 use mathlib.Core.Path.{_≡_, refl, sym, ap, ap₂, _∙_}
 use mathlib.Core.Bool.{Bool, true, false}
-use mathlib.Core.List.{List, [], _∷_, _++_, map}
+use mathlib.Core.List.{List, [], _∷_, _++_}
 use Prim.Native.Nat.{ℕ, _+_, _*_, _/_, _%_, _^_, _<_}
 use native.Mathlib.Nat.{mod-lt, mod-eq-of-lt, div-one, lt-of-le-of-lt}
 use native.Mathlib.Omega.{arith}
@@ -40,6 +40,7 @@ masked i m n e h =
     ∙ ap (λ k. sum _⊻_ false (bits 32 n) (columns _⊻_ false (remainderAt i) k)) (sym (length-bits 32 n))
     ∙ sym (spanned _⊻_ false (remainderAt i) (at-xor i) (λ a. xor-self (remainderAt i a)) (bits 32 n)))
 
+-- six bits, each known as a number
 six : (b₁ b₂ b₃ b₄ b₅ b₆ : Bool) {n₁ n₂ n₃ n₄ n₅ n₆ : ℕ} → n₁ ≡ val b₁ → n₂ ≡ val b₂ → n₃ ≡ val b₃ → n₄ ≡ val b₄ → n₅ ≡ val b₅ → n₆ ≡ val b₆
     → ((((n₁ * 2 + n₂) * 2 + n₃) * 2 + n₄) * 2 + n₅) * 2 + n₆ ≡ number (b₁ ∷ b₂ ∷ b₃ ∷ b₄ ∷ b₅ ∷ b₆ ∷ [])
 unfolding number
@@ -49,6 +50,7 @@ six b₁ b₂ b₃ b₄ b₅ b₆ e₁ e₂ e₃ e₄ e₅ e₆ = omega arith
 abbrev oddOf : ℕ → ℕ → ℕ
 oddOf n m = ones (bitAnd n m) % 2
 
+-- all six, as `remainder` puts them together
 abbrev pub sixOdd : ℕ → ℕ
 sixOdd w =
     ((((oddOf w 0xbb1f34a0 * 2 + oddOf w 0x5d8f9a50) * 2 + oddOf w 0xaec7cd08) * 2 + oddOf w 0x5763e684) * 2 + oddOf w 0x2bb1f342) * 2 + oddOf w 0xcb7a89c1
@@ -64,6 +66,7 @@ remainder-law w =
     (masked 4 0x2bb1f342 w refl (lit< tt))
     (masked 5 0xcb7a89c1 w refl (lit< tt))
 
+-- and what `passes` asks of them
 pub test-law : (w : ℕ) → passes (bits 32 w) ≡ eqb (sixOdd w) 0
 unfolding passes
 test-law w = ap (λ n. eqb n 0) (sym (remainder-law w))

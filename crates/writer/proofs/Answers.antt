@@ -1,14 +1,13 @@
 -- Each answer of the writer from the tests that lead to it, with the buffer after it. Assumes nothing.
 use mathlib.Core.Path.{_≡_, refl, sym, ap, ap₂, subst, _∙_}
 use mathlib.Core.Bool.{Bool, true, false}
-use mathlib.Core.Logic.{_⊎_, inl, inr}
-use mathlib.Core.List.{List, [], _∷_, _++_}
-use Prim.Native.Nat.{ℕ, suc, _+_, _*_, _/_, _%_, _≤_, _<_}
+use mathlib.Core.List.{List, [], _∷_}
+use Prim.Native.Nat.{ℕ, _+_, _*_, _/_, _%_, _≤_, _<_}
 use native.Mathlib.Omega.{arith}
-use lib.ListN.{length, take, drop, getD}
-use lib.Seq.{sets, split-at}
+use lib.ListN.{length, take, getD}
+use lib.Seq.{sets}
 use borrow.Author.Tests.{ltb-false}
-use Rattle.answer.specs.Order.{Check, inOrder, NoneApplies}
+use Rattle.answer.specs.Order.{NoneApplies}
 use Rattle.answer.proofs.OrderLaws.{first-at, order-answers, order-refuses, order-told, order-keeps}
 use Rattle.bits.specs.Bits.{number}
 use Rattle.frame.specs.Header.{firstWord, secondWord}

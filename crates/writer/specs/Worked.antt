@@ -1,4 +1,4 @@
--- The worked stream of the paper, byte for byte: what the calls leave in a buffer. Assumes nothing.
+-- The worked stream of RULES 12, byte for byte: what the calls leave in a buffer. Assumes nothing.
 use mathlib.Core.Path.{_≡_}
 use mathlib.Core.List.{[], _∷_}
 use lib.ListN.{replicate}

@@ -1,5 +1,5 @@
 -- `new` meets its contract: a fresh reader and totals of 0. Assumes nothing.
-use mathlib.Core.Path.{_≡_, ap}
+use mathlib.Core.Path.{ap}
 use borrow.Author.Needs.{needs}
 use Rattle.reader.specs.declared.Reader.{Reader}
 use Rattle.listing.specs.Listing.{begun}

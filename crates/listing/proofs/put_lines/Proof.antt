@@ -6,11 +6,8 @@ use native.Mathlib.Omega.{arith}
 use lib.ListN.{length, drop, length-drop}
 use denote.Ref.{now}
 use borrow.Author.Needs.{needs}
-use Rattle.reader.specs.declared.Taken.{Taken}
-use Rattle.frame.specs.Widths.{stateOutside}
 use Rattle.listing.specs.Text.{frameLine}
-use Rattle.listing.specs.Listing.{Lines, linesOf}
-use Rattle.listing.specs.declared.Fed.{Fed}
+use Rattle.listing.specs.Listing.{linesOf}
 use Rattle.listing.proofs.StoreLaws.{length-stored}
 use Rattle.listing.proofs.LinesLaws.{used-le, fed-tail, taken-inside, line-on, line-none, Far, far-start, far-on, far-end, far-drop, lines-none}
 use Rattle.listing.proofs.put_lines.Statement.{statement}

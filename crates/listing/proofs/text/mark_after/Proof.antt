@@ -1,5 +1,5 @@
 -- `mark_after` meets its contract: by the test. Assumes nothing.
-use mathlib.Core.Path.{_≡_, sym, ap}
+use mathlib.Core.Path.{sym, ap}
 use mathlib.Core.Bool.{cond}
 use borrow.Author.Tests.{eq-eqb, ne-eqb}
 use Rattle.listing.proofs.text.mark_after.Statement.{statement}

@@ -1,11 +1,7 @@
 -- `put_last` meets its contract: three totals with their labels, and a newline. Assumes nothing.
-use mathlib.Core.Path.{_≡_, sym, _∙_}
-use Prim.Native.Nat.{_+_}
 use native.Mathlib.Omega.{arith}
-use lib.ListN.{length}
 use denote.Ref.{now}
 use borrow.Author.Needs.{needs}
-use Rattle.listing.specs.Text.{decimal, framesLabel, bytesLabel, passedLabel, lastLine}
 use Rattle.listing.proofs.TextLaws.{last-place, last-stored, last-length}
 use Rattle.listing.proofs.text.put_last.Statement.{statement}
 use Rattle.listing.proofs.text.put_last.Tie as tie

@@ -6,7 +6,7 @@ use lib.ListN.{length, length-set}
 use lib.Seq.{sets}
 use denote.Ref.{now}
 use borrow.Author.Needs.{needs}
-use Rattle.listing.specs.Text.{lastDigits, digitsUpTo, decimal}
+use Rattle.listing.specs.Text.{lastDigits, decimal}
 use Rattle.listing.proofs.TextLaws.{length-decimal, store-digit}
 use Rattle.listing.proofs.text.put_number.Statement.{statement}
 use Rattle.listing.proofs.text.put_number.Tie as tie

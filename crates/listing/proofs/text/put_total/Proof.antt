@@ -1,5 +1,4 @@
 -- `put_total` meets its contract: the label, and the number after it. Assumes nothing.
-use native.Mathlib.Omega.{arith}
 use denote.Ref.{now}
 use borrow.Author.Needs.{needs}
 use Rattle.listing.specs.Text.{decimal}

@@ -3,10 +3,9 @@ use denote.Ref.{now}
 use mathlib.Core.Path.{_≡_, ap, ap₂, _∙_}
 use Prim.Native.Nat.{_+_, _-_, _*_, _≤_}
 use native.Mathlib.Omega.{arith}
-use Rattle.bits.specs.Bits.{number, bits}
+use Rattle.bits.specs.Bits.{number}
 use Rattle.word.specs.Word.{dataOf}
 use Rattle.frame.specs.Header.{headerOf}
-use Rattle.stream.specs.Standing.{wordAt}
 use Rattle.reader.specs.Cells.{heldBits}
 use Rattle.stream.proofs.Words.{n-lt}
 use Rattle.reader.proofs.Leaves.{bits-data}

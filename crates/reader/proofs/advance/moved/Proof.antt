@@ -1,5 +1,4 @@
 use borrow.Author.Needs.{needs}
-use mathlib.Core.Path.{ap}
 use Rattle.reader.specs.Reading.{movedTo}
 use Rattle.reader.proofs.advance.moved.Statement.{statement}
 use Rattle.reader.proofs.advance.moved.Tie as tie

@@ -4,14 +4,14 @@ use Prim.Native.Nat.{_≤_, _-_}
 use native.Mathlib.Omega.{arith}
 use lib.ListN.{length, take, drop}
 use borrow.Author.Needs.{needs}
-use Rattle.pack.specs.Coding.{anyEntry}
+use Rattle.frame.specs.Widths.{anyOf}
 use Rattle.pack.proofs.Making.{any-hit, any-miss, none-left}
 use Rattle.record.specs.Healths.{outOfRange}
 use Rattle.record.proofs.health.any_out.Statement.{statement}
 use Rattle.record.proofs.health.any_out.Tie as tie
 
 abbrev Inv-loop : tie.InvT-loop
-Inv-loop count entries i₀ i = (i ≤ count) × (anyEntry outOfRange (take count entries) ≡ anyEntry outOfRange (drop i (take count entries)))
+Inv-loop count entries i₀ i = (i ≤ count) × (anyOf outOfRange (take count entries) ≡ anyOf outOfRange (drop i (take count entries)))
 
 abbrev μ-loop : tie.MeasureT-loop
 μ-loop count entries i₀ i = count - i
@@ -44,7 +44,7 @@ loop-again c =
 returns-2 : tie.Need-returns-2 Inv-loop μ-loop
 returns-2 c =
     let s = c .before .before in
-    sym (c .before .loop .inv .1 ∙ ap (anyEntry outOfRange) (none-left (s .args .t1) (s .args .count) (c .before .loop .i) (omega arith)))
+    sym (c .before .loop .inv .1 ∙ ap (anyOf outOfRange) (none-left (s .args .t1) (s .args .count) (c .before .loop .i) (omega arith)))
 
 pub any-out-spec : {M : Type 1} → statement M
 any-out-spec =
