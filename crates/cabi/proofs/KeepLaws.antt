@@ -5,10 +5,10 @@ use Prim.Native.Nat.{ℕ}
 use native.Mathlib.Omega.{arith}
 use Rattle.answer.specs.Order.{Says, refuses, answers}
 use Rattle.frame.specs.declared.Frame.{Frame}
-use Rattle.record.specs.Stages.{saysMade}
-use Rattle.record.specs.declared.stage.Making.{Making}
-use Rattle.record.specs.declared.stage.Making.the-variants as making
-use Rattle.record.specs.declared.stage.Made.{Made}
+use Rattle.stage.specs.Stages.{saysMade}
+use Rattle.stage.specs.declared.Making.{Making}
+use Rattle.stage.specs.declared.Making.the-variants as making
+use Rattle.stage.specs.declared.Made.{Made}
 use Rattle.cabi.specs.Answer.{numberOf}
 use Rattle.cabi.specs.Frames.{keptTo, heldTo, sizeTo}
 

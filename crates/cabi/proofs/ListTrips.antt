@@ -27,20 +27,20 @@ use Rattle.journal.proofs.ByteLaws.{fit-take, fit-drop}
 use Rattle.journal.proofs.RoundTrip.{recall-kept}
 use Rattle.pack.specs.Coding.{Coding, entryBits, frameWith}
 use Rattle.pack.proofs.Round.{Faithful, length-entries}
-use Rattle.record.specs.Stages.{makeOrder, refusedMade, doneMade, saysMade, saysCount}
-use Rattle.record.specs.Lists.{listMade}
-use Rattle.record.specs.Corrections as correction
-use Rattle.record.specs.Healths as health
-use Rattle.record.specs.declared.stage.Count.{Count}
-use Rattle.record.specs.declared.stage.Count.the-variants as count
-use Rattle.record.specs.declared.stage.Making.{Making}
-use Rattle.record.specs.declared.stage.Making.the-variants as making
-use Rattle.record.specs.declared.stage.Made.{Made}
-use Rattle.record.specs.declared.correction.Correction.{Correction}
-use Rattle.record.specs.declared.health.SatelliteHealth.{SatelliteHealth}
-use Rattle.record.specs.declared.correction.CorrectionRead.the-variants as correction-read
-use Rattle.record.specs.declared.health.HealthRead.the-variants as health-read
-use Rattle.record.proofs.StageLaws.{done-apart, done-frame}
+use Rattle.stage.specs.Stages.{makeOrder, refusedMade, doneMade, saysMade, saysCount}
+use Rattle.stage.specs.Lists.{listMade}
+use Rattle.corrections.specs.Corrections as correction
+use Rattle.healths.specs.Healths as health
+use Rattle.stage.specs.declared.Count.{Count}
+use Rattle.stage.specs.declared.Count.the-variants as count
+use Rattle.stage.specs.declared.Making.{Making}
+use Rattle.stage.specs.declared.Making.the-variants as making
+use Rattle.stage.specs.declared.Made.{Made}
+use Rattle.corrections.specs.declared.Correction.{Correction}
+use Rattle.healths.specs.declared.SatelliteHealth.{SatelliteHealth}
+use Rattle.corrections.specs.declared.CorrectionRead.the-variants as correction-read
+use Rattle.healths.specs.declared.HealthRead.the-variants as health-read
+use Rattle.stage.proofs.StageLaws.{done-apart, done-frame}
 use Rattle.record_laws.proofs.CorrectionTrips.{corrections-made-read}
 use Rattle.record_laws.proofs.HealthTrips.{healths-made-read}
 use Rattle.entry_bytes.specs.Rows.{size, countOf, entryOf, entriesIn, rowAfter}

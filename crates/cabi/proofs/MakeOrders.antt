@@ -26,14 +26,14 @@ use Rattle.journal.specs.declared.Kept.the-variants as kept
 use Rattle.journal.proofs.WordLaws.{length-words, fit-words}
 use Rattle.pack.specs.Coding.{Coding, frameWith}
 use Rattle.pack.proofs.Round.{made-inside}
-use Rattle.record.specs.Stages.{makeOrder, refusedMade, doneMade, saysMade}
-use Rattle.record.specs.declared.stage.Made.{Made}
-use Rattle.record.specs.Corrections as correction
-use Rattle.record.specs.Healths as health
-use Rattle.record.specs.Positions as position
-use Rattle.record.specs.declared.position.Position.{Position}
-use Rattle.record.specs.Nulls as null
-use Rattle.record.specs.Texts as text
+use Rattle.stage.specs.Stages.{makeOrder, refusedMade, doneMade, saysMade}
+use Rattle.stage.specs.declared.Made.{Made}
+use Rattle.corrections.specs.Corrections as correction
+use Rattle.healths.specs.Healths as health
+use Rattle.positions.specs.Positions as position
+use Rattle.positions.specs.declared.Position.{Position}
+use Rattle.nulls.specs.Nulls as null
+use Rattle.texts.specs.Texts as text
 use Rattle.entry_bytes.specs.Rows.{countOf, entriesIn}
 use Rattle.entry_bytes.specs.Corrections as correction-bytes
 use Rattle.entry_bytes.specs.Healths as health-bytes

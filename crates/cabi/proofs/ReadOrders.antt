@@ -17,17 +17,17 @@ use Rattle.journal.specs.Forms.{nByte, wordsAfter}
 use Rattle.journal.specs.Journal.{refused, recalled, recallOrder, saysRecalled}
 use Rattle.journal.proofs.RoundTrip.{reread}
 use Rattle.pack.specs.Coding.{Coding, frameBits, entryIn}
-use Rattle.record.specs.Stages.{countIn, misfit, wrongSize, readOrder, saysCount}
-use Rattle.record.specs.declared.stage.Count.the-variants as count
-use Rattle.record.specs.Corrections as correction
-use Rattle.record.specs.Healths as health
-use Rattle.record.specs.Positions as position
-use Rattle.record.specs.Nulls as null
-use Rattle.record.specs.Texts as text
-use Rattle.record.specs.declared.correction.CorrectionRead.the-variants as correction-read
-use Rattle.record.specs.declared.health.HealthRead.the-variants as health-read
-use Rattle.record.specs.declared.position.PositionRead.the-variants as position-read
-use Rattle.record.specs.declared.null.NullRead.the-variants as null-read
+use Rattle.stage.specs.Stages.{countIn, misfit, wrongSize, readOrder, saysCount}
+use Rattle.stage.specs.declared.Count.the-variants as count
+use Rattle.corrections.specs.Corrections as correction
+use Rattle.healths.specs.Healths as health
+use Rattle.positions.specs.Positions as position
+use Rattle.nulls.specs.Nulls as null
+use Rattle.texts.specs.Texts as text
+use Rattle.corrections.specs.declared.CorrectionRead.the-variants as correction-read
+use Rattle.healths.specs.declared.HealthRead.the-variants as health-read
+use Rattle.positions.specs.declared.PositionRead.the-variants as position-read
+use Rattle.nulls.specs.declared.NullRead.the-variants as null-read
 use Rattle.entry_bytes.specs.Rows.{size, putOrder, saysPut}
 use Rattle.entry_bytes.specs.declared.row.Put.the-variants.{Done, Refused}
 use Rattle.entry_bytes.specs.Corrections as correction-bytes

@@ -4,9 +4,9 @@ use Prim.Native.Nat.{ℕ}
 use Rattle.answer.specs.Order.{Says}
 use Rattle.frame.specs.declared.Frame.{Frame}
 use Rattle.frame.specs.declared.Header.{Header}
-use Rattle.record.specs.Stages.{saysCount}
-use Rattle.record.specs.Corrections.{countCorrections, correctionAt, makeCorrections, saysCorrectionRead}
-use Rattle.record.specs.declared.correction.Correction.{Correction}
+use Rattle.stage.specs.Stages.{saysCount}
+use Rattle.corrections.specs.Corrections.{countCorrections, correctionAt, makeCorrections, saysCorrectionRead}
+use Rattle.corrections.specs.declared.Correction.{Correction}
 use Rattle.entry_bytes.specs.Corrections.{row}
 use Rattle.cabi.specs.Answer.{andThen}
 use Rattle.cabi.specs.Rows.{madeOf}

@@ -4,9 +4,9 @@ use Prim.Native.Nat.{ℕ}
 use Rattle.answer.specs.Order.{Says}
 use Rattle.frame.specs.declared.Frame.{Frame}
 use Rattle.frame.specs.declared.Header.{Header}
-use Rattle.record.specs.Stages.{saysCount}
-use Rattle.record.specs.Healths.{countHealths, healthAt, makeHealths, saysHealthRead}
-use Rattle.record.specs.declared.health.SatelliteHealth.{SatelliteHealth}
+use Rattle.stage.specs.Stages.{saysCount}
+use Rattle.healths.specs.Healths.{countHealths, healthAt, makeHealths, saysHealthRead}
+use Rattle.healths.specs.declared.SatelliteHealth.{SatelliteHealth}
 use Rattle.entry_bytes.specs.Healths.{row}
 use Rattle.cabi.specs.Answer.{andThen}
 use Rattle.cabi.specs.Rows.{madeOf}

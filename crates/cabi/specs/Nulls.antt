@@ -2,8 +2,8 @@
 use Prim.Native.Nat.{ℕ}
 use Rattle.answer.specs.Order.{Says}
 use Rattle.frame.specs.declared.Frame.{Frame}
-use Rattle.record.specs.Stages.{saysMade}
-use Rattle.record.specs.Nulls.{readNull, saysNullRead, makeNull}
+use Rattle.stage.specs.Stages.{saysMade}
+use Rattle.nulls.specs.Nulls.{readNull, saysNullRead, makeNull}
 use Rattle.cabi.specs.Answer.{andThen}
 use Rattle.cabi.specs.Header.{headed}
 

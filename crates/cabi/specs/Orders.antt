@@ -19,12 +19,12 @@ use Rattle.journal.specs.Forms.{wordsAfter}
 use Rattle.journal.specs.Journal.{recallOrder}
 use Rattle.writer.specs.Sending.{bytesOf}
 use Rattle.pack.specs.Coding.{Coding, frameWith}
-use Rattle.record.specs.Stages.{otherLayout, countIn, misfit, wrongSize, makeOrder}
-use Rattle.record.specs.Corrections as correction
-use Rattle.record.specs.Healths as health
-use Rattle.record.specs.Positions as position
-use Rattle.record.specs.Texts as text
-use Rattle.record.specs.declared.position.Position.{Position}
+use Rattle.stage.specs.Stages.{otherLayout, countIn, misfit, wrongSize, makeOrder}
+use Rattle.corrections.specs.Corrections as correction
+use Rattle.healths.specs.Healths as health
+use Rattle.positions.specs.Positions as position
+use Rattle.texts.specs.Texts as text
+use Rattle.positions.specs.declared.Position.{Position}
 use Rattle.state_bytes.specs.State.{holdsState, stateIn}
 use Rattle.entry_bytes.specs.Rows.{size, countOf, entriesIn}
 use Rattle.entry_bytes.specs.Corrections as correction-bytes

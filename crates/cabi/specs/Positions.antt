@@ -3,9 +3,9 @@ use Prim.Native.Nat.{ℕ}
 use lib.IntN.{ℤ}
 use Rattle.answer.specs.Order.{Says}
 use Rattle.frame.specs.declared.Frame.{Frame}
-use Rattle.record.specs.Stages.{saysMade}
-use Rattle.record.specs.Positions.{readPosition, saysPositionRead, makePosition}
-use Rattle.record.specs.declared.position.Position.{Position}
+use Rattle.stage.specs.Stages.{saysMade}
+use Rattle.positions.specs.Positions.{readPosition, saysPositionRead, makePosition}
+use Rattle.positions.specs.declared.Position.{Position}
 use Rattle.cabi.specs.Answer.{andThen}
 use Rattle.cabi.specs.Header.{headed}
 

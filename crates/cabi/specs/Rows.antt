@@ -6,8 +6,8 @@ use Rattle.answer.specs.Order.{Says}
 use Rattle.frame.specs.declared.Frame.{Frame}
 use Rattle.frame.specs.declared.Header.{Header}
 use Rattle.pack.specs.Coding.{Coding}
-use Rattle.record.specs.Stages.{saysMade}
-use Rattle.record.specs.declared.stage.Made.{Made}
+use Rattle.stage.specs.Stages.{saysMade}
+use Rattle.stage.specs.declared.Made.{Made}
 use Rattle.entry_bytes.specs.Rows.{size, countOf, entriesIn, putBy, rowAfter, saysPut}
 use Rattle.cabi.specs.Answer.{left, andThen}
 

@@ -3,8 +3,8 @@ use mathlib.Core.List.{List}
 use Prim.Native.Nat.{ℕ}
 use Rattle.answer.specs.Order.{Says}
 use Rattle.frame.specs.declared.Frame.{Frame}
-use Rattle.record.specs.Stages.{saysCount, saysMade}
-use Rattle.record.specs.Texts.{readText, bufferAfter, makeText}
+use Rattle.stage.specs.Stages.{saysCount, saysMade}
+use Rattle.texts.specs.Texts.{readText, bufferAfter, makeText}
 use Rattle.cabi.specs.Answer.{left, andThen}
 use Rattle.cabi.specs.Header.{headed}
 

@@ -1,7 +1,7 @@
 // Corrections of types 1 and 9: counted, read and made.
 ghost use mathlib.Core.Path.{_≡_};
 ghost use lib.ListN.{length};
-ghost use Rattle.record.specs.Corrections.{makeCorrections, saysCorrectionRead};
+ghost use Rattle.corrections.specs.Corrections.{makeCorrections, saysCorrectionRead};
 ghost use Rattle.entry_bytes.specs.Rows.{countOf, entriesIn};
 ghost use Rattle.entry_bytes.specs.Corrections.{row};
 ghost use Rattle.cabi.specs.Answer.{numberOf, left};
@@ -10,10 +10,10 @@ ghost use Rattle.cabi.specs.Frames.{frameIn, keptTo, heldTo};
 ghost use Rattle.cabi.specs.Rows.{rowTo, rowHeld};
 ghost use Rattle.cabi.specs.Corrections.{countSaid, entrySaid, madeSaid};
 use crate::header::Headed;
+use corrections::CorrectionRead;
 use frame::Header;
 use journal::Found;
-use record::correction::CorrectionRead;
-use record::stage::Made;
+use stage::Made;
 
 // The bytes of one correction.
 const SIZE: usize = 7;
@@ -28,7 +28,7 @@ pub extern "C" fn rtcm2_count_corrections(frame: &[u8], count: &mut usize) -> u8
     let answer = recalled.answer;
     match answer {
         Found::Record(_) => {
-            let said = record::correction::count_corrections(recalled.frame);
+            let said = corrections::count_corrections(recalled.frame);
             crate::rows::count_to(said, count)
         }
         Found::Refused(number) => number,
@@ -58,7 +58,7 @@ pub extern "C" fn rtcm2_correction_at(frame: &[u8], index: usize, correction: &m
     let answer = recalled.answer;
     match answer {
         Found::Record(_) => {
-            let read = record::correction::correction_at(recalled.frame, index);
+            let read = corrections::correction_at(recalled.frame, index);
             entry_to(read, correction)
         }
         Found::Refused(number) => number,
@@ -71,7 +71,7 @@ fn made_of(header: Header, corrections: &[u8]) -> Made
 {
     let count = entry_bytes::row::count_of(SIZE, corrections.len());
     let entries = entry_bytes::correction::corrections_in(corrections);
-    record::correction::make_corrections(header, entries, count)
+    corrections::make_corrections(header, entries, count)
 }
 
 // Makes a frame of corrections. Order 5, 6, 7, 12, 10, 13.

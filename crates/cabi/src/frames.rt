@@ -5,7 +5,7 @@ ghost use Prim.Native.Nat.{_+_, _*_, _-_, _≤_};
 ghost use lib.ListN as list;
 ghost use Rattle.answer.specs.Order.{answers};
 ghost use Rattle.journal.specs.Bytes.{wordIn, wordsIn};
-ghost use Rattle.record.specs.Stages.{saysMade};
+ghost use Rattle.stage.specs.Stages.{saysMade};
 ghost use Rattle.cabi.specs.Answer.{numberOf, left};
 ghost use Rattle.cabi.specs.Frames.{keptTo, heldTo, sizeTo, wordsSaid, keepSaid, recallSaid, kindSaid, stationSaid, zSaid, sequenceSaid, healthSaid, nSaid, lengthSaid};
 use crate::header::Headed;
@@ -15,8 +15,8 @@ use frame::Header;
 use frame::Health;
 use journal::Found;
 use journal::Kept;
-use record::stage::Made;
-use record::stage::Making;
+use stage::Made;
+use stage::Making;
 
 // Keeps a frame at the start of the bytes. Order 5, 13.
 fn keep_frame(value: Frame, frame: &mut [u8], length: &mut usize) -> u8

@@ -1,7 +1,7 @@
 // Satellites' health of type 5: counted, read and made.
 ghost use mathlib.Core.Path.{_≡_};
 ghost use lib.ListN.{length};
-ghost use Rattle.record.specs.Healths.{makeHealths, saysHealthRead};
+ghost use Rattle.healths.specs.Healths.{makeHealths, saysHealthRead};
 ghost use Rattle.entry_bytes.specs.Rows.{countOf, entriesIn};
 ghost use Rattle.entry_bytes.specs.Healths.{row};
 ghost use Rattle.cabi.specs.Answer.{numberOf, left};
@@ -11,9 +11,9 @@ ghost use Rattle.cabi.specs.Rows.{rowTo, rowHeld};
 ghost use Rattle.cabi.specs.Healths.{countSaid, entrySaid, madeSaid};
 use crate::header::Headed;
 use frame::Header;
+use healths::HealthRead;
 use journal::Found;
-use record::health::HealthRead;
-use record::stage::Made;
+use stage::Made;
 
 // The bytes of one satellite's health.
 const SIZE: usize = 10;
@@ -28,7 +28,7 @@ pub extern "C" fn rtcm2_count_healths(frame: &[u8], count: &mut usize) -> u8
     let answer = recalled.answer;
     match answer {
         Found::Record(_) => {
-            let said = record::health::count_healths(recalled.frame);
+            let said = healths::count_healths(recalled.frame);
             crate::rows::count_to(said, count)
         }
         Found::Refused(number) => number,
@@ -58,7 +58,7 @@ pub extern "C" fn rtcm2_health_at(frame: &[u8], index: usize, bytes: &mut [u8]) 
     let answer = recalled.answer;
     match answer {
         Found::Record(_) => {
-            let read = record::health::health_at(recalled.frame, index);
+            let read = healths::health_at(recalled.frame, index);
             entry_to(read, bytes)
         }
         Found::Refused(number) => number,
@@ -71,7 +71,7 @@ fn made_of(header: Header, healths: &[u8]) -> Made
 {
     let count = entry_bytes::row::count_of(SIZE, healths.len());
     let entries = entry_bytes::health::healths_in(healths);
-    record::health::make_healths(header, entries, count)
+    healths::make_healths(header, entries, count)
 }
 
 // Makes a frame of satellites' health. Order 5, 6, 7, 12, 10, 13.

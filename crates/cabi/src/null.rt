@@ -7,7 +7,7 @@ use crate::frames::keep_made;
 use crate::header::Headed;
 use crate::header::header_of;
 use journal::Found;
-use record::null::NullRead;
+use nulls::NullRead;
 
 // Whether the frame of a record is a null frame. Order 14, 15, 16, 15, 16, then 6, 7, 8.
 #[no_mangle]
@@ -17,7 +17,7 @@ pub extern "C" fn rtcm2_read_null(frame: &[u8]) -> u8
     let recalled = journal::recall(frame);
     let answer = recalled.answer;
     match answer {
-        Found::Record(_) => match record::null::read_null(recalled.frame) {
+        Found::Record(_) => match nulls::read_null(recalled.frame) {
             NullRead::Null => 0,
             NullRead::Refused(number) => number,
         },
@@ -41,7 +41,7 @@ pub extern "C" fn rtcm2_make_null(
     ensures { λ _. ⌜ now (length .exit) ≡ sizeTo (makeSaid kind station z sequence health) (now (frame .entry)) (now (length .entry)) ⌝ }
 {
     match header_of(kind, station, z, sequence, health) {
-        Headed::Header(header) => keep_made(record::null::make_null(header), frame, length),
+        Headed::Header(header) => keep_made(nulls::make_null(header), frame, length),
         Headed::Refused(number) => number,
     }
 }

@@ -7,8 +7,8 @@ use crate::frames::keep_made;
 use crate::header::Headed;
 use crate::header::header_of;
 use journal::Found;
-use record::position::Position;
-use record::position::PositionRead;
+use positions::Position;
+use positions::PositionRead;
 
 // The position of the frame of a record. Order 14, 15, 16, 15, 16, then 6, 7, 8, 10.
 #[no_mangle]
@@ -26,7 +26,7 @@ pub extern "C" fn rtcm2_read_position(
     let recalled = journal::recall(frame);
     let answer = recalled.answer;
     match answer {
-        Found::Record(_) => match record::position::read_position(recalled.frame) {
+        Found::Record(_) => match positions::read_position(recalled.frame) {
             PositionRead::At(position) => {
                 let x = position.x;
                 let y = position.y;
@@ -67,11 +67,7 @@ pub extern "C" fn rtcm2_make_position(
                 y: y_cm,
                 z: z_cm,
             };
-            keep_made(
-                record::position::make_position(header, position),
-                frame,
-                length,
-            )
+            keep_made(positions::make_position(header, position), frame, length)
         }
         Headed::Refused(number) => number,
     }

@@ -1,10 +1,10 @@
 // What the calls on lists share: a count, and whether a row was put, as numbers.
 ghost use mathlib.Core.Path.{_≡_};
-ghost use Rattle.record.specs.Stages.{saysCount};
+ghost use Rattle.stage.specs.Stages.{saysCount};
 ghost use Rattle.entry_bytes.specs.Rows.{saysPut};
 ghost use Rattle.cabi.specs.Answer.{numberOf, left};
 use entry_bytes::row::Put;
-use record::stage::Count;
+use stage::Count;
 
 // A count to its place, or the refusal's number.
 pub(crate) fn count_to(said: Count, count: &mut usize) -> u8

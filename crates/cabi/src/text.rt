@@ -7,7 +7,7 @@ use crate::frames::keep_made;
 use crate::header::Headed;
 use crate::header::header_of;
 use journal::Found;
-use record::stage::Count;
+use stage::Count;
 
 // The text of the frame of a record, at the start of the bytes. Order 14, 15, 16, 15, 16, then 6, 7, 8, 11, 13.
 #[no_mangle]
@@ -19,7 +19,7 @@ pub extern "C" fn rtcm2_read_text(frame: &[u8], text: &mut [u8], length: &mut us
     let recalled = journal::recall(frame);
     let answer = recalled.answer;
     match answer {
-        Found::Record(_) => match record::text::read_text(recalled.frame, text) {
+        Found::Record(_) => match texts::read_text(recalled.frame, text) {
             Count::Of(count) => {
                 *length = count;
                 0
@@ -47,7 +47,7 @@ pub extern "C" fn rtcm2_make_text(
     ensures { λ _. ⌜ now (length .exit) ≡ sizeTo (makeSaid kind station z sequence health (now (text .entry))) (now (frame .entry)) (now (length .entry)) ⌝ }
 {
     match header_of(kind, station, z, sequence, health) {
-        Headed::Header(header) => keep_made(record::text::make_text(header, text), frame, length),
+        Headed::Header(header) => keep_made(texts::make_text(header, text), frame, length),
         Headed::Refused(number) => number,
     }
 }

@@ -11,7 +11,7 @@ use Rattle.bits.specs.Fields.{Fit}
 use Rattle.bits.specs.Signed.{signed, code}
 use Rattle.bits.proofs.SignedLaws.{code-signed, signed-code, code-lt}
 use Rattle.pack.proofs.Round.{Faithful}
-use Rattle.record.specs.declared.correction.Correction.{Correction}
+use Rattle.corrections.specs.declared.Correction.{Correction}
 use Rattle.entry_bytes.specs.Corrections.{row, meant, codes, Typed}
 
 -- seven bytes read are the entry

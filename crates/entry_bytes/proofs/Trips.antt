@@ -15,8 +15,8 @@ use Rattle.pack.specs.Coding.{Coding, Each}
 use Rattle.pack.proofs.Round.{Faithful}
 use Rattle.journal.specs.Bytes.{octets, AreBytes}
 use Rattle.journal.proofs.ByteLaws.{fit-take, fit-drop}
-use Rattle.record.specs.declared.correction.Correction.{Correction}
-use Rattle.record.specs.declared.health.SatelliteHealth.{SatelliteHealth}
+use Rattle.corrections.specs.declared.Correction.{Correction}
+use Rattle.healths.specs.declared.SatelliteHealth.{SatelliteHealth}
 use Rattle.entry_bytes.specs.Rows.{countOf, size, entryOf, entriesIn, bytesOf, rowAfter}
 use Rattle.entry_bytes.specs.Corrections as correction
 use Rattle.entry_bytes.specs.Healths as health

@@ -5,7 +5,7 @@ use lib.Signed.{mag}
 use lib.ListN.{getD, replicate}
 use Rattle.bits.specs.Signed.{signed, code}
 use Rattle.pack.specs.Coding.{Coding}
-use Rattle.record.specs.declared.correction.Correction.{Correction}
+use Rattle.corrections.specs.declared.Correction.{Correction}
 
 -- PRC and RRC are two's complement
 abbrev pub meant : List ℕ → Correction

@@ -4,7 +4,7 @@ use Prim.Native.Nat.{ℕ}
 use lib.ListN.{getD, replicate}
 use Rattle.bits.specs.Fields.{Fit}
 use Rattle.pack.specs.Coding.{Coding}
-use Rattle.record.specs.declared.health.SatelliteHealth.{SatelliteHealth}
+use Rattle.healths.specs.declared.SatelliteHealth.{SatelliteHealth}
 
 abbrev pub meant : List ℕ → SatelliteHealth
 meant vs = record {

@@ -6,7 +6,7 @@ ghost use Rattle.entry_bytes.specs.Rows.{entryOf, entriesIn, putBy, rowA
 ghost use Rattle.entry_bytes.specs.Corrections.{row};
 use crate::row::Put;
 use crate::row::byte_at;
-use record::correction::Correction;
+use corrections::Correction;
 
 // The bytes of one correction.
 const SIZE: usize = 7;

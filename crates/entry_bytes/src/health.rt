@@ -6,7 +6,7 @@ ghost use Rattle.entry_bytes.specs.Rows.{entryOf, entriesIn, putBy, rowA
 ghost use Rattle.entry_bytes.specs.Healths.{row};
 use crate::row::Put;
 use crate::row::byte_at;
-use record::health::SatelliteHealth;
+use healths::SatelliteHealth;
 
 // The bytes of one satellite's health.
 const SIZE: usize = 10;

@@ -1,4 +1,4 @@
--- How long lines are: at most 147 bytes each, so that the room that the calls ask for is enough. Assumes nothing.
+-- How long lines are: the room that the calls ask for is enough. Assumes nothing.
 use mathlib.Core.Path.{_≡_, ap, _∙_}
 use mathlib.Core.List.{List, [], _∷_, _++_}
 use Prim.Native.Nat.{ℕ, zero, suc, _+_, _*_, _≤_}
@@ -6,11 +6,11 @@ use native.Mathlib.Omega.{arith}
 use lib.ListN.{length, take, drop, length-append, length-drop}
 use lib.Seq.{sets, sets-eq, take-append-seam}
 use Rattle.frame.specs.declared.Frame.{Frame}
-use Rattle.reader.specs.Reading.{takenBy}
+use Rattle.reader.specs.Reading.{endedBy, takenBy}
 use Rattle.reader.specs.declared.Answer.{Answer}
 use Rattle.reader.specs.declared.Answer.the-variants.{Done, Refused}
 use Rattle.listing.specs.Text.{decimal, newline, mark, spaced, numbersOf, frameLine, framesLabel, bytesLabel, passedLabel, lastLine}
-use Rattle.listing.specs.Listing.{fedOn, handedOn, Lines, lineThen, linesOf}
+use Rattle.listing.specs.Listing.{fedOn, handedOn, endedOn, Lines, lineThen, linesOf, lineRoom, endRoom, finalLines}
 use Rattle.listing.specs.declared.Listing.{Listing}
 use Rattle.listing.proofs.TextLaws.{digits-le, length-decimal}
 use Rattle.listing.proofs.LinesLaws.{fed-used}
@@ -23,10 +23,10 @@ unfolding spaced
 spaced-le [] = omega arith
 spaced-le (n ∷ ns) = omega (arith, length-append (decimal n) (mark ns ∷ spaced ns), decimal-le n, spaced-le ns)
 
-line-le : (at : ℕ) (f : Frame) → length (frameLine at f) ≤ 147
+line-le : (at : ℕ) (f : Frame) → length (frameLine at f) ≤ lineRoom
 line-le at f = spaced-le (numbersOf at f)
 
-pub last-le : (a b c : ℕ) → length (lastLine a b c) ≤ 147
+last-le : (a b c : ℕ) → length (lastLine a b c) ≤ lineRoom
 unfolding lastLine
 last-le a b c =
     omega (
@@ -42,7 +42,7 @@ last-le a b c =
       length-append (passedLabel ++ decimal c) (newline ∷ []),
     )
 
-pub lines-le : (k : ℕ) (l : Listing) (bs : List ℕ) → length (linesOf k l bs .text) ≤ 147 * k
+pub lines-le : (k : ℕ) (l : Listing) (bs : List ℕ) → length (linesOf k l bs .text) ≤ lineRoom * k
 unfolding linesOf
 lines-le zero l bs = omega arith
 lines-le (suc k) l bs =
@@ -50,9 +50,22 @@ lines-le (suc k) l bs =
     (linesOf k (handedOn (fedOn l bs .listing) (takenBy (fedOn l bs .listing .reader) .reader)) (drop (fedOn l bs .used) bs))
     (lines-le k (handedOn (fedOn l bs .listing) (takenBy (fedOn l bs .listing .reader) .reader)) (drop (fedOn l bs .used) bs))
   where
-    go : (a : Answer) (line : List ℕ) → length line ≤ 147 → (rest : Lines) → length (rest .text) ≤ 147 * k → length (lineThen a (fedOn l bs) line rest .text) ≤ 147 * suc k
+    go : (a : Answer) (line : List ℕ) → length line ≤ lineRoom → (rest : Lines) → length (rest .text) ≤ lineRoom * k → length (lineThen a (fedOn l bs) line rest .text) ≤ lineRoom * suc k
     go Done line h rest later = omega (arith, length-append line (rest .text))
     go (Refused n) line h rest later = omega arith
+
+-- sixteen lines and the last fit the room at the end
+pub final-le : (l : Listing) → length (finalLines l .text) ≤ endRoom
+unfolding finalLines
+final-le l =
+    let x = linesOf 16 (endedOn l (endedBy (l .reader) .reader)) [] in
+    let end = x .listing in
+    omega (
+      arith,
+      lines-le 16 (endedOn l (endedBy (l .reader) .reader)) [],
+      last-le (end .frames) (end .bytes) (end .passed),
+      length-append (x .text) (lastLine (end .frames) (end .bytes) (end .passed)),
+    )
 
 -- no more bytes are used than there are
 pub lines-used : (k : ℕ) (l : Listing) (bs : List ℕ) → linesOf k l bs .used ≤ length bs

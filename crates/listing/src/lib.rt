@@ -3,7 +3,7 @@ ghost use mathlib.Core.Path.{_≡_};
 ghost use Prim.Native.Nat.{_*_, _≤_};
 ghost use lib.ListN.{length};
 ghost use lib.Seq.{sets};
-ghost use Rattle.listing.specs.Listing.{begun, fedOn, handedOn, endedOn, linesOf, linedBy, readyBy, refused, pieceBy, pieceText, finishBy, finishText};
+ghost use Rattle.listing.specs.Listing.{begun, fedOn, handedOn, endedOn, linesOf, linedBy, lineRoom, readyBy, refused, pieceBy, pieceText, finishBy, finishText};
 
 mod text;
 
@@ -104,9 +104,9 @@ fn ended_on(listing: Listing, reader: Reader) -> Listing
 
 // Writes at most `lines` lines: bytes are fed until a frame waits, it is taken, and so on with the bytes left.
 fn put_lines(listing: Listing, input: &[u8], lines: usize, output: &mut [u8]) -> Lined
-    requires { ⌜ 147 * lines ≤ length (now output) ⌝ }
+    requires { ⌜ lineRoom * lines ≤ length (now output) ⌝ }
     ensures { λ r. ⌜ r ≡ linedBy (linesOf lines listing (now (input .entry))) ⌝ }
-    ensures { λ r. ⌜ (r .used ≤ length (now (input .entry))) × (r .written ≤ 147 * lines) ⌝ }
+    ensures { λ r. ⌜ (r .used ≤ length (now (input .entry))) × (r .written ≤ lineRoom * lines) ⌝ }
     ensures { λ _. ⌜ now (output .exit) ≡ sets (now (output .entry)) 0 (linesOf lines listing (now (input .entry)) .text) ⌝ }
 {
     let mut state = listing;

@@ -7,6 +7,7 @@ ghost use lib.Dec.{eqb};
 ghost use lib.ListN.{length};
 ghost use lib.Seq.{sets};
 ghost use Rattle.frame.specs.Widths.{stateOutside};
+ghost use Rattle.listing.specs.Listing.{lineRoom};
 ghost use Rattle.listing.specs.Text.{digitsUpTo, decimal, spaced, frameLine, lastLine};
 use frame::Frame;
 use frame::Health;
@@ -56,8 +57,8 @@ fn mark_after(i: usize) -> u8
 
 // Writes seven numbers as a line from `place` on, and answers the place after it.
 fn put_numbers(numbers: &[u64; 7], place: usize, buffer: &mut [u8]) -> usize
-    requires { ⌜ (length (now numbers) ≡ 7) × (place + 147 ≤ length (now buffer)) ⌝ }
-    ensures { λ r. ⌜ (r ≡ place + length (spaced (now (numbers .entry)))) × (r ≤ place + 147) ⌝ }
+    requires { ⌜ (length (now numbers) ≡ 7) × (place + lineRoom ≤ length (now buffer)) ⌝ }
+    ensures { λ r. ⌜ (r ≡ place + length (spaced (now (numbers .entry)))) × (r ≤ place + lineRoom) ⌝ }
     ensures { λ _. ⌜ now (buffer .exit) ≡ sets (now (buffer .entry)) place (spaced (now (numbers .entry))) ⌝ }
 {
     let mut next = place;
@@ -73,8 +74,8 @@ fn put_numbers(numbers: &[u64; 7], place: usize, buffer: &mut [u8]) -> usize
 
 // Writes a frame's line from `place` on, and answers the place after it.
 pub(crate) fn put_frame(at: u32, frame: Frame, place: usize, buffer: &mut [u8]) -> usize
-    requires { ⌜ (stateOutside (frame .header .state) ≡ false) × (place + 147 ≤ length (now buffer)) ⌝ }
-    ensures { λ r. ⌜ (r ≡ place + length (frameLine at frame)) × (r ≤ place + 147) ⌝ }
+    requires { ⌜ (stateOutside (frame .header .state) ≡ false) × (place + lineRoom ≤ length (now buffer)) ⌝ }
+    ensures { λ r. ⌜ (r ≡ place + length (frameLine at frame)) × (r ≤ place + lineRoom) ⌝ }
     ensures { λ _. ⌜ now (buffer .exit) ≡ sets (now (buffer .entry)) place (frameLine at frame) ⌝ }
 {
     let header = frame.header;
@@ -124,8 +125,8 @@ pub(crate) fn put_last(
     place: usize,
     buffer: &mut [u8],
 ) -> usize
-    requires { ⌜ place + 147 ≤ length (now buffer) ⌝ }
-    ensures { λ r. ⌜ (r ≡ place + length (lastLine frames bytes passed)) × (r ≤ place + 147) ⌝ }
+    requires { ⌜ place + lineRoom ≤ length (now buffer) ⌝ }
+    ensures { λ r. ⌜ (r ≡ place + length (lastLine frames bytes passed)) × (r ≤ place + lineRoom) ⌝ }
     ensures { λ _. ⌜ now (buffer .exit) ≡ sets (now (buffer .entry)) place (lastLine frames bytes passed) ⌝ }
 {
     let first = put_total(b"frames ", frames, place, buffer);

@@ -1,3 +1,4 @@
+pub mod SatelliteLaws
 pub mod SignedCode
 pub mod PackCode
 pub mod Holds

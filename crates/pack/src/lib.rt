@@ -1,9 +1,10 @@
-// Fields in data words: a reader at any bit, a packer that puts one field after the other, and two's complement.
+// Fields in data words: a reader at any bit, a packer that puts one field after the other, two's complement, and satellite numbers.
 ghost use mathlib.Core.Path.{_≡_};
 ghost use Prim.Native.Nat.{_+_, _≤_, _<_, _%_, _^_};
 ghost use lib.ListN.{length, getD};
 ghost use lib.Signed.{mag};
 ghost use Rattle.bits.specs.Signed.{signed as signedOf, code as codeOf};
+ghost use Rattle.pack.specs.Satellites.{satelliteOf};
 ghost use Rattle.pack.specs.Packing.{fieldIn, emptyPacker, flushed, pushed, filledUp};
 
 // Whole words, how many, and the bits of the next word: `held` of them, as a number.
@@ -180,4 +181,15 @@ pub fn code32(z: i32) -> u32
     ensures { λ r. ⌜ r ≡ codeOf 31 z ⌝ }
 {
     code(z as i64, 31)
+}
+
+// Five bits to a satellite number: 0 means 32.
+pub fn satellite_of(code: u32) -> u8
+    ensures { λ r. ⌜ r ≡ satelliteOf (code % 32) ⌝ }
+{
+    let five = code % 32;
+    if five == 0 {
+        return 32;
+    }
+    five as u8
 }

@@ -29,18 +29,20 @@ use Rattle.writer.specs.declared.Opened.the-variants as opened
 use Rattle.writer.specs.declared.Written.the-variants as written
 use Rattle.journal.specs.Journal.{refused, saysKept, saysRecalled}
 use Rattle.journal.specs.declared.Kept.the-variants as kept
-use Rattle.record.specs.Stages.{refusedMade, doneMade, saysAsked, saysCount, saysMade}
-use Rattle.record.specs.Corrections.{countCorrections, correctionAt, makeCorrections, saysCorrectionRead}
-use Rattle.record.specs.Healths.{countHealths, healthAt, makeHealths, saysHealthRead}
-use Rattle.record.specs.Positions.{readPosition, makePosition, saysPositionRead}
-use Rattle.record.specs.Nulls.{readNull, makeNull, saysNullRead}
-use Rattle.record.specs.Texts.{readText, makeText}
-use Rattle.record.specs.declared.stage.Count.the-variants as count
-use Rattle.record.specs.declared.correction.CorrectionRead.the-variants as correction
-use Rattle.record.specs.declared.health.HealthRead.the-variants as healths
-use Rattle.record.specs.declared.position.PositionRead.the-variants as position
-use Rattle.record.specs.declared.null.NullRead.the-variants as null
-use Rattle.record.specs.declared.stage.Asked.the-variants.{Same, Other}
+use Rattle.stage.specs.Stages.{refusedMade, doneMade, saysAsked, saysCounted, saysSize, saysCount, saysMade}
+use Rattle.corrections.specs.Corrections.{countCorrections, correctionAt, makeCorrections, saysCorrectionRead}
+use Rattle.healths.specs.Healths.{countHealths, healthAt, makeHealths, saysHealthRead}
+use Rattle.positions.specs.Positions.{readPosition, makePosition, saysPositionRead}
+use Rattle.nulls.specs.Nulls.{readNull, makeNull, saysNullRead}
+use Rattle.texts.specs.Texts.{readText, makeText}
+use Rattle.stage.specs.declared.Count.the-variants as count
+use Rattle.corrections.specs.declared.CorrectionRead.the-variants as correction
+use Rattle.healths.specs.declared.HealthRead.the-variants as healths
+use Rattle.positions.specs.declared.PositionRead.the-variants as position
+use Rattle.nulls.specs.declared.NullRead.the-variants as null
+use Rattle.stage.specs.declared.Asked.the-variants.{Same, Other}
+use Rattle.stage.specs.declared.Counted.the-variants.{Misfit}
+use Rattle.stage.specs.declared.Size.the-variants.{Right, Wrong}
 use Rattle.value.specs.Values.{prcValue, rrcValue, udreValue, cn0Value}
 use Rattle.value.proofs.AnswerLaws.{prc-says, rrc-says, udre-says, cn0-says, minutes-says, z-says}
 use Rattle.listing.specs.Listing.{pieceBy, finishBy}
@@ -106,6 +108,8 @@ carries-its-number = record {
   frame-widths = λ f. told saysWidths (λ n. Outside) Within tt refl refl refl;
   clock-of = λ z. told saysClock (λ n. Late) Hour tt refl refl refl;
   asked-of = λ l kind. told saysAsked (λ n. Other) Same tt refl refl refl;
+  entries-in = λ w n. told saysCounted (λ m. Misfit) _ _ refl refl refl;
+  size-of = λ wanted n. told saysSize (λ m. Wrong) Right tt refl refl refl;
   prc-mm = λ scale prc. ordered ((ltb 1 scale, 10) ∷ []) (prcValue scale prc) (prc-says scale prc) refl refl;
   rrc-mm-s = λ scale rrc. ordered ((ltb 1 scale, 10) ∷ []) (rrcValue scale rrc) (rrc-says scale rrc) refl refl;
   udre-limit = λ s udre. ordered ((stateOutside s, 5) ∷ (ltb 3 udre, 10) ∷ []) (udreValue s udre) (udre-says s udre) refl refl;

@@ -27,20 +27,19 @@ use Rattle.journal.specs.declared.Recalled.{Recalled}
 use Rattle.journal.specs.declared.Kept.the-variants as kept
 use Rattle.journal.proofs.KeepLaws.{length-record}
 use Rattle.pack.specs.Coding.{frameBits}
-use Rattle.record.proofs.TextCode.{length-characters}
-use Rattle.record.specs.Stages.{refusedMade, saysCount}
-use Rattle.record.specs.Corrections.{makeCorrections}
-use Rattle.record.specs.Healths.{makeHealths}
-use Rattle.record.specs.Positions.{makePosition}
-use Rattle.record.specs.Nulls.{makeNull}
-use Rattle.record.specs.declared.stage.Made.{Made}
-use Rattle.record.specs.declared.stage.Count.the-variants as count
-use Rattle.record.specs.Texts.{lengthIn, textIn, readText, bufferAfter, makeText}
-use Rattle.listing.specs.Text.{lastLine}
-use Rattle.listing.specs.Listing.{Lines, lineRoom, endRoom, endedOn, refused, listed, linesOf, finalLines, pieceBy, pieceText, finishBy, finishText}
+use Rattle.texts.proofs.TextCode.{length-characters}
+use Rattle.stage.specs.Stages.{refusedMade, saysCount}
+use Rattle.corrections.specs.Corrections.{makeCorrections}
+use Rattle.healths.specs.Healths.{makeHealths}
+use Rattle.positions.specs.Positions.{makePosition}
+use Rattle.nulls.specs.Nulls.{makeNull}
+use Rattle.stage.specs.declared.Made.{Made}
+use Rattle.stage.specs.declared.Count.the-variants as count
+use Rattle.texts.specs.Texts.{lengthIn, textIn, readText, bufferAfter, makeText}
+use Rattle.listing.specs.Listing.{Lines, lineRoom, endRoom, refused, listed, linesOf, finalLines, pieceBy, pieceText, finishBy, finishText}
 use Rattle.listing.specs.declared.Listing.{Listing}
 use Rattle.listing.specs.declared.Listed.{Listed}
-use Rattle.listing.proofs.Lengths.{lines-le, last-le}
+use Rattle.listing.proofs.Lengths.{lines-le, final-le}
 use Rattle.promises.specs.CarriesItsNumber.{Ordered}
 use Rattle.promises.specs.ChangesNeither.{Keeps, ChangesNeither, NumberAlone, OnlyFirst, Owns, OnlyItsBytes}
 use Rattle.promises.proofs.CarriesItsNumber.{carries-its-number, says-inj, none-told}
@@ -134,18 +133,6 @@ listing-owns {cs} l x out o room v e =
   where
     none : NoneApplies cs
     none = none-told o v e
-
-final-le : (l : Listing) → length (finalLines l .text) ≤ endRoom
-unfolding finalLines
-final-le l =
-    let x = linesOf 16 (endedOn l (endedBy (l .reader) .reader)) [] in
-    let end = x .listing in
-    omega (
-      arith,
-      lines-le 16 (endedOn l (endedBy (l .reader) .reader)) [],
-      last-le (end .frames) (end .bytes) (end .passed),
-      length-append (x .text) (lastLine (end .frames) (end .bytes) (end .passed)),
-    )
 
 pub only-its-bytes : OnlyItsBytes
 unfolding readText bufferAfter pieceBy pieceText finishBy finishText

@@ -20,16 +20,16 @@ use Rattle.frame.proofs.WidthLaws.{both-false}
 use Rattle.stream.specs.Standing.{size, frameAt}
 use Rattle.stream.proofs.Data.{frame-full}
 use Rattle.pack.specs.Coding.{Each}
-use Rattle.record.specs.Stages.{otherLayout, refusedMade, doneMade, saysCount, saysMade}
-use Rattle.record.specs.Corrections.{countCorrections, correctionAt, makeCorrections, saysCorrectionRead, Typed}
-use Rattle.record.specs.Healths.{countHealths, healthAt, makeHealths, saysHealthRead}
-use Rattle.record.specs.Positions.{makePosition}
-use Rattle.record.specs.Nulls.{makeNull}
-use Rattle.record.specs.Texts.{makeText}
-use Rattle.record.specs.declared.stage.Making.{Making}
-use Rattle.record.specs.declared.stage.Making.the-variants as making
-use Rattle.record.specs.declared.stage.Made.{Made}
-use Rattle.record.proofs.StageLaws.{done-apart}
+use Rattle.stage.specs.Stages.{otherLayout, refusedMade, doneMade, saysCount, saysMade}
+use Rattle.corrections.specs.Corrections.{countCorrections, correctionAt, makeCorrections, saysCorrectionRead, Typed}
+use Rattle.healths.specs.Healths.{countHealths, healthAt, makeHealths, saysHealthRead}
+use Rattle.positions.specs.Positions.{makePosition}
+use Rattle.nulls.specs.Nulls.{makeNull}
+use Rattle.texts.specs.Texts.{makeText}
+use Rattle.stage.specs.declared.Making.{Making}
+use Rattle.stage.specs.declared.Making.the-variants as making
+use Rattle.stage.specs.declared.Made.{Made}
+use Rattle.stage.proofs.StageLaws.{done-apart}
 use Rattle.record_laws.proofs.CorrectionTrips.{corrections-made-read, corrections-read-made}
 use Rattle.record_laws.proofs.HealthTrips.{healths-made-read, healths-read-made}
 use Rattle.record_laws.proofs.PositionTrips.{position-made-read, position-read-made}

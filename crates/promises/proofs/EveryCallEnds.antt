@@ -32,18 +32,22 @@ use Rattle.pack.proofs.signed32.Met as signed32
 use Rattle.pack.proofs.code8.Met as code8
 use Rattle.pack.proofs.code16.Met as code16
 use Rattle.pack.proofs.code32.Met as code32
-use Rattle.record.proofs.stage.asked_of.Met as asked-of
-use Rattle.record.proofs.correction.count_corrections.Met as count-corrections
-use Rattle.record.proofs.correction.correction_at.Met as correction-at
-use Rattle.record.proofs.correction.make_corrections.Met as make-corrections
-use Rattle.record.proofs.health.count_healths.Met as count-healths
-use Rattle.record.proofs.health.health_at.Met as health-at
-use Rattle.record.proofs.health.make_healths.Met as make-healths
-use Rattle.record.proofs.position.read_position.Met as read-position
-use Rattle.record.proofs.position.make_position.Met as make-position
-use Rattle.record.proofs.null.read_null.Met as read-null
-use Rattle.record.proofs.null.make_null.Met as make-null
-use Rattle.record.proofs.text.make_text.Met as make-text
+use Rattle.pack.proofs.satellite_of.Met as satellite-of
+use Rattle.stage.proofs.asked_of.Met as asked-of
+use Rattle.stage.proofs.entries_in.Met as entries-in
+use Rattle.stage.proofs.size_of.Met as size-of
+use Rattle.stage.proofs.refused.Met as stage-refused
+use Rattle.corrections.proofs.count_corrections.Met as count-corrections
+use Rattle.corrections.proofs.correction_at.Met as correction-at
+use Rattle.corrections.proofs.make_corrections.Met as make-corrections
+use Rattle.healths.proofs.count_healths.Met as count-healths
+use Rattle.healths.proofs.health_at.Met as health-at
+use Rattle.healths.proofs.make_healths.Met as make-healths
+use Rattle.positions.proofs.read_position.Met as read-position
+use Rattle.positions.proofs.make_position.Met as make-position
+use Rattle.nulls.proofs.read_null.Met as read-null
+use Rattle.nulls.proofs.make_null.Met as make-null
+use Rattle.texts.proofs.make_text.Met as make-text
 use Rattle.value.proofs.prc_mm.Met as prc-mm
 use Rattle.value.proofs.rrc_mm_s.Met as rrc-mm-s
 use Rattle.value.proofs.udre_limit.Met as udre-limit
@@ -54,7 +58,7 @@ use Rattle.listing.proofs.new.Met as listing-new
 use Rattle.writer.proofs.open.Met as writer-open
 use Rattle.writer.proofs.write.Met as write
 use Rattle.journal.proofs.keep.Met as keep
-use Rattle.record.proofs.text.read_text.Met as read-text
+use Rattle.texts.proofs.read_text.Met as read-text
 use Rattle.listing.proofs.list_piece.Met as list-piece
 use Rattle.listing.proofs.finish.Met as finish
 use Rattle.promises.specs.EveryCallEnds.{EveryCallEnds}
@@ -94,7 +98,11 @@ every-call-ends = record {
   code8 = code8.met;
   code16 = code16.met;
   code32 = code32.met;
+  satellite-of = satellite-of.met;
   asked-of = asked-of.met;
+  entries-in = entries-in.met;
+  size-of = size-of.met;
+  stage-refused = stage-refused.met;
   count-corrections = count-corrections.met;
   correction-at = correction-at.met;
   make-corrections = make-corrections.met;

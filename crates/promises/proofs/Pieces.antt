@@ -44,29 +44,29 @@ unfolding pieceBy pieceText
 piece-tells used out l t lent buffer = go (past (l .reader)) (l .reader .ended) (ltb (length buffer) lineRoom)
   where
     x : Lines
-    x = linesOf (length buffer / 147) l lent
+    x = linesOf (length buffer / lineRoom) l lent
 
     none : (n : ℕ) → PieceTells used out lent (refused l n) buffer
     none n = record { more = []; text = (unfold told in refl); is = subst₂ (λ u o. Told u o l) (sym (append-nil used)) (sym (append-nil out)) t; within = omega arith }
 
-    go : (p e s : Bool) → PieceTells used out lent (inOrder ((p, 5) ∷ (e, 3) ∷ (s, 13) ∷ []) (refused l) (listed (linesOf (length buffer / 147) l lent)))
-        (inOrder ((p, 5) ∷ (e, 3) ∷ (s, 13) ∷ []) (λ n. buffer) (sets buffer 0 (linesOf (length buffer / 147) l lent .text)))
+    go : (p e s : Bool) → PieceTells used out lent (inOrder ((p, 5) ∷ (e, 3) ∷ (s, 13) ∷ []) (refused l) (listed (linesOf (length buffer / lineRoom) l lent)))
+        (inOrder ((p, 5) ∷ (e, 3) ∷ (s, 13) ∷ []) (λ n. buffer) (sets buffer 0 (linesOf (length buffer / lineRoom) l lent .text)))
     go true e s = none 5
     go false true s = none 3
     go false false true = none 13
     go false false false =
-        let y = tells (length buffer / 147) l lent used out t in
+        let y = tells (length buffer / lineRoom) l lent used out t in
         record {
           more = y .more;
-          text = stored-text buffer (x .text) (omega (arith, lines-le (length buffer / 147) l lent)) ∙ y .text;
+          text = stored-text buffer (x .text) (omega (arith, lines-le (length buffer / lineRoom) l lent)) ∙ y .text;
           is = y .is;
-          within = lines-used (length buffer / 147) l lent;
+          within = lines-used (length buffer / lineRoom) l lent;
         }
 
 -- a piece that has room is carried out
-pub piece-is : (l : Listing) (bs : List ℕ) (room : ℕ) → past (l .reader) ≡ false → l .reader .ended ≡ false → 147 ≤ room → pieceBy l bs room ≡ listed (linesOf (room / 147) l bs)
+pub piece-is : (l : Listing) (bs : List ℕ) (room : ℕ) → past (l .reader) ≡ false → l .reader .ended ≡ false → lineRoom ≤ room → pieceBy l bs room ≡ listed (linesOf (room / lineRoom) l bs)
 unfolding pieceBy
-piece-is l bs room p e h = order-answers (refused l) (listed (linesOf (room / 147) l bs)) (pieceOrder l room) (p, (e, (le-ltb room 147 h, tt)))
+piece-is l bs room p e h = order-answers (refused l) (listed (linesOf (room / lineRoom) l bs)) (pieceOrder l room) (p, (e, (le-ltb room lineRoom h, tt)))
 
 -- ---- piece after piece
 
@@ -107,13 +107,13 @@ course-tells (p ∷ ps) l bs used out t = later (course-tells ps (r .listing) (d
 -- ---- pieces leave the input going on
 pub piece-ended : (l : Listing) (bs : List ℕ) (room : ℕ) (used : List ℕ) (out : List (ℕ × Frame)) → Told used out l → pieceBy l bs room .listing .reader .ended ≡ l .reader .ended
 unfolding pieceBy
-piece-ended l bs room used out t = go (past (l .reader)) (l .reader .ended) (ltb room 147)
+piece-ended l bs room used out t = go (past (l .reader)) (l .reader .ended) (ltb room lineRoom)
   where
-    go : (p e s : Bool) → inOrder ((p, 5) ∷ (e, 3) ∷ (s, 13) ∷ []) (refused l) (listed (linesOf (room / 147) l bs)) .listing .reader .ended ≡ l .reader .ended
+    go : (p e s : Bool) → inOrder ((p, 5) ∷ (e, 3) ∷ (s, 13) ∷ []) (refused l) (listed (linesOf (room / lineRoom) l bs)) .listing .reader .ended ≡ l .reader .ended
     go true e s = refl
     go false true s = refl
     go false false true = refl
-    go false false false = lines-go (room / 147) l bs used out t .0
+    go false false false = lines-go (room / lineRoom) l bs used out t .0
 
 pub course-goes : (ps : List Piece) (l : Listing) (bs used : List ℕ) (out : List (ℕ × Frame)) → Told used out l → courseOf ps l bs .listing .reader .ended ≡ l .reader .ended
 unfolding courseOf

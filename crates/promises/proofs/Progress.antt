@@ -23,7 +23,7 @@ use Rattle.promises.specs.Calls.{feedsAll, after}
 use Rattle.promises.proofs.Runs.{not-done, says-done, all-by, taken-by, never-past}
 use Rattle.promises.proofs.EveryReader.{fed-parts, next-is-accepted}
 use Rattle.listing.specs.Text.{frameLine}
-use Rattle.listing.specs.Listing.{begun, fedOn, handedOn, Lines, lineThen, linesOf, refused, listed, pieceBy, finalLines, endOrder, finishBy, saysListed}
+use Rattle.listing.specs.Listing.{begun, fedOn, handedOn, Lines, lineThen, linesOf, lineRoom, endRoom, refused, listed, pieceBy, finalLines, endOrder, finishBy, saysListed}
 use Rattle.promises.specs.Course.{Piece, courseOf, Answered, NothingLeft, PieceTaken, Fit, Reached, TextComes}
 use Rattle.promises.proofs.Telling.{Told, told-none, line-some, none-there, told-fed, told-taken, fed-held, taken-less, lines-go}
 use Rattle.promises.proofs.Pieces.{done-answered, piece-is, piece-tells, course-tells, piece-ended, course-goes}
@@ -80,27 +80,27 @@ module _ (l : Listing) (bs : List ℕ) (len : length (l .reader .cells) ≡ 40) 
           let quiet = none-there (fedAllBy (l .reader) bs .reader) accepted n ea in
           unfold fedOn in (all-used quiet, accepted, fed-goes, quiet)
 
-finish-answers : (l : Listing) (room : ℕ) → past (l .reader) ≡ false → l .reader .ended ≡ false → l .reader .candidate .waits ≡ false → 2499 ≤ room → finishBy l room .answer ≡ Done
+finish-answers : (l : Listing) (room : ℕ) → past (l .reader) ≡ false → l .reader .ended ≡ false → l .reader .candidate .waits ≡ false → endRoom ≤ room → finishBy l room .answer ≡ Done
 unfolding finishBy
 finish-answers l room p e w h =
-    ap (λ (x : Listed). x .answer) (order-answers (refused l) (listed (finalLines l)) (endOrder l room) (p, (e, (w, (le-ltb room 2499 h, tt)))))
+    ap (λ (x : Listed). x .answer) (order-answers (refused l) (listed (finalLines l)) (endOrder l room) (p, (e, (w, (le-ltb room endRoom h, tt)))))
 
 idle-piece : (l : Listing) (bs : List ℕ) (room : ℕ) → length (l .reader .cells) ≡ 40 → pieceBy l bs room .answer ≡ Done → pieceBy l bs room .written ≡ 0
-    → (pieceBy l bs room .used ≡ length bs) × ((n : ℕ) → 2499 ≤ n → finishBy (pieceBy l bs room .listing) n .answer ≡ Done)
+    → (pieceBy l bs room .used ≡ length bs) × ((n : ℕ) → endRoom ≤ n → finishBy (pieceBy l bs room .listing) n .answer ≡ Done)
 unfolding pieceBy
-idle-piece l bs room len = go (past (l .reader)) refl (l .reader .ended) refl (ltb room 147) refl
+idle-piece l bs room len = go (past (l .reader)) refl (l .reader .ended) refl (ltb room lineRoom) refl
   where
-    go : (p : Bool) → past (l .reader) ≡ p → (e : Bool) → l .reader .ended ≡ e → (s : Bool) → ltb room 147 ≡ s
-        → inOrder ((p, 5) ∷ (e, 3) ∷ (s, 13) ∷ []) (refused l) (listed (linesOf (room / 147) l bs)) .answer ≡ Done
-        → inOrder ((p, 5) ∷ (e, 3) ∷ (s, 13) ∷ []) (refused l) (listed (linesOf (room / 147) l bs)) .written ≡ 0
-        → (inOrder ((p, 5) ∷ (e, 3) ∷ (s, 13) ∷ []) (refused l) (listed (linesOf (room / 147) l bs)) .used ≡ length bs)
-        × ((n : ℕ) → 2499 ≤ n → finishBy (inOrder ((p, 5) ∷ (e, 3) ∷ (s, 13) ∷ []) (refused l) (listed (linesOf (room / 147) l bs)) .listing) n .answer ≡ Done)
+    go : (p : Bool) → past (l .reader) ≡ p → (e : Bool) → l .reader .ended ≡ e → (s : Bool) → ltb room lineRoom ≡ s
+        → inOrder ((p, 5) ∷ (e, 3) ∷ (s, 13) ∷ []) (refused l) (listed (linesOf (room / lineRoom) l bs)) .answer ≡ Done
+        → inOrder ((p, 5) ∷ (e, 3) ∷ (s, 13) ∷ []) (refused l) (listed (linesOf (room / lineRoom) l bs)) .written ≡ 0
+        → (inOrder ((p, 5) ∷ (e, 3) ∷ (s, 13) ∷ []) (refused l) (listed (linesOf (room / lineRoom) l bs)) .used ≡ length bs)
+        × ((n : ℕ) → endRoom ≤ n → finishBy (inOrder ((p, 5) ∷ (e, 3) ∷ (s, 13) ∷ []) (refused l) (listed (linesOf (room / lineRoom) l bs)) .listing) n .answer ≡ Done)
     go true ep e ee s es d w = not-done 5 d
     go false ep true ee s es d w = not-done 3 d
     go false ep false ee true es d w = not-done 13 d
     go false ep false ee false es d w =
-        let x = idle-lines l bs len ep ee (room / 147) (omega (arith, ltb-false room 147 es)) w in
-        (x .0, λ n h. finish-answers (linesOf (room / 147) l bs .listing) n (x .1) (x .2) (x .3) h)
+        let x = idle-lines l bs len ep ee (room / lineRoom) (omega (arith, ltb-false room lineRoom es)) w in
+        (x .0, λ n h. finish-answers (linesOf (room / lineRoom) l bs .listing) n (x .1) (x .2) (x .3) h)
 
 pub nothing-left : (l : Listing) (bs : List ℕ) (room : ℕ) → NothingLeft l bs room
 nothing-left l bs room len u e =
@@ -109,7 +109,7 @@ nothing-left l bs room len u e =
     says : (pieceBy l bs room .answer ≡ Done) × (_≡_ {A = ℕ × ℕ} (pieceBy l bs room .used, pieceBy l bs room .written) (u, 0))
     says = says-done (pieceBy l bs room .used, pieceBy l bs room .written) (u, 0) (pieceBy l bs room .answer) e
 
-    q : (pieceBy l bs room .used ≡ length bs) × ((n : ℕ) → 2499 ≤ n → finishBy (pieceBy l bs room .listing) n .answer ≡ Done)
+    q : (pieceBy l bs room .used ≡ length bs) × ((n : ℕ) → endRoom ≤ n → finishBy (pieceBy l bs room .listing) n .answer ≡ Done)
     q = idle-piece l bs room len (says .0) (ap (λ (v : ℕ × ℕ). v .1) (says .1))
 
 -- ---- A CALLER WHO GOES ON
@@ -156,12 +156,12 @@ empty-or : (bs : List ℕ) → (bs ≡ []) ⊎ (1 ≤ length bs)
 empty-or [] = inl refl
 empty-or (b ∷ bs) = inr (omega arith)
 
-module _ (used : List ℕ) (out : List (ℕ × Frame)) (l : Listing) (t : Told used out l) (goes : l .reader .ended ≡ false) (p : Piece) (room : 147 ≤ length (p .1)) (bs : List ℕ) where
+module _ (used : List ℕ) (out : List (ℕ × Frame)) (l : Listing) (t : Told used out l) (goes : l .reader .ended ≡ false) (p : Piece) (room : lineRoom ≤ length (p .1)) (bs : List ℕ) where
   fine : past (l .reader) ≡ false
   fine = never-past _ _ _ (t .kept)
 
   abbrev k : ℕ
-  k = length (p .1) / 147
+  k = length (p .1) / lineRoom
 
   abbrev x : Lines
   x = linesOf k l (take (p .0) bs)

@@ -18,13 +18,13 @@ use Rattle.frame.specs.declared.Layout.{Layout}
 use Rattle.frame.specs.declared.Layout.the-variants as layout
 use Rattle.frame.proofs.FrameLaws.{n-within, length-framed}
 use Rattle.pack.specs.Coding.{entryBits, frameWith}
-use Rattle.record.specs.Stages.{makeOrder, refusedMade, doneMade, HeaderFor, Sent}
-use Rattle.record.specs.Corrections as corrections
-use Rattle.record.specs.Healths as healths
-use Rattle.record.specs.Positions as positions
-use Rattle.record.specs.Nulls as nulls
-use Rattle.record.specs.Texts as texts
-use Rattle.record.proofs.StageLaws.{done-apart, done-frame}
+use Rattle.stage.specs.Stages.{makeOrder, refusedMade, doneMade, HeaderFor, Sent}
+use Rattle.corrections.specs.Corrections as corrections
+use Rattle.healths.specs.Healths as healths
+use Rattle.positions.specs.Positions as positions
+use Rattle.nulls.specs.Nulls as nulls
+use Rattle.texts.specs.Texts as texts
+use Rattle.stage.proofs.StageLaws.{done-apart, done-frame}
 use Rattle.record_laws.proofs.CorrectionTrips.{corrections-sent}
 use Rattle.record_laws.proofs.HealthTrips.{healths-sent}
 use Rattle.record_laws.proofs.PositionTrips.{position-sent}

@@ -31,17 +31,17 @@ use Rattle.frame.specs.declared.Frame.{Frame}
 use Rattle.frame.specs.declared.Layout.the-variants as layout
 use Rattle.frame.proofs.HeaderLaws.{length-first, length-second, header-words, n-words, first-preambled, first-header, second-header, header-inside, n-lt, words-answered}
 use Rattle.pack.specs.Coding.{frameBits}
-use Rattle.record_laws.proofs.SatelliteLaws.{satellite-back, code-back}
+use Rattle.pack.proofs.SatelliteLaws.{satellite-back, code-back}
 use Rattle.record_laws.proofs.ListTrips.{CountRead, count-read}
-use Rattle.record.proofs.TextCode.{length-le, some-words}
-use Rattle.record.specs.Stages.{saysCount}
-use Rattle.record.specs.Corrections as corrections
-use Rattle.record.specs.Corrections.{countCorrections}
-use Rattle.record.specs.Healths as healths
-use Rattle.record.specs.Healths.{countHealths}
-use Rattle.record.specs.Texts.{lengthIn, textOrder, readText}
-use Rattle.record.specs.declared.stage.Count.{Count}
-use Rattle.record.specs.declared.stage.Count.the-variants as count
+use Rattle.texts.proofs.TextCode.{length-le, some-words}
+use Rattle.stage.specs.Stages.{saysCount}
+use Rattle.corrections.specs.Corrections as corrections
+use Rattle.corrections.specs.Corrections.{countCorrections}
+use Rattle.healths.specs.Healths as healths
+use Rattle.healths.specs.Healths.{countHealths}
+use Rattle.texts.specs.Texts.{lengthIn, textOrder, readText}
+use Rattle.stage.specs.declared.Count.{Count}
+use Rattle.stage.specs.declared.Count.the-variants as count
 use Rattle.value.specs.Values.{Reading, upTo, noLimit, signedValue, hundredthsOf, limits, udreValue}
 use Rattle.value.specs.Answer.{prcMm, rrcMmS, udreLimit, saysDistance, saysRate, saysLimit}
 use Rattle.value.proofs.Readings.{lowest-stops, only-lowest-stops, exact-value}

@@ -5,7 +5,7 @@ use mathlib.Core.List.{List, [], _∷_, _++_, append-nil, append-assoc}
 use Prim.Native.Nat.{ℕ, zero, suc, _+_, _%_, _^_, _≤_}
 use native.Mathlib.Omega.{arith}
 use lib.Dec.{ltb}
-use lib.ListN.{length, take, drop, replicate, length-append, length-map}
+use lib.ListN.{length, take, drop, replicate, length-map}
 use lib.Seq.{sets, take-nil, drop-nil}
 use borrow.Author.Tests.{ltb-false}
 use Rattle.answer.specs.Order.{inOrder}
@@ -26,10 +26,10 @@ use Rattle.promises.proofs.Kept.{Kept}
 use Rattle.promises.proofs.Runs.{not-done, ended-by, never-past, kept-call}
 use Rattle.promises.proofs.Serving.{takes-ended, none-waits}
 use Rattle.listing.specs.Text.{frameLine, linesIn, lastLine, textOf}
-use Rattle.listing.specs.Listing.{begun, fedOn, handedOn, Lines, lineThen, linesOf, refused, listed, endedOn, finalLines, finishBy, finishText}
+use Rattle.listing.specs.Listing.{begun, fedOn, handedOn, Lines, lineThen, linesOf, refused, listed, endedOn, endRoom, finalLines, finishBy, finishText}
 use Rattle.promises.specs.Course.{Piece, Course, courseOf, listedText, TextIsWhole}
 use Rattle.listing.specs.declared.Listing.{Listing}
-use Rattle.listing.proofs.Lengths.{last-le, lines-le, stored-text}
+use Rattle.listing.proofs.Lengths.{final-le, stored-text}
 use Rattle.promises.proofs.Telling.{told, told-after, told-reported, Told, told-none, Tells, tells}
 use Rattle.promises.proofs.Pieces.{answered-done, CourseTells, course-tells}
 
@@ -160,23 +160,12 @@ module _ (bs : List ℕ) (out : List (ℕ × Frame)) (l : Listing) (t : Told bs 
         ∙ ap (λ r. r ++ lastLine (x .listing .frames) (x .listing .bytes) (x .listing .passed)) (sym (told-after out (y .more)) ∙ lines)
         ∙ (λ i. linesIn (framesIn (lineBits bs)) ++ lastLine (total i) (told-all .bytes i) (told-all .passed i))
 
-final-le : (l : Listing) → length (finalLines l .text) ≤ 2499
-unfolding finalLines
-final-le l =
-    let e = linesOf 16 (endedOn l (endedBy (l .reader) .reader)) [] in
-    omega (
-      arith,
-      length-append (e .text) (lastLine (e .listing .frames) (e .listing .bytes) (e .listing .passed)),
-      lines-le 16 (endedOn l (endedBy (l .reader) .reader)) [],
-      last-le (e .listing .frames) (e .listing .bytes) (e .listing .passed),
-    )
-
 finish-tells : (bs : List ℕ) (out : List (ℕ × Frame)) (l : Listing) → Told bs out l → (buffer : List ℕ) → finishBy l (length buffer) .answer ≡ Done
     → told out ++ take (finishBy l (length buffer) .written) (finishText l buffer) ≡ textOf bs
 unfolding finishBy finishText
-finish-tells bs out l t buffer done = go (past (l .reader)) (l .reader .ended) refl (l .reader .candidate .waits) refl (ltb (length buffer) 2499) refl done
+finish-tells bs out l t buffer done = go (past (l .reader)) (l .reader .ended) refl (l .reader .candidate .waits) refl (ltb (length buffer) endRoom) refl done
   where
-    go : (p e : Bool) → l .reader .ended ≡ e → (w : Bool) → l .reader .candidate .waits ≡ w → (s : Bool) → ltb (length buffer) 2499 ≡ s
+    go : (p e : Bool) → l .reader .ended ≡ e → (w : Bool) → l .reader .candidate .waits ≡ w → (s : Bool) → ltb (length buffer) endRoom ≡ s
         → inOrder ((p, 5) ∷ (e, 3) ∷ (w, 2) ∷ (s, 13) ∷ []) (refused l) (listed (finalLines l)) .answer ≡ Done
         → told out ++ take (inOrder ((p, 5) ∷ (e, 3) ∷ (w, 2) ∷ (s, 13) ∷ []) (refused l) (listed (finalLines l)) .written)
         (inOrder ((p, 5) ∷ (e, 3) ∷ (w, 2) ∷ (s, 13) ∷ []) (λ n. buffer) (sets buffer 0 (finalLines l .text))) ≡ textOf bs
@@ -185,7 +174,7 @@ finish-tells bs out l t buffer done = go (past (l .reader)) (l .reader .ended) r
     go false false ee true ew s es d = not-done 2 d
     go false false ee false ew true es d = not-done 13 d
     go false false ee false ew false es d =
-        ap (λ r. told out ++ r) (stored-text buffer (finalLines l .text) (omega (arith, final-le l, ltb-false (length buffer) 2499 es))) ∙ final-text bs out l t ee ew
+        ap (λ r. told out ++ r) (stored-text buffer (finalLines l .text) (omega (arith, final-le l, ltb-false (length buffer) endRoom es))) ∙ final-text bs out l t ee ew
 
 -- THE TEXT OF THE WHOLE
 pub text-is-whole : (bs : List ℕ) (ps : List Piece) (out : List ℕ) → TextIsWhole bs ps out

@@ -23,15 +23,15 @@ use Rattle.reader.specs.declared.Reader.{Reader}
 use Rattle.writer.specs.Answer.{openChecks, openedBy, writeChecks, writtenBy, saysOpened, saysWritten}
 use Rattle.writer.specs.declared.Carried.{Carried}
 use Rattle.journal.specs.Journal.{keepOrder, keptBy, recallOrder, recalledBy, saysKept, saysRecalled}
-use Rattle.record.specs.Stages.{otherLayout, countIn, misfit, wrongSize, askedOf, readOrder, makeOrder, saysAsked, saysCount, saysMade}
-use Rattle.record.specs.Corrections as corrections
-use Rattle.record.specs.Healths as healths
-use Rattle.record.specs.Positions as positions
-use Rattle.record.specs.Nulls as nulls
-use Rattle.record.specs.Texts as texts
-use Rattle.record.specs.declared.correction.Correction.{Correction}
-use Rattle.record.specs.declared.health.SatelliteHealth.{SatelliteHealth}
-use Rattle.record.specs.declared.position.Position.{Position}
+use Rattle.stage.specs.Stages.{otherLayout, countIn, misfit, wrongSize, askedOf, entriesIn, sizeOf, readOrder, makeOrder, saysAsked, saysCounted, saysSize, saysCount, saysMade}
+use Rattle.corrections.specs.Corrections as corrections
+use Rattle.healths.specs.Healths as healths
+use Rattle.positions.specs.Positions as positions
+use Rattle.nulls.specs.Nulls as nulls
+use Rattle.texts.specs.Texts as texts
+use Rattle.corrections.specs.declared.Correction.{Correction}
+use Rattle.healths.specs.declared.SatelliteHealth.{SatelliteHealth}
+use Rattle.positions.specs.declared.Position.{Position}
 use Rattle.value.specs.Answer.{prcMm, rrcMmS, udreLimit, cn0DbHz, minutesOf, zTenths, saysDistance, saysRate, saysLimit, saysStrength, saysTime, saysSinceHour}
 use Rattle.listing.specs.Listing.{pieceOrder, pieceBy, endOrder, finishBy}
 use Rattle.listing.specs.declared.Listing.{Listing}
@@ -97,7 +97,7 @@ pub record CarriesItsNumber : Type 0 where
   -- writing to the journal: 5, 13; reading from it: 14; 15 if the N byte is missing; 16 for N over 31; 15 for the rest; 16
   pub keep : (f : Frame) (buffer : List ℕ) → Ordered (5 ∷ 13 ∷ []) (keepOrder f buffer) (saysKept (keptBy f buffer))
   pub recall : (bs : List ℕ) → Ordered (14 ∷ 15 ∷ 16 ∷ 15 ∷ 16 ∷ 16 ∷ []) (recallOrder bs) (saysRecalled (recalledBy bs))
-  -- the parts: a byte, a word, a header, a frame, a layout asked for
+  -- the parts: a byte, a word, a header, a frame, a layout asked for, an N
   pub six-of : (b : ℕ) → Ordered (1 ∷ []) ((not (isData b), 1) ∷ []) (saysSix (sixOf b))
   pub word-of : (c d : ℕ) → Ordered (5 ∷ 5 ∷ []) ((leb 4 c, 5) ∷ (leb (2 ^ 24) d, 5) ∷ []) (saysSent (wordOf c d))
   pub health-of : (s : State) → Ordered (5 ∷ []) ((stateOutside s, 5) ∷ []) (saysHealth (healthOf s))
@@ -106,6 +106,8 @@ pub record CarriesItsNumber : Type 0 where
   pub frame-widths : (f : Frame) → Ordered (5 ∷ []) ((outside f, 5) ∷ []) (saysWidths (frameWidths f))
   pub clock-of : (z : ℕ) → Ordered (7 ∷ []) ((late z, 7) ∷ []) (saysClock (clockOf z))
   pub asked-of : (l : Layout) (kind : ℕ) → Ordered (6 ∷ []) ((otherLayout l kind, 6) ∷ []) (saysAsked (askedOf l kind))
+  pub entries-in : (w n : ℕ) → Ordered (8 ∷ []) ((misfit w n, 8) ∷ []) (saysCounted (entriesIn w n))
+  pub size-of : (wanted n : ℕ) → Ordered (8 ∷ []) ((wrongSize wanted n, 8) ∷ []) (saysSize (sizeOf wanted n))
   -- the values of a record's numbers
   pub prc-mm : (scale : ℕ) (prc : ℤ) → Ordered (10 ∷ []) ((ltb 1 scale, 10) ∷ []) (saysDistance (prcMm scale prc))
   pub rrc-mm-s : (scale : ℕ) (rrc : ℤ) → Ordered (10 ∷ []) ((ltb 1 scale, 10) ∷ []) (saysRate (rrcMmS scale rrc))

@@ -13,15 +13,15 @@ use Rattle.reader.specs.declared.Reader.{Reader}
 use Rattle.writer.specs.Answer.{openedBy, openedTo, writtenBy, writtenTo, saysOpened, saysWritten}
 use Rattle.writer.specs.declared.Carried.{Carried}
 use Rattle.journal.specs.Journal.{keptBy, heldBy, recalledBy, saysKept, saysRecalled}
-use Rattle.record.specs.Stages.{saysCount, saysMade}
-use Rattle.record.specs.Corrections.{makeCorrections}
-use Rattle.record.specs.Healths.{makeHealths}
-use Rattle.record.specs.Positions.{makePosition}
-use Rattle.record.specs.Nulls.{makeNull}
-use Rattle.record.specs.Texts.{readText, bufferAfter, makeText}
-use Rattle.record.specs.declared.correction.Correction.{Correction}
-use Rattle.record.specs.declared.health.SatelliteHealth.{SatelliteHealth}
-use Rattle.record.specs.declared.position.Position.{Position}
+use Rattle.stage.specs.Stages.{saysCount, saysMade}
+use Rattle.corrections.specs.Corrections.{makeCorrections}
+use Rattle.healths.specs.Healths.{makeHealths}
+use Rattle.positions.specs.Positions.{makePosition}
+use Rattle.nulls.specs.Nulls.{makeNull}
+use Rattle.texts.specs.Texts.{readText, bufferAfter, makeText}
+use Rattle.corrections.specs.declared.Correction.{Correction}
+use Rattle.healths.specs.declared.SatelliteHealth.{SatelliteHealth}
+use Rattle.positions.specs.declared.Position.{Position}
 use Rattle.listing.specs.Listing.{pieceBy, pieceText, finishBy, finishText}
 use Rattle.listing.specs.declared.Listing.{Listing}
 

@@ -36,18 +36,22 @@ use Rattle.pack.proofs.signed32.Reads as signed32
 use Rattle.pack.proofs.code8.Reads as code8
 use Rattle.pack.proofs.code16.Reads as code16
 use Rattle.pack.proofs.code32.Reads as code32
-use Rattle.record.proofs.stage.asked_of.Reads as asked-of
-use Rattle.record.proofs.correction.count_corrections.Reads as count-corrections
-use Rattle.record.proofs.correction.correction_at.Reads as correction-at
-use Rattle.record.proofs.correction.make_corrections.Reads as make-corrections
-use Rattle.record.proofs.health.count_healths.Reads as count-healths
-use Rattle.record.proofs.health.health_at.Reads as health-at
-use Rattle.record.proofs.health.make_healths.Reads as make-healths
-use Rattle.record.proofs.position.read_position.Reads as read-position
-use Rattle.record.proofs.position.make_position.Reads as make-position
-use Rattle.record.proofs.null.read_null.Reads as read-null
-use Rattle.record.proofs.null.make_null.Reads as make-null
-use Rattle.record.proofs.text.make_text.Reads as make-text
+use Rattle.pack.proofs.satellite_of.Reads as satellite-of
+use Rattle.stage.proofs.asked_of.Reads as asked-of
+use Rattle.stage.proofs.entries_in.Reads as entries-in
+use Rattle.stage.proofs.size_of.Reads as size-of
+use Rattle.stage.proofs.refused.Reads as stage-refused
+use Rattle.corrections.proofs.count_corrections.Reads as count-corrections
+use Rattle.corrections.proofs.correction_at.Reads as correction-at
+use Rattle.corrections.proofs.make_corrections.Reads as make-corrections
+use Rattle.healths.proofs.count_healths.Reads as count-healths
+use Rattle.healths.proofs.health_at.Reads as health-at
+use Rattle.healths.proofs.make_healths.Reads as make-healths
+use Rattle.positions.proofs.read_position.Reads as read-position
+use Rattle.positions.proofs.make_position.Reads as make-position
+use Rattle.nulls.proofs.read_null.Reads as read-null
+use Rattle.nulls.proofs.make_null.Reads as make-null
+use Rattle.texts.proofs.make_text.Reads as make-text
 use Rattle.value.proofs.prc_mm.Reads as prc-mm
 use Rattle.value.proofs.rrc_mm_s.Reads as rrc-mm-s
 use Rattle.value.proofs.udre_limit.Reads as udre-limit
@@ -58,7 +62,7 @@ use Rattle.listing.proofs.new.Reads as listing-new
 use Rattle.writer.proofs.open.Reads as writer-open
 use Rattle.writer.proofs.write.Reads as write
 use Rattle.journal.proofs.keep.Reads as keep
-use Rattle.record.proofs.text.read_text.Reads as read-text
+use Rattle.texts.proofs.read_text.Reads as read-text
 use Rattle.listing.proofs.list_piece.Reads as list-piece
 use Rattle.listing.proofs.finish.Reads as finish
 
@@ -113,8 +117,12 @@ pub record DefinedAnswer : Type 0 where
   pub code8 : OneAnswer code8.Learnt
   pub code16 : OneAnswer code16.Learnt
   pub code32 : OneAnswer code32.Learnt
-  -- record
+  pub satellite-of : OneAnswer satellite-of.Learnt
+  -- what records share, and the records
   pub asked-of : OneAnswer asked-of.Learnt
+  pub entries-in : OneAnswer entries-in.Learnt
+  pub size-of : OneAnswer size-of.Learnt
+  pub stage-refused : OneAnswer stage-refused.Learnt
   pub count-corrections : OneAnswer count-corrections.Learnt
   pub correction-at : OneAnswer correction-at.Learnt
   pub make-corrections : OneAnswer make-corrections.Learnt
@@ -181,7 +189,11 @@ pub record TrustsNoCaller : Type 0 where
   pub code8 : AsksNothing code8.Asked
   pub code16 : AsksNothing code16.Asked
   pub code32 : AsksNothing code32.Asked
+  pub satellite-of : AsksNothing satellite-of.Asked
   pub asked-of : AsksNothing asked-of.Asked
+  pub entries-in : AsksNothing entries-in.Asked
+  pub size-of : AsksNothing size-of.Asked
+  pub stage-refused : AsksNothing stage-refused.Asked
   pub count-corrections : AsksNothing count-corrections.Asked
   pub correction-at : AsksNothing correction-at.Asked
   pub make-corrections : AsksNothing make-corrections.Asked

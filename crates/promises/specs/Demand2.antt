@@ -11,23 +11,23 @@ use Rattle.frame.specs.declared.Header.{Header}
 use Rattle.frame.specs.declared.Frame.{Frame}
 use Rattle.stream.specs.Standing.{size, Stands, frameAt}
 use Rattle.pack.specs.Coding.{Each}
-use Rattle.record.specs.declared.stage.Made.{Made}
-use Rattle.record.specs.declared.stage.Count.the-variants.{Of}
-use Rattle.record.specs.declared.stage.Making.the-variants as making
-use Rattle.record.specs.declared.correction.Correction.{Correction}
-use Rattle.record.specs.declared.correction.CorrectionRead.the-variants as correction
-use Rattle.record.specs.declared.health.SatelliteHealth.{SatelliteHealth}
-use Rattle.record.specs.declared.health.HealthRead.the-variants as health
-use Rattle.record.specs.declared.position.Position.{Position}
-use Rattle.record.specs.declared.position.PositionRead.the-variants as position
-use Rattle.record.specs.declared.null.NullRead.the-variants as null
-use Rattle.record.specs.Stages.{saysCount, saysMade}
-use Rattle.record.specs.Corrections.{countCorrections, correctionAt, makeCorrections, StandardFill, Typed, saysCorrectionRead, CorrectionsMade}
-use Rattle.record.specs.Healths.{countHealths, healthAt, makeHealths, saysHealthRead, HealthsMade}
-use Rattle.record.specs.Positions.{readPosition, makePosition, PositionMade}
-use Rattle.record.specs.Positions as positions
-use Rattle.record.specs.Nulls.{readNull, makeNull, NullMade}
-use Rattle.record.specs.Texts.{readText, bufferAfter, makeText, TextMade}
+use Rattle.stage.specs.declared.Made.{Made}
+use Rattle.stage.specs.declared.Count.the-variants.{Of}
+use Rattle.stage.specs.declared.Making.the-variants as making
+use Rattle.corrections.specs.declared.Correction.{Correction}
+use Rattle.corrections.specs.declared.CorrectionRead.the-variants as correction
+use Rattle.healths.specs.declared.SatelliteHealth.{SatelliteHealth}
+use Rattle.healths.specs.declared.HealthRead.the-variants as health
+use Rattle.positions.specs.declared.Position.{Position}
+use Rattle.positions.specs.declared.PositionRead.the-variants as position
+use Rattle.nulls.specs.declared.NullRead.the-variants as null
+use Rattle.stage.specs.Stages.{saysCount, saysMade}
+use Rattle.corrections.specs.Corrections.{countCorrections, correctionAt, makeCorrections, StandardFill, Typed, saysCorrectionRead, CorrectionsMade}
+use Rattle.healths.specs.Healths.{countHealths, healthAt, makeHealths, saysHealthRead, HealthsMade}
+use Rattle.positions.specs.Positions.{readPosition, makePosition, PositionMade}
+use Rattle.positions.specs.Positions as positions
+use Rattle.nulls.specs.Nulls.{readNull, makeNull, NullMade}
+use Rattle.texts.specs.Texts.{readText, bufferAfter, makeText, TextMade}
 use Rattle.journal.specs.Bytes.{AreBytes}
 use Rattle.journal.specs.Journal.{keptBy, heldBy, recalledBy, saysKept, saysRecalled}
 use Rattle.writer.specs.Sending.{carriedOn}

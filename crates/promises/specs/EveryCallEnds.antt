@@ -33,18 +33,22 @@ use Rattle.pack.proofs.signed32.Statement as signed32
 use Rattle.pack.proofs.code8.Statement as code8
 use Rattle.pack.proofs.code16.Statement as code16
 use Rattle.pack.proofs.code32.Statement as code32
-use Rattle.record.proofs.stage.asked_of.Statement as asked-of
-use Rattle.record.proofs.correction.count_corrections.Statement as count-corrections
-use Rattle.record.proofs.correction.correction_at.Statement as correction-at
-use Rattle.record.proofs.correction.make_corrections.Statement as make-corrections
-use Rattle.record.proofs.health.count_healths.Statement as count-healths
-use Rattle.record.proofs.health.health_at.Statement as health-at
-use Rattle.record.proofs.health.make_healths.Statement as make-healths
-use Rattle.record.proofs.position.read_position.Statement as read-position
-use Rattle.record.proofs.position.make_position.Statement as make-position
-use Rattle.record.proofs.null.read_null.Statement as read-null
-use Rattle.record.proofs.null.make_null.Statement as make-null
-use Rattle.record.proofs.text.make_text.Statement as make-text
+use Rattle.pack.proofs.satellite_of.Statement as satellite-of
+use Rattle.stage.proofs.asked_of.Statement as asked-of
+use Rattle.stage.proofs.entries_in.Statement as entries-in
+use Rattle.stage.proofs.size_of.Statement as size-of
+use Rattle.stage.proofs.refused.Statement as stage-refused
+use Rattle.corrections.proofs.count_corrections.Statement as count-corrections
+use Rattle.corrections.proofs.correction_at.Statement as correction-at
+use Rattle.corrections.proofs.make_corrections.Statement as make-corrections
+use Rattle.healths.proofs.count_healths.Statement as count-healths
+use Rattle.healths.proofs.health_at.Statement as health-at
+use Rattle.healths.proofs.make_healths.Statement as make-healths
+use Rattle.positions.proofs.read_position.Statement as read-position
+use Rattle.positions.proofs.make_position.Statement as make-position
+use Rattle.nulls.proofs.read_null.Statement as read-null
+use Rattle.nulls.proofs.make_null.Statement as make-null
+use Rattle.texts.proofs.make_text.Statement as make-text
 use Rattle.value.proofs.prc_mm.Statement as prc-mm
 use Rattle.value.proofs.rrc_mm_s.Statement as rrc-mm-s
 use Rattle.value.proofs.udre_limit.Statement as udre-limit
@@ -55,7 +59,7 @@ use Rattle.listing.proofs.new.Statement as listing-new
 use Rattle.writer.proofs.open.Statement as writer-open
 use Rattle.writer.proofs.write.Statement as write
 use Rattle.journal.proofs.keep.Statement as keep
-use Rattle.record.proofs.text.read_text.Statement as read-text
+use Rattle.texts.proofs.read_text.Statement as read-text
 use Rattle.listing.proofs.list_piece.Statement as list-piece
 use Rattle.listing.proofs.finish.Statement as finish
 
@@ -93,7 +97,11 @@ pub record EveryCallEnds : Type 2 where
   pub code8 : {M : Type 1} → code8.statement M
   pub code16 : {M : Type 1} → code16.statement M
   pub code32 : {M : Type 1} → code32.statement M
+  pub satellite-of : {M : Type 1} → satellite-of.statement M
   pub asked-of : {M : Type 1} → asked-of.statement M
+  pub entries-in : {M : Type 1} → entries-in.statement M
+  pub size-of : {M : Type 1} → size-of.statement M
+  pub stage-refused : {M : Type 1} → stage-refused.statement M
   pub count-corrections : {M : Type 1} → count-corrections.statement M
   pub correction-at : {M : Type 1} → correction-at.statement M
   pub make-corrections : {M : Type 1} → make-corrections.statement M

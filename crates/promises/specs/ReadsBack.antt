@@ -10,17 +10,17 @@ use Rattle.frame.specs.declared.Header.{Header}
 use Rattle.frame.specs.declared.Frame.{Frame}
 use Rattle.stream.specs.Standing.{frameAt}
 use Rattle.pack.specs.Coding.{Each}
-use Rattle.record.specs.declared.stage.Made.{Made}
-use Rattle.record.specs.declared.correction.Correction.{Correction}
-use Rattle.record.specs.declared.health.SatelliteHealth.{SatelliteHealth}
-use Rattle.record.specs.declared.position.Position.{Position}
-use Rattle.record.specs.Stages.{Sent}
-use Rattle.record.specs.Corrections.{makeCorrections, Typed, CorrectionsMade, SendableCorrections}
-use Rattle.record.specs.Healths.{makeHealths, HealthsMade, SendableHealths}
-use Rattle.record.specs.Positions.{makePosition, PositionMade, SendablePosition}
-use Rattle.record.specs.Positions as positions
-use Rattle.record.specs.Nulls.{makeNull, NullMade, SendableNull}
-use Rattle.record.specs.Texts.{makeText, TextMade, SendableText}
+use Rattle.stage.specs.declared.Made.{Made}
+use Rattle.corrections.specs.declared.Correction.{Correction}
+use Rattle.healths.specs.declared.SatelliteHealth.{SatelliteHealth}
+use Rattle.positions.specs.declared.Position.{Position}
+use Rattle.stage.specs.Stages.{Sent}
+use Rattle.corrections.specs.Corrections.{makeCorrections, Typed, CorrectionsMade, SendableCorrections}
+use Rattle.healths.specs.Healths.{makeHealths, HealthsMade, SendableHealths}
+use Rattle.positions.specs.Positions.{makePosition, PositionMade, SendablePosition}
+use Rattle.positions.specs.Positions as positions
+use Rattle.nulls.specs.Nulls.{makeNull, NullMade, SendableNull}
+use Rattle.texts.specs.Texts.{makeText, TextMade, SendableText}
 use Rattle.writer.specs.Answer.{writtenBy, writtenTo, saysWritten}
 use Rattle.writer.specs.OneFrame.{lineAfter, Wrote}
 use Rattle.writer.specs.declared.Carried.{Carried}

@@ -23,14 +23,14 @@ use Rattle.frame.specs.declared.State.{State}
 use Rattle.frame.specs.declared.Header.{Header}
 use Rattle.frame.specs.declared.Frame.{Frame}
 use Rattle.stream.specs.Standing.{size, Stands, frameAt}
-use Rattle.record.specs.Stages.{saysCount}
-use Rattle.record.specs.Corrections.{countCorrections}
-use Rattle.record.specs.Healths.{countHealths}
-use Rattle.record.specs.Positions.{readPosition, saysPositionRead}
-use Rattle.record.specs.Nulls.{readNull, saysNullRead}
-use Rattle.record.specs.Texts.{readText}
-use Rattle.record.specs.declared.position.Position.{Position}
-use Rattle.record.specs.Satellites.{satelliteOf, satelliteCode}
+use Rattle.stage.specs.Stages.{saysCount}
+use Rattle.corrections.specs.Corrections.{countCorrections}
+use Rattle.healths.specs.Healths.{countHealths}
+use Rattle.positions.specs.Positions.{readPosition, saysPositionRead}
+use Rattle.nulls.specs.Nulls.{readNull, saysNullRead}
+use Rattle.texts.specs.Texts.{readText}
+use Rattle.positions.specs.declared.Position.{Position}
+use Rattle.pack.specs.Satellites.{satelliteOf, satelliteCode}
 use Rattle.value.specs.Values.{Reading, exactly, stop, upTo, stepOf, hundredthsOf, limits}
 use Rattle.value.specs.Answer.{prcMm, rrcMmS, udreLimit, saysDistance, saysRate, saysLimit}
 use Rattle.writer.specs.Answer.{writtenBy, saysWritten}

@@ -14,8 +14,8 @@ use Rattle.frame.specs.declared.Frame.{Frame}
 use Rattle.frame.specs.declared.State.the-variants.{Factor}
 use Rattle.reader.specs.Reading.{started}
 use Rattle.listing.specs.Listing.{endRoom}
-use Rattle.record.specs.Stages.{saysCount}
-use Rattle.record.specs.Corrections.{countCorrections}
+use Rattle.stage.specs.Stages.{saysCount}
+use Rattle.corrections.specs.Corrections.{countCorrections}
 use Rattle.value.specs.Values.{exactly, stop, upTo, dbHz, notTracked}
 use Rattle.value.specs.Answer.{prcMm, rrcMmS, udreLimit, cn0DbHz, saysDistance, saysRate, saysLimit, saysStrength}
 use Rattle.promises.specs.Calls.{feeds, ends, replied, replyTo, bitsGiven, handedOut, takesAll, served}

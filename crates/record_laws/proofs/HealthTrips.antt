@@ -14,13 +14,13 @@ use Rattle.frame.specs.declared.Layout.the-variants as layout
 use Rattle.frame.proofs.WidthLaws.{both-false}
 use Rattle.pack.specs.Coding.{frameWith}
 use Rattle.pack.proofs.Round.{Faithful}
-use Rattle.record.specs.declared.stage.Count.the-variants as count
-use Rattle.record.specs.declared.health.SatelliteHealth.{SatelliteHealth}
-use Rattle.record.specs.declared.health.HealthRead.the-variants as read
-use Rattle.record.specs.Satellites.{satelliteOf}
-use Rattle.record.specs.Stages.{countIn, doneMade, Sent}
-use Rattle.record.specs.Healths.{widths, meant, codes, coding, fill, flagsOut, codesOut, outOfRange, countHealths, healthAt, makeHealths, HealthsMade, InRange, SendableHealths, HoldsHealths, ReadsHealths}
-use Rattle.record_laws.proofs.SatelliteLaws.{satellite-back, code-back, satellite-some, satellite-few}
+use Rattle.pack.specs.Satellites.{satelliteOf}
+use Rattle.pack.proofs.SatelliteLaws.{satellite-back, code-back, satellite-some, satellite-few}
+use Rattle.stage.specs.declared.Count.the-variants as count
+use Rattle.stage.specs.Stages.{countIn, doneMade, Sent}
+use Rattle.healths.specs.declared.SatelliteHealth.{SatelliteHealth}
+use Rattle.healths.specs.declared.HealthRead.the-variants as read
+use Rattle.healths.specs.Healths.{widths, meant, codes, coding, fill, flagsOut, codesOut, outOfRange, countHealths, healthAt, makeHealths, HealthsMade, InRange, SendableHealths, HoldsHealths, ReadsHealths}
 use Rattle.record_laws.proofs.ListTrips.{list-held, made-then-read, read-then-made, each-any, no-fill}
 use Rattle.record_laws.proofs.SentLaws.{list-made, list-told, list-read}
 

@@ -1,4 +1,3 @@
-pub mod SatelliteLaws
 pub mod SentLaws
 pub mod ListTrips
 pub mod CorrectionTrips

@@ -25,12 +25,12 @@ use Rattle.frame.proofs.FrameLaws.{header-within, n-within, length-data as leng
 use Rattle.frame.proofs.WidthLaws.{both-false}
 use Rattle.pack.specs.Coding.{Coding, frameBits, entryIn, frameWith, Each}
 use Rattle.pack.proofs.Round.{Faithful, made-n, made-inside, made-fill, made-entry, entries-read, made-again, none-read}
-use Rattle.record.specs.declared.stage.Count.the-variants as count
-use Rattle.record.specs.Stages.{otherLayout, countIn, misfit, readOrder, makeOrder, refusedMade, doneMade}
-use Rattle.record.specs.Lists.{listCount, listEntry, listMade, MadeReads, Sendable, Holding, ListRead}
-use Rattle.record.proofs.ListCode.{fitting}
+use Rattle.stage.specs.declared.Count.the-variants as count
+use Rattle.stage.specs.Stages.{otherLayout, countIn, misfit, readOrder, makeOrder, refusedMade, doneMade}
+use Rattle.stage.specs.Lists.{listCount, listEntry, listMade, MadeReads, Sendable, Holding, ListRead}
+use Rattle.stage.proofs.ListCode.{fitting}
+use Rattle.stage.proofs.StageLaws.{done-frame, of-apart}
 use Rattle.record_laws.proofs.SentLaws.{told-layout, frame-for, some-few, none-taken, list-made, list-told, list-read}
-use Rattle.record.proofs.StageLaws.{done-frame, of-apart}
 
 -- what every value has, each entry has
 pub each-any : {A : Type 0} (P : A → Type 0) → ((e : A) → P e) → (es : List A) → Each P es

@@ -27,11 +27,11 @@ use Rattle.frame.proofs.FrameLaws.{header-within, length-data as length-data-wo
 use Rattle.frame.proofs.WidthLaws.{both-false}
 use Rattle.pack.specs.Coding.{frameBits, frameWith}
 use Rattle.pack.proofs.Round.{Faithful, made-n, made-inside, made-entry, made-again}
-use Rattle.record.specs.declared.position.Position.{Position}
-use Rattle.record.specs.declared.position.PositionRead.the-variants as read
-use Rattle.record.specs.Stages.{wrongSize, readOrder, makeOrder, refusedMade, doneMade, Sent}
-use Rattle.record.specs.Positions.{widths, meant, codes, coding, fill, tooLow, outOfRange, positionIn, readPosition, makePosition, Typed, PositionMade, lowest, InRange, SendablePosition, HoldsPosition}
-use Rattle.record.proofs.StageLaws.{done-apart, done-frame}
+use Rattle.stage.specs.Stages.{wrongSize, readOrder, makeOrder, refusedMade, doneMade, Sent}
+use Rattle.stage.proofs.StageLaws.{done-apart, done-frame}
+use Rattle.positions.specs.declared.Position.{Position}
+use Rattle.positions.specs.declared.PositionRead.the-variants as read
+use Rattle.positions.specs.Positions.{widths, meant, codes, coding, fill, tooLow, outOfRange, positionIn, readPosition, makePosition, Typed, PositionMade, lowest, InRange, SendablePosition, HoldsPosition}
 use Rattle.record_laws.proofs.SentLaws.{make-passes, make-passed, read-passes, read-passed, frame-for, right-size, told-size}
 
 -- ---- the three laws on codes

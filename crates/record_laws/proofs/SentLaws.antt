@@ -19,12 +19,13 @@ use Rattle.frame.specs.declared.Frame.{Frame}
 use Rattle.frame.specs.declared.Layout.{Layout}
 use Rattle.frame.specs.declared.Layout.the-variants as layout
 use Rattle.frame.proofs.WidthLaws.{both-false}
+use Rattle.frame.proofs.FrameLaws.{n-within}
 use Rattle.pack.specs.Coding.{Coding, frameBits, entryIn, frameWith}
-use Rattle.record.specs.declared.stage.Count.the-variants as count
-use Rattle.record.specs.Stages.{layoutNumber, otherLayout, countIn, misfit, wrongSize, readOrder, makeOrder, refusedMade, doneMade, HeaderFor, FrameFor}
-use Rattle.record.specs.Lists.{listMade, listCount, listEntry, Sendable, Holding, ListRead}
-use Rattle.record.proofs.ListCode.{count-right}
-use Rattle.record.proofs.StageLaws.{done-apart}
+use Rattle.stage.specs.declared.Count.the-variants as count
+use Rattle.stage.specs.Stages.{layoutNumber, otherLayout, countIn, misfit, wrongSize, readOrder, makeOrder, refusedMade, doneMade, HeaderFor, FrameFor}
+use Rattle.stage.specs.Lists.{listMade, listCount, listEntry, Sendable, Holding, ListRead}
+use Rattle.stage.proofs.ListCode.{count-right}
+use Rattle.stage.proofs.StageLaws.{done-apart}
 
 -- ---- the layout asked for
 
@@ -183,4 +184,4 @@ module _ {A B : Type 0} (asked : Layout) (k : Coding A) (most : ℕ) (refuse : �
       is = ap (countIn w) (s .n) ∙ held c (s .some) (s .few)
 
       fits : misfit w (f .n) ≡ false
-      fits = count-right w (f .n) (λ z. omega (arith, is, z, s .some)) (ap (λ m. (m * w + 23) / 24) is ∙ sym (s .n))
+      fits = count-right w (f .n) (n-within f (s .frame .inside)) (λ z. omega (arith, is, z, s .some)) (ap (λ m. (m * w + 23) / 24) is ∙ sym (s .n))

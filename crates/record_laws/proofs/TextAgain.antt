@@ -21,11 +21,11 @@ use Rattle.frame.specs.declared.Layout.the-variants as layout
 use Rattle.frame.proofs.FrameLaws.{header-within, length-data as length-data-words}
 use Rattle.pack.specs.Coding.{frameBits, entryIn, rowsOf, frameWith}
 use Rattle.pack.proofs.Round.{made-again}
-use Rattle.record.specs.declared.stage.Count.the-variants as count
-use Rattle.record.specs.Stages.{makeOrder, refusedMade, doneMade}
-use Rattle.record.specs.Texts.{widths, coding, fill, characters, lengthIn, textIn, forbidden, textOrder, readText, bufferAfter, makeText}
-use Rattle.record.proofs.StageLaws.{of-apart}
-use Rattle.record.proofs.TextCode.{length-characters, length-le, some-words}
+use Rattle.stage.specs.declared.Count.the-variants as count
+use Rattle.stage.specs.Stages.{makeOrder, refusedMade, doneMade}
+use Rattle.stage.proofs.StageLaws.{of-apart}
+use Rattle.texts.specs.Texts.{widths, coding, fill, characters, lengthIn, textIn, forbidden, textOrder, readText, bufferAfter, makeText}
+use Rattle.texts.proofs.TextCode.{length-characters, length-le, some-words}
 use Rattle.record_laws.proofs.TextHeld.{closing}
 use Rattle.record_laws.proofs.TextLaws.{Good, faithful, zeros-fill}
 

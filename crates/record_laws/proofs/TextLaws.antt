@@ -14,7 +14,7 @@ use Rattle.frame.specs.Widths.{anyOf}
 use Rattle.frame.proofs.WidthLaws.{both-false}
 use Rattle.pack.specs.Coding.{rowsOf, Each}
 use Rattle.pack.proofs.Round.{Faithful}
-use Rattle.record.specs.Texts.{widths, meant, codes, coding, fill, forbidden}
+use Rattle.texts.specs.Texts.{widths, meant, codes, coding, fill, forbidden}
 
 -- ---- the three laws on codes
 

@@ -18,9 +18,9 @@ use Rattle.frame.specs.declared.Frame.{Frame}
 use Rattle.frame.specs.declared.Layout.the-variants as layout
 use Rattle.pack.specs.Coding.{frameBits, entryIn, rowsOf, entryBits, frameWith}
 use Rattle.pack.proofs.Round.{fill-left, length-entries, made-bits, made-n, made-inside, made-fill, made-entry}
-use Rattle.record.specs.Stages.{makeOrder, refusedMade, doneMade, Sent}
-use Rattle.record.specs.Texts.{widths, meant, codes, coding, fill, characters, forbidden, makeText, TextMade, SendableText, HoldsText}
-use Rattle.record.proofs.StageLaws.{done-apart, done-frame}
+use Rattle.stage.specs.Stages.{makeOrder, refusedMade, doneMade, Sent}
+use Rattle.stage.proofs.StageLaws.{done-apart, done-frame}
+use Rattle.texts.specs.Texts.{widths, meant, codes, coding, fill, characters, forbidden, makeText, TextMade, SendableText, HoldsText}
 use Rattle.record_laws.proofs.SentLaws.{make-passes, make-passed, frame-for, some-few, told-some-few}
 use Rattle.record_laws.proofs.TextHeld.{allowed-fine, allowed-told, characters-are, characters-zeros, text-read}
 use Rattle.record_laws.proofs.TextLaws.{Good, faithful, all-good, zeros-fit, zeros-at, zeros-fill}

@@ -17,15 +17,15 @@ use Rattle.frame.specs.declared.Header.{Header}
 use Rattle.frame.specs.declared.Frame.{Frame}
 use Rattle.frame.specs.declared.State.the-variants.{Factor}
 use Rattle.pack.specs.Coding.{frameBits, entryBits, frameWith}
-use Rattle.record.specs.declared.correction.Correction.{Correction}
-use Rattle.record.specs.declared.health.SatelliteHealth.{SatelliteHealth}
-use Rattle.record.specs.declared.position.Position.{Position}
-use Rattle.record.specs.Stages.{layoutNumber, otherLayout, misfit, refusedMade, doneMade, saysCount, saysMade}
-use Rattle.record.specs.Corrections.{numbersOut, countCorrections, correctionAt, makeCorrections, saysCorrectionRead}
-use Rattle.record.specs.Positions.{tooLow, outOfRange as positionOut, readPosition, makePosition, saysPositionRead}
-use Rattle.record.specs.Healths.{flagsOut, codesOut, outOfRange as healthOut, countHealths, healthAt, makeHealths, saysHealthRead}
-use Rattle.record.specs.Nulls.{readNull, makeNull, saysNullRead}
-use Rattle.record.specs.Texts.{characters, textLength, readText, bufferAfter, makeText}
+use Rattle.stage.specs.Stages.{layoutNumber, otherLayout, misfit, refusedMade, doneMade, saysCount, saysMade}
+use Rattle.corrections.specs.declared.Correction.{Correction}
+use Rattle.corrections.specs.Corrections.{numbersOut, countCorrections, correctionAt, makeCorrections, saysCorrectionRead}
+use Rattle.healths.specs.declared.SatelliteHealth.{SatelliteHealth}
+use Rattle.healths.specs.Healths.{flagsOut, codesOut, outOfRange as healthOut, countHealths, healthAt, makeHealths, saysHealthRead}
+use Rattle.positions.specs.declared.Position.{Position}
+use Rattle.positions.specs.Positions.{tooLow, outOfRange as positionOut, readPosition, makePosition, saysPositionRead}
+use Rattle.nulls.specs.Nulls.{readNull, makeNull, saysNullRead}
+use Rattle.texts.specs.Texts.{characters, textLength, readText, bufferAfter, makeText}
 
 -- the header of a type: station 5, Z count 100, sequence 3, health 0
 abbrev pub header : ℕ → Header

@@ -6,10 +6,10 @@ use crate::print::print_signed;
 use crate::print::print_vector;
 use crate::vector::frame_of;
 use crate::vector::header_with;
+use corrections::Correction;
+use corrections::CorrectionRead;
 use frame::Frame;
-use record::correction::Correction;
-use record::correction::CorrectionRead;
-use record::stage::Count;
+use stage::Count;
 use value::Distance;
 use value::Rate;
 
@@ -58,7 +58,7 @@ fn print_entry(e: Correction) {
 
 // Writes entry number `index` of a frame.
 fn print_at(frame: Frame, index: usize) {
-    match record::correction::correction_at(frame, index) {
+    match corrections::correction_at(frame, index) {
         CorrectionRead::Entry(e) => print_entry(e),
         CorrectionRead::Refused(number) => print_refusal(number),
     }
@@ -66,7 +66,7 @@ fn print_at(frame: Frame, index: usize) {
 
 // Writes every entry of a frame.
 fn print_entries(frame: Frame) {
-    match record::correction::count_corrections(frame) {
+    match corrections::count_corrections(frame) {
         Count::Of(count) => {
             let mut i = 0;
             while i < count {
@@ -81,7 +81,7 @@ fn print_entries(frame: Frame) {
 // Makes the first `count` entries into a frame of that type, and reads the frame of the words.
 fn show(name: &[u8], kind: u8, entries: [Correction; 18], count: usize, read: Frame) {
     let header = header_with(kind);
-    let made = record::correction::make_corrections(header, entries, count);
+    let made = corrections::make_corrections(header, entries, count);
     print_vector(name, made, read);
     print_entries(read);
 }

@@ -6,9 +6,9 @@ use crate::print::print_vector;
 use crate::vector::frame_of;
 use crate::vector::header_with;
 use frame::Frame;
-use record::health::HealthRead;
-use record::health::SatelliteHealth;
-use record::stage::Count;
+use healths::HealthRead;
+use healths::SatelliteHealth;
+use stage::Count;
 
 // Writes one satellite's fields.
 fn print_entry(e: SatelliteHealth) {
@@ -27,7 +27,7 @@ fn print_entry(e: SatelliteHealth) {
 
 // Writes entry number `index` of a frame.
 fn print_at(frame: Frame, index: usize) {
-    match record::health::health_at(frame, index) {
+    match healths::health_at(frame, index) {
         HealthRead::Entry(e) => print_entry(e),
         HealthRead::Refused(number) => print_refusal(number),
     }
@@ -35,7 +35,7 @@ fn print_at(frame: Frame, index: usize) {
 
 // Writes every entry of a frame.
 fn print_entries(frame: Frame) {
-    match record::health::count_healths(frame) {
+    match healths::count_healths(frame) {
         Count::Of(count) => {
             let mut i = 0;
             while i < count {
@@ -50,7 +50,7 @@ fn print_entries(frame: Frame) {
 // Makes the first `count` entries into a frame, and reads the frame of the words.
 fn show(name: &[u8], entries: [SatelliteHealth; 31], count: usize, read: Frame) {
     let header = header_with(5);
-    let made = record::health::make_healths(header, entries, count);
+    let made = healths::make_healths(header, entries, count);
     print_vector(name, made, read);
     print_entries(read);
 }

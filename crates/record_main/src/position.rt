@@ -6,12 +6,12 @@ use crate::print::print_vector;
 use crate::vector::frame_of;
 use crate::vector::header_with;
 use frame::Frame;
-use record::position::Position;
-use record::position::PositionRead;
+use positions::Position;
+use positions::PositionRead;
 
 // Writes the three numbers of a frame.
 fn print_position(frame: Frame) {
-    match record::position::read_position(frame) {
+    match positions::read_position(frame) {
         PositionRead::At(position) => {
             print_signed(b"X ", position.x);
             print_signed(b", Y ", position.y);
@@ -25,7 +25,7 @@ fn print_position(frame: Frame) {
 // Makes a position into a frame, and reads the frame of the words.
 fn show(name: &[u8], position: Position, read: Frame) {
     let header = header_with(3);
-    let made = record::position::make_position(header, position);
+    let made = positions::make_position(header, position);
     print_vector(name, made, read);
     print_position(read);
 }

@@ -2,8 +2,8 @@
 use frame::Frame;
 use frame::HeaderWords;
 use libc::STDOUT_FILENO;
-use record::stage::Made;
-use record::stage::Making;
+use stage::Made;
+use stage::Making;
 
 // Writes text as it is.
 pub(crate) fn print(text: &[u8]) {

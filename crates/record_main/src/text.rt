@@ -7,7 +7,7 @@ use crate::print::print_vector;
 use crate::vector::frame_of;
 use crate::vector::header_with;
 use frame::Frame;
-use record::stage::Count;
+use stage::Count;
 
 // Writes the codes of the first `count` characters.
 fn print_codes(buffer: [u8; 90], count: usize) {
@@ -34,7 +34,7 @@ fn print_code(i: usize, code: u8) {
 // Writes the text of a frame.
 fn print_text(frame: Frame) {
     let mut buffer = [0u8; 90];
-    match record::text::read_text(frame, &mut buffer) {
+    match texts::read_text(frame, &mut buffer) {
         Count::Of(count) => print_codes(buffer, count),
         Count::Refused(number) => print_refusal(number),
     }
@@ -43,7 +43,7 @@ fn print_text(frame: Frame) {
 // Makes text into a frame, and reads the frame of the words.
 fn show(name: &[u8], text: &[u8], read: Frame) {
     let header = header_with(16);
-    let made = record::text::make_text(header, text);
+    let made = texts::make_text(header, text);
     print_vector(name, made, read);
     print_text(read);
 }
@@ -57,7 +57,7 @@ fn longest() {
         frame_of(0x664005, 0x0323F0, &data),
     );
     let header = header_with(16);
-    let made = record::text::make_text(
+    let made = texts::make_text(
         header,
         b"ABCABCABCABCABCABCABCABCABCABCABCABCABCABCABCABCABCABCABCABCABCABCABCABCABCABCABCABCABCABCD",
     );

@@ -1,15 +1,15 @@
 // A frame's record, read and made into a frame again.
+use corrections::Correction;
+use corrections::CorrectionRead;
 use frame::Frame;
 use frame::Layout;
-use record::correction::Correction;
-use record::correction::CorrectionRead;
-use record::health::HealthRead;
-use record::health::SatelliteHealth;
-use record::null::NullRead;
-use record::position::PositionRead;
-use record::stage::Count;
-use record::stage::Made;
-use record::stage::Making;
+use healths::HealthRead;
+use healths::SatelliteHealth;
+use nulls::NullRead;
+use positions::PositionRead;
+use stage::Count;
+use stage::Made;
+use stage::Making;
 
 // The record cannot be read.
 fn refused(number: u8) -> Made {
@@ -21,7 +21,7 @@ fn refused(number: u8) -> Made {
 
 // Entry number `index` of a frame, or zeros.
 fn correction_or_zeros(frame: Frame, index: usize) -> Correction {
-    match record::correction::correction_at(frame, index) {
+    match corrections::correction_at(frame, index) {
         CorrectionRead::Entry(entry) => entry,
         CorrectionRead::Refused(_) => Correction {
             scale: 0,
@@ -42,12 +42,12 @@ fn corrections(frame: Frame, count: usize) -> Made {
         entries[i] = correction_or_zeros(frame, i);
         i += 1;
     }
-    record::correction::make_corrections(frame.header, entries, count)
+    corrections::make_corrections(frame.header, entries, count)
 }
 
 // Entry number `index` of a frame, or zeros.
 fn health_or_zeros(frame: Frame, index: usize) -> SatelliteHealth {
-    match record::health::health_at(frame, index) {
+    match healths::health_at(frame, index) {
         HealthRead::Entry(entry) => entry,
         HealthRead::Refused(_) => SatelliteHealth {
             reserved: 0,
@@ -72,19 +72,19 @@ fn healths(frame: Frame, count: usize) -> Made {
         entries[i] = health_or_zeros(frame, i);
         i += 1;
     }
-    record::health::make_healths(frame.header, entries, count)
+    healths::make_healths(frame.header, entries, count)
 }
 
 // The text, made into a frame.
 fn text(frame: Frame) -> Made {
     let mut buffer = [0u8; 90];
-    match record::text::read_text(frame, &mut buffer) {
+    match texts::read_text(frame, &mut buffer) {
         Count::Of(count) => {
             // never so: no frame has more characters
             if 90 < count {
                 return refused(13);
             }
-            record::text::make_text(frame.header, &buffer[..count])
+            texts::make_text(frame.header, &buffer[..count])
         }
         Count::Refused(number) => refused(number),
     }
@@ -92,16 +92,16 @@ fn text(frame: Frame) -> Made {
 
 // The position, made into a frame.
 fn position(frame: Frame) -> Made {
-    match record::position::read_position(frame) {
-        PositionRead::At(position) => record::position::make_position(frame.header, position),
+    match positions::read_position(frame) {
+        PositionRead::At(position) => positions::make_position(frame.header, position),
         PositionRead::Refused(number) => refused(number),
     }
 }
 
 // The null record, made into a frame.
 fn null(frame: Frame) -> Made {
-    match record::null::read_null(frame) {
-        NullRead::Null => record::null::make_null(frame.header),
+    match nulls::read_null(frame) {
+        NullRead::Null => nulls::make_null(frame.header),
         NullRead::Refused(number) => refused(number),
     }
 }
@@ -109,11 +109,11 @@ fn null(frame: Frame) -> Made {
 // The frame made from a frame's record, or the refusal of reading it; a plain frame has no record.
 pub(crate) fn made_again(frame: Frame) -> Made {
     match frame::layout_of(frame.header.kind) {
-        Layout::Correction => match record::correction::count_corrections(frame) {
+        Layout::Correction => match corrections::count_corrections(frame) {
             Count::Of(count) => corrections(frame, count),
             Count::Refused(number) => refused(number),
         },
-        Layout::Health => match record::health::count_healths(frame) {
+        Layout::Health => match healths::count_healths(frame) {
             Count::Of(count) => healths(frame, count),
             Count::Refused(number) => refused(number),
         },

@@ -4,7 +4,7 @@ use frame::Frame;
 use journal::Found;
 use libc::STDOUT_FILENO;
 use reader::Reader;
-use record::stage::Making;
+use stage::Making;
 use writer::Carried;
 use writer::Written;
 

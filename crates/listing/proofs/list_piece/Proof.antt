@@ -4,7 +4,7 @@ use native.Mathlib.Omega.{arith}
 use lib.ListN.{length}
 use denote.Ref.{now}
 use borrow.Author.Needs.{needs}
-use Rattle.listing.specs.Listing.{linesOf}
+use Rattle.listing.specs.Listing.{linesOf, lineRoom}
 use Rattle.listing.proofs.StoreLaws.{length-stored}
 use Rattle.listing.proofs.CallLaws.{nothing, piece-refused, piece-short, piece-done}
 use Rattle.listing.proofs.list_piece.Statement.{statement}
@@ -31,7 +31,7 @@ returns-3 c =
     let a = r .before .before .before .args in
     let e = piece-done (a .listing) (now (a .input)) (now (a .output)) _ (r .readiness .ensures) (p .before .before .before .enum-told .given .1) (p .before .before .if1 .left)
     _ (p .put-lines .ensures .0) _ (p .put-lines .ensures .1 .1) in
-    (e .0, (e .1, (p .put-lines .ensures .1 .0 .0, omega (arith, p .put-lines .ensures .1 .0 .1, length-stored (now (a .output)) 0 (linesOf (length (now (a .output)) / 147) (a .listing) (now (a .input)) .text) _ (p .put-lines .ensures .1 .1)))))
+    (e .0, (e .1, (p .put-lines .ensures .1 .0 .0, omega (arith, p .put-lines .ensures .1 .0 .1, length-stored (now (a .output)) 0 (linesOf (length (now (a .output)) / lineRoom) (a .listing) (now (a .input)) .text) _ (p .put-lines .ensures .1 .1)))))
 
 pub list-piece-spec : {M : Type 1} → statement M
 list-piece-spec =

@@ -7,7 +7,7 @@ use lib.ListN.{length, drop, length-drop}
 use denote.Ref.{now}
 use borrow.Author.Needs.{needs}
 use Rattle.listing.specs.Text.{frameLine}
-use Rattle.listing.specs.Listing.{linesOf}
+use Rattle.listing.specs.Listing.{linesOf, lineRoom}
 use Rattle.listing.proofs.StoreLaws.{length-stored}
 use Rattle.listing.proofs.LinesLaws.{used-le, fed-tail, taken-inside, line-on, line-none, Far, far-start, far-on, far-end, far-drop, lines-none}
 use Rattle.listing.proofs.put_lines.Statement.{statement}
@@ -17,7 +17,7 @@ use Rattle.listing.proofs.put_lines.Tie as tie
 abbrev Inv-loop : tie.InvT-loop
 Inv-loop input lines output₀ state₀ used₀ written₀ left₀ output state used written left =
     Far (linesOf lines state₀ input) output₀ output used written (linesOf left state (drop used input))
-    × (used ≤ length input) × (written + 147 * left ≤ 147 * lines) × (length output ≡ length output₀)
+    × (used ≤ length input) × (written + lineRoom * left ≤ lineRoom * lines) × (length output ≡ length output₀)
 
 abbrev μ-loop : tie.MeasureT-loop
 μ-loop input lines output₀ state₀ used₀ written₀ left₀ output state used written left = left

@@ -2,7 +2,7 @@
 use mathlib.Core.Path.{sym, ap, _∙_}
 use denote.Ref.{now}
 use borrow.Author.Needs.{needs}
-use Rattle.record.specs.Corrections.{saysCorrectionRead}
+use Rattle.corrections.specs.Corrections.{saysCorrectionRead}
 use Rattle.entry_bytes.specs.Rows.{saysPut}
 use Rattle.entry_bytes.specs.Corrections.{row}
 use Rattle.cabi.specs.Answer.{numberOf}

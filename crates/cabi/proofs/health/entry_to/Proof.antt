@@ -2,7 +2,7 @@
 use mathlib.Core.Path.{sym, ap, _∙_}
 use denote.Ref.{now}
 use borrow.Author.Needs.{needs}
-use Rattle.record.specs.Healths.{saysHealthRead}
+use Rattle.healths.specs.Healths.{saysHealthRead}
 use Rattle.entry_bytes.specs.Rows.{saysPut}
 use Rattle.entry_bytes.specs.Healths.{row}
 use Rattle.cabi.specs.Answer.{numberOf}

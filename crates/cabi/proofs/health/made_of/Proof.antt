@@ -1,7 +1,7 @@
 -- `made_of` meets its contract: what is made of the entries that the bytes say. Assumes nothing.
 use mathlib.Core.Path.{ap₂, _∙_}
 use borrow.Author.Needs.{needs}
-use Rattle.record.specs.Healths.{makeHealths}
+use Rattle.healths.specs.Healths.{makeHealths}
 use Rattle.cabi.proofs.health.made_of.Statement.{statement}
 use Rattle.cabi.proofs.health.made_of.Tie as tie
 

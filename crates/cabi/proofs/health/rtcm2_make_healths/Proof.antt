@@ -2,7 +2,7 @@
 use mathlib.Core.Path.{sym, ap, _∙_}
 use denote.Ref.{now}
 use borrow.Author.Needs.{needs}
-use Rattle.record.specs.Stages.{saysMade}
+use Rattle.stage.specs.Stages.{saysMade}
 use Rattle.cabi.specs.Header.{saysHeaded}
 use Rattle.cabi.specs.Healths.{madeSaid}
 use Rattle.cabi.proofs.KeepLaws.{keeps-refused, keeps-as}

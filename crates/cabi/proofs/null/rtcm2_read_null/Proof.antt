@@ -2,8 +2,8 @@
 use mathlib.Core.Path.{_≡_, sym, ap, _∙_}
 use denote.Ref.{now}
 use borrow.Author.Needs.{needs}
-use Rattle.record.specs.Nulls.{saysNullRead}
-use Rattle.record.specs.declared.null.NullRead.{NullRead}
+use Rattle.nulls.specs.Nulls.{saysNullRead}
+use Rattle.nulls.specs.declared.NullRead.{NullRead}
 use Rattle.cabi.specs.Answer.{numberOf}
 use Rattle.cabi.specs.Frames.{frameIn}
 use Rattle.cabi.specs.Nulls.{nullSaid}

@@ -4,8 +4,8 @@ use denote.Ref.{now}
 use mir.Syntax.{w32}
 use mir.ValLaws.{toZ-ofZ}
 use borrow.Author.Needs.{needs}
-use Rattle.record.specs.Stages.{saysMade}
-use Rattle.record.specs.Positions.{makePosition}
+use Rattle.stage.specs.Stages.{saysMade}
+use Rattle.positions.specs.Positions.{makePosition}
 use Rattle.cabi.proofs.HeadLaws.{head-told, head-refused}
 use Rattle.cabi.proofs.KeepLaws.{keeps-refused, keeps-as}
 use Rattle.cabi.proofs.PositionLaws.{same-position}

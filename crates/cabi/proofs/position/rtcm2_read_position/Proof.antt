@@ -4,8 +4,8 @@ use denote.Ref.{now}
 use mir.Syntax.{w32}
 use mir.Val.{toZ, ofZ}
 use borrow.Author.Needs.{needs}
-use Rattle.record.specs.Positions.{saysPositionRead}
-use Rattle.record.specs.declared.position.PositionRead.{PositionRead}
+use Rattle.positions.specs.Positions.{saysPositionRead}
+use Rattle.positions.specs.declared.PositionRead.{PositionRead}
 use Rattle.cabi.specs.Frames.{frameIn}
 use Rattle.cabi.specs.Positions.{positionSaid, xSaid, ySaid, zSaid}
 use Rattle.cabi.proofs.AnswerLaws.{number-as, left-as}

@@ -2,8 +2,8 @@
 use mathlib.Core.Path.{sym, ap, _∙_}
 use denote.Ref.{now}
 use borrow.Author.Needs.{needs}
-use Rattle.record.specs.Stages.{saysMade}
-use Rattle.record.specs.Texts.{makeText}
+use Rattle.stage.specs.Stages.{saysMade}
+use Rattle.texts.specs.Texts.{makeText}
 use Rattle.cabi.proofs.HeadLaws.{head-told, head-refused}
 use Rattle.cabi.proofs.KeepLaws.{keeps-refused, keeps-as}
 use Rattle.cabi.proofs.text.rtcm2_make_text.Statement.{statement}

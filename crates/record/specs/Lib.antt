@@ -1,8 +1,0 @@
-pub mod Stages
-pub mod Lists
-pub mod Satellites
-pub mod Corrections
-pub mod Healths
-pub mod Positions
-pub mod Nulls
-pub mod Texts

@@ -1,0 +1,84 @@
+-- Facts that the proofs of the list layouts' functions cite: the entries that N words hold, and the last checks of the orders.
+-- Assumes nothing.
+use mathlib.Core.Path.{_≡_, refl, ap, _∙_}
+use mathlib.Core.Bool.{Bool, true, false, not, _||_}
+use mathlib.Core.List.{[], _∷_}
+use Prim.Native.Nat.{ℕ, zero, suc, _+_, _*_, _/_, _≤_, _<_}
+use native.Mathlib.Nat.{div-zero, div-mul-le-self}
+use native.Mathlib.Omega.{arith}
+use lib.Dec.{ltb, leb, eqb}
+use borrow.Author.Tests.{lt-ltb, le-ltb, le-leb, lt-leb, eq-eqb, ne-eqb, eqb-true, eqb-false, not-false}
+use Rattle.answer.specs.Order.{inOrder}
+use Rattle.frame.proofs.WidthLaws.{both-false}
+use Rattle.stage.specs.Stages.{countIn, misfit}
+
+-- ---- the entries that N words hold
+
+pub held-le : (w n : ℕ) → countIn w n * w ≤ 24 * n
+held-le w n = div-mul-le-self (24 * n) w
+
+pub count-over : (w n : ℕ) → 31 < n → misfit w n ≡ true
+unfolding misfit
+count-over w n h = rw (lt-ltb 31 n h)
+
+pub count-none : (w n : ℕ) → n ≤ 31 → countIn w n ≡ 0 → misfit w n ≡ true
+unfolding misfit
+count-none w n h e = rw (le-ltb 31 n h, eq-eqb (countIn w n) 0 e)
+
+-- bits of no width are no entry
+pub count-nothing : (w n : ℕ) → n ≤ 31 → w ≡ 0 → misfit w n ≡ true
+count-nothing w n h e = count-none w n h (ap (λ v. countIn v n) e ∙ div-zero (24 * n))
+
+pub count-wrong : (w n : ℕ) → n ≤ 31 → (countIn w n ≡ 0 → ⊥) → ((countIn w n * w + 23) / 24 ≡ n → ⊥) → misfit w n ≡ true
+unfolding misfit
+count-wrong w n h a b = rw (le-ltb 31 n h, ne-eqb (countIn w n) 0 a, ne-eqb ((countIn w n * w + 23) / 24) n b)
+
+pub count-right : (w n : ℕ) → n ≤ 31 → (countIn w n ≡ 0 → ⊥) → (countIn w n * w + 23) / 24 ≡ n → misfit w n ≡ false
+unfolding misfit
+count-right w n h a b = rw (le-ltb 31 n h, ne-eqb (countIn w n) 0 a, eq-eqb ((countIn w n * w + 23) / 24) n b)
+
+-- what it means that N fits
+pub record Fitting (w n : ℕ) : Type 0 where
+  pub some : 0 < countIn w n
+  pub up : (countIn w n * w + 23) / 24 ≡ n
+
+pub fitting : (w n : ℕ) → misfit w n ≡ false → Fitting w n
+unfolding misfit
+fitting w n e =
+    let s = both-false (ltb 31 n || eqb (countIn w n) 0) (not (eqb ((countIn w n * w + 23) / 24) n)) e in
+    record {
+      some = positive (countIn w n) (eqb-false (countIn w n) 0 (both-false (ltb 31 n) (eqb (countIn w n) 0) (s .0) .1));
+      up = eqb-true _ n
+          (not-false (eqb ((countIn w n * w + 23) / 24) n) (s .1));
+    }
+  where
+    positive : (m : ℕ) → (m ≡ 0 → ⊥) → 0 < m
+    positive zero h = absurd (h refl)
+    positive (suc m) h = omega arith
+
+-- ---- the last checks
+
+module _ {A : Type 0} (refuse : ℕ → A) (answer : A) where
+  -- 9
+  pub read9 : (n i : ℕ) → n ≤ i → refuse 9 ≡ inOrder ((leb n i, 9) ∷ []) refuse answer
+  read9 n i h = rw (le-leb n i h)
+
+  pub read-entry : (n i : ℕ) → i < n → answer ≡ inOrder ((leb n i, 9) ∷ []) refuse answer
+  read-entry n i h = rw (lt-leb n i h)
+
+  -- 12, 10
+  module _ (c most : ℕ) (wrong : Bool) where
+    abbrev checks : A
+    checks = inOrder ((eqb c 0 || ltb most c, 12) ∷ (wrong, 10) ∷ []) refuse answer
+
+    pub make-none : c ≡ 0 → refuse 12 ≡ checks
+    make-none e = rw (eq-eqb c 0 e)
+
+    pub make-many : (c ≡ 0 → ⊥) → most < c → refuse 12 ≡ checks
+    make-many e h = rw (ne-eqb c 0 e, lt-ltb most c h)
+
+    pub make-wrong : (c ≡ 0 → ⊥) → c ≤ most → wrong ≡ true → refuse 10 ≡ checks
+    make-wrong e h w = rw (ne-eqb c 0 e, le-ltb most c h, w)
+
+    pub make-done : (c ≡ 0 → ⊥) → c ≤ most → wrong ≡ false → answer ≡ checks
+    make-done e h w = rw (ne-eqb c 0 e, le-ltb most c h, w)

@@ -1,0 +1,124 @@
+-- The orders of refusals that reading and making share, what passes their first checks, and what each answer says in the table's terms.
+-- Assumes nothing.
+use mathlib.Core.Path.{_≡_}
+use mathlib.Core.Bool.{Bool, false, not, _||_, cond}
+use mathlib.Core.List.{List, _∷_}
+use Prim.Native.Nat.{ℕ, _+_, _*_, _/_, _<_}
+use lib.Dec.{ltb, eqb}
+use Rattle.answer.specs.Order.{Says, refuses, answers, Check}
+use Rattle.frame.specs.Frames.{blank}
+use Rattle.frame.specs.Layout.{layoutOf}
+use Rattle.frame.specs.Widths.{headerOutside, outside, late}
+use Rattle.frame.specs.declared.Header.{Header}
+use Rattle.frame.specs.declared.Frame.{Frame}
+use Rattle.frame.specs.declared.Layout.{Layout}
+use Rattle.frame.specs.declared.Layout.the-variants as layout
+use Rattle.stage.specs.declared.Asked.{Asked}
+use Rattle.stage.specs.declared.Asked.the-variants.{Same, Other}
+use Rattle.stage.specs.declared.Counted.{Counted}
+use Rattle.stage.specs.declared.Counted.the-variants.{Entries, Misfit}
+use Rattle.stage.specs.declared.Size.{Size}
+use Rattle.stage.specs.declared.Size.the-variants.{Right, Wrong}
+use Rattle.stage.specs.declared.Count.{Count}
+use Rattle.stage.specs.declared.Count.the-variants as count
+use Rattle.stage.specs.declared.Making.{Making}
+use Rattle.stage.specs.declared.Making.the-variants as making
+use Rattle.stage.specs.declared.Made.{Made}
+
+-- ---- refusal 6: ONE DECISION over type numbers, held against the layout asked for
+
+unfoldable pub layoutNumber : Layout → ℕ
+layoutNumber layout.Correction = 0
+layoutNumber layout.Position = 1
+layoutNumber layout.Health = 2
+layoutNumber layout.Null = 3
+layoutNumber layout.Text = 4
+layoutNumber layout.Plain = 5
+
+unfoldable pub otherLayout : Layout → ℕ → Bool
+otherLayout asked kind = not (eqb (layoutNumber (layoutOf kind)) (layoutNumber asked))
+
+abbrev pub askedOf : Layout → ℕ → Asked
+askedOf asked kind = cond (otherLayout asked kind) Other Same
+
+-- ---- refusal 8 of a list: N words, at most 31, hold c entries of w bits exactly when these bits take N words of 24, rounded up
+
+abbrev pub countIn : ℕ → ℕ → ℕ
+countIn w n = 24 * n / w
+
+unfoldable pub misfit : ℕ → ℕ → Bool
+misfit w n = ltb 31 n || eqb (countIn w n) 0 || not (eqb ((countIn w n * w + 23) / 24) n)
+
+abbrev pub entriesIn : ℕ → ℕ → Counted
+entriesIn w n = cond (misfit w n) Misfit (Entries (countIn w n))
+
+-- ---- refusal 8 of a type with one N
+
+abbrev pub wrongSize : ℕ → ℕ → Bool
+wrongSize wanted n = not (eqb n wanted)
+
+abbrev pub sizeOf : ℕ → ℕ → Size
+sizeOf wanted n = cond (wrongSize wanted n) Wrong Right
+
+-- ---- the orders
+
+-- READING: 5, 6, 7, 8, then the layout's own
+abbrev pub readOrder : Layout → Frame → Bool → List Check → List Check
+readOrder asked f wrongN more = (outside f, 5) ∷ (otherLayout asked (f .header .kind), 6) ∷ (late (f .header .z), 7) ∷ (wrongN, 8) ∷ more
+
+-- MAKING: 5, 6, 7, then the layout's own
+abbrev pub makeOrder : Layout → Header → List Check → List Check
+makeOrder asked h more = (headerOutside h, 5) ∷ (otherLayout asked (h .kind), 6) ∷ (late (h .z), 7) ∷ more
+
+-- a refusal to make, with the blank frame
+unfoldable pub refusedMade : ℕ → Made
+refusedMade n = record { answer = making.Refused n; frame = blank }
+
+unfoldable pub doneMade : Frame → Made
+doneMade f = record { answer = making.Done; frame = f }
+
+-- ---- what passes the first checks
+
+-- a header under which a record of a layout can be sent: within its widths, of a type of that layout, Z count below 6000
+pub record HeaderFor (asked : Layout) (h : Header) : Type 0 where
+  pub inside : headerOutside h ≡ false
+  pub kind : layoutOf (h .kind) ≡ asked
+  pub hour : h .z < 6000
+
+-- a frame of which such a record can be read: the same, and its words within their widths
+pub record FrameFor (asked : Layout) (f : Frame) : Type 0 where
+  pub inside : outside f ≡ false
+  pub kind : layoutOf (f .header .kind) ≡ asked
+  pub hour : f .header .z < 6000
+
+-- the answer to making is a frame, not a refusal, and this is said of it
+pub record Sent (m : Made) (Reads : Frame → Type 0) : Type 0 where
+  pub frame : Frame
+  pub done : m ≡ doneMade frame
+  pub reads : Reads frame
+
+-- ---- in the table's terms
+
+abbrev pub saysAsked : Asked → Says (Unit {0})
+saysAsked Same = answers tt
+saysAsked Other = refuses 6
+
+abbrev pub saysCounted : Counted → Says ℕ
+saysCounted (Entries c) = answers c
+saysCounted Misfit = refuses 8
+
+abbrev pub saysSize : Size → Says (Unit {0})
+saysSize Right = answers tt
+saysSize Wrong = refuses 8
+
+abbrev pub saysCount : Count → Says ℕ
+saysCount (count.Of c) = answers c
+saysCount (count.Refused n) = refuses n
+
+-- a made frame, or the number alone
+abbrev pub saysMade : Made → Says Frame
+saysMade m = by (m .answer)
+  where
+    by : Making → Says Frame
+    by making.Done = answers (m .frame)
+    by (making.Refused n) = refuses n

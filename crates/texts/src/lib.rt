@@ -1,0 +1,185 @@
+// Type 16: text, 1 to 90 characters of eight bits, three a word.
+ghost use mathlib.Core.Path.{_≡_};
+ghost use mathlib.Core.List.{_++_};
+ghost use Prim.Native.Nat.{_*_, _≤_, _<_};
+ghost use lib.ListN.{length, drop};
+ghost use Rattle.bits.specs.Rows.{dataBits};
+ghost use Rattle.frame.specs.Widths.{anyOf};
+ghost use Rattle.pack.specs.Packing.{emptyPacker, pushedRows, filledUp};
+ghost use Rattle.pack.specs.Coding.{entryIn, rowsOf};
+ghost use Rattle.texts.specs.Texts.{widths, coding, fill, characters, textLength, wordsSize, forbidden, readText, bufferAfter, makeText};
+use frame::Clock;
+use frame::Frame;
+use frame::Header;
+use frame::Layout;
+use frame::Widths;
+use pack::Packer;
+use stage::Asked;
+use stage::Count;
+use stage::Made;
+use stage::Making;
+use stage::Size;
+
+// A character is not 1 to 127.
+fn is_forbidden(character: u32) -> bool
+    ensures { λ r. ⌜ r ≡ forbidden character ⌝ }
+{
+    if character < 1 {
+        return true;
+    }
+    character > 127
+}
+
+// Whether a text has N words: 1 to 30.
+fn words_size(n: usize) -> Size
+    ensures { λ r. ⌜ r ≡ wordsSize n ⌝ }
+{
+    if n == 0 {
+        return Size::Wrong;
+    }
+    if n > 30 {
+        return Size::Wrong;
+    }
+    Size::Right
+}
+
+// Character number `i` of the data.
+fn character(words: [u32; 31], i: usize) -> u32
+    requires { ⌜ i < 93 ⌝ }
+    ensures { λ r. ⌜ (r ≡ entryIn coding i (dataBits words)) × (r < 256) ⌝ }
+{
+    pack::field(words, i * 8, 8)
+}
+
+// How many of the characters of N words are text; zeros that close the last word are not.
+fn text_length(words: [u32; 31], n: usize) -> usize
+    requires { ⌜ (0 < n) × (n ≤ 31) ⌝ }
+    ensures { λ r. ⌜ r ≡ textLength (3 * n) (dataBits words) ⌝ }
+{
+    let all = 3 * n;
+    if character(words, all - 1) != 0 {
+        return all;
+    }
+    if character(words, all - 2) != 0 {
+        return all - 1;
+    }
+    all - 2
+}
+
+// One of the first `count` characters is forbidden.
+fn any_forbidden(words: [u32; 31], count: usize) -> bool
+    requires { ⌜ count ≤ 93 ⌝ }
+    ensures { λ r. ⌜ r ≡ anyOf forbidden (characters count (dataBits words)) ⌝ }
+{
+    let mut i = 0;
+    while i < count {
+        if is_forbidden(character(words, i)) {
+            return true;
+        }
+        i += 1;
+    }
+    false
+}
+
+// The first `count` characters go into the buffer; what stands behind them stays.
+fn write_text(words: [u32; 31], count: usize, buffer: &mut [u8])
+    requires { ⌜ (count ≤ 93) × (count ≤ length (now buffer)) ⌝ }
+    ensures { λ _. ⌜ now (buffer .exit) ≡ characters count (dataBits words) ++ drop count (now (buffer .entry)) ⌝ }
+{
+    let mut i = 0;
+    while i < count {
+        buffer[i] = character(words, i) as u8;
+        i += 1;
+    }
+}
+
+// A frame's text into the buffer, and how many characters: 5, 6, 7, 8, 11, 13.
+pub fn read_text(frame: Frame, buffer: &mut [u8]) -> Count
+    ensures { λ r. ⌜ (r ≡ readText frame (now (buffer .entry))) × (now (buffer .exit) ≡ bufferAfter frame (now (buffer .entry))) ⌝ }
+{
+    let Widths::Within = frame::frame_widths(frame) else {
+        return Count::Refused(5);
+    };
+    let header = frame.header;
+    let Asked::Same = stage::asked_of(Layout::Text, header.kind) else {
+        return Count::Refused(6);
+    };
+    let Clock::Hour = frame::clock_of(header.z) else {
+        return Count::Refused(7);
+    };
+    let Size::Right = words_size(frame.n) else {
+        return Count::Refused(8);
+    };
+    let words = frame.words;
+    let count = text_length(words, frame.n);
+    if any_forbidden(words, count) {
+        return Count::Refused(11);
+    }
+    if buffer.len() < count {
+        return Count::Refused(13);
+    }
+    write_text(words, count, buffer);
+    Count::Of(count)
+}
+
+// A character of the text is forbidden.
+fn text_forbidden(text: &[u8]) -> bool
+    ensures { λ r. ⌜ r ≡ anyOf forbidden (now (text .entry)) ⌝ }
+{
+    let mut i = 0;
+    while i < text.len() {
+        if is_forbidden(text[i] as u32) {
+            return true;
+        }
+        i += 1;
+    }
+    false
+}
+
+// The characters, then zeros to the end of the word.
+fn pack_text(text: &[u8]) -> Packer
+    ensures { λ r. ⌜ r ≡ filledUp fill (pushedRows widths (rowsOf coding (now (text .entry))) emptyPacker) ⌝ }
+{
+    let mut packer = pack::empty();
+    let mut i = 0;
+    while i < text.len() {
+        packer = pack::push(packer, 8, text[i] as u32);
+        i += 1;
+    }
+    pack::fill_up(packer, 0)
+}
+
+// A frame of text: 5, 6, 7, 12, 11.
+pub fn make_text(header: Header, text: &[u8]) -> Made
+    ensures { λ r. ⌜ r ≡ makeText header (now (text .entry)) ⌝ }
+{
+    let Widths::Within = frame::header_widths(header) else {
+        return stage::refused(5);
+    };
+    let Asked::Same = stage::asked_of(Layout::Text, header.kind) else {
+        return stage::refused(6);
+    };
+    let Clock::Hour = frame::clock_of(header.z) else {
+        return stage::refused(7);
+    };
+    let count = text.len();
+    if count == 0 {
+        return stage::refused(12);
+    }
+    if count > 90 {
+        return stage::refused(12);
+    }
+    if text_forbidden(text) {
+        return stage::refused(11);
+    }
+    let packer = pack_text(text);
+    let words = packer.words;
+    Made {
+        answer: Making::Done,
+        frame: Frame {
+            header,
+            n: packer.at,
+            words,
+        },
+    }
+}
