@@ -1,6 +1,9 @@
 //! Refusals and their orders: every call is given all its faults at once, then
 //! they are mended one by one, first number first. Buffers stay.
 
+mod common;
+
+use common::{frame, header};
 use rtcm2_model::frame::{check_frame, check_header, Frame, Header, State};
 use rtcm2_model::journal;
 use rtcm2_model::reader::Reader;
@@ -14,24 +17,6 @@ use rtcm2_model::writer::{self, CarriedBits};
 
 fn number<T>(answer: Answer<T>) -> u8 {
     answer.map_or_else(|refusal| refusal.number(), |_| 0)
-}
-
-fn header(type_number: u16) -> Header {
-    Header {
-        type_number,
-        station: 5,
-        z_count: 100,
-        sequence: 3,
-        state: State::Factor(100),
-    }
-}
-
-fn frame(type_number: u16, n: u8) -> Frame {
-    Frame {
-        header: header(type_number),
-        n,
-        words: [0; 31],
-    }
 }
 
 /// Faults 5, 6 and 7 in a header; the type is plain.

@@ -1,7 +1,10 @@
 //! The worked records V1a to V16c: made into frames, written to the bytes of the
 //! stream of that name, found again in them and read back.
 
-use rtcm2_model::frame::{Frame, Header, State};
+mod common;
+
+use common::header;
+use rtcm2_model::frame::Frame;
 use rtcm2_model::line::{bits_of_bytes, turned_over};
 use rtcm2_model::record::correction::{self, Correction};
 use rtcm2_model::record::health::{self, Health};
@@ -11,16 +14,6 @@ use rtcm2_model::scan::scan;
 use rtcm2_model::streams::{self, Stream};
 use rtcm2_model::writer;
 use std::sync::OnceLock;
-
-fn header(type_number: u16) -> Header {
-    Header {
-        type_number,
-        station: 5,
-        z_count: 100,
-        sequence: 3,
-        state: State::Factor(100),
-    }
-}
 
 fn numbers(text: &str) -> Vec<u32> {
     let parts = text.split_whitespace();

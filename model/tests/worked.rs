@@ -1,7 +1,10 @@
 //! The rules' worked values: the whole stream with its listing and journal
 //! record, and every line of 'Worked values'.
 
-use rtcm2_model::frame::{Frame, Header, State};
+mod common;
+
+use common::{frame, header};
+use rtcm2_model::frame::State;
 use rtcm2_model::line::{bits_of_byte, turned_over};
 use rtcm2_model::reader::{Fed, Reader};
 use rtcm2_model::record::values::{cn0_dbhz, prc_mm, rrc_mm_s, udre_limit_mm, Value};
@@ -17,24 +20,6 @@ const TURNED: [u8; 11] = [
     0x7F, 0x59, 0x5E, 0x7E, 0x57, 0x40, 0x40, 0x53, 0x4C, 0x40, 0x7B,
 ];
 const TEXT: &str = "6 6 5 100 3 0 0\nframes 1 bytes 11 passed 0\n";
-
-fn header(type_number: u16) -> Header {
-    Header {
-        type_number,
-        station: 5,
-        z_count: 100,
-        sequence: 3,
-        state: State::Factor(100),
-    }
-}
-
-fn frame(type_number: u16, n: u8) -> Frame {
-    Frame {
-        header: header(type_number),
-        n,
-        words: [0; 31],
-    }
-}
 
 fn through_reader(bytes: &[u8]) -> String {
     let mut text = Vec::new();
