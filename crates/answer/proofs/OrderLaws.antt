@@ -90,7 +90,7 @@ order-keeps refuse answer cs old new apart e = go (first-or-none cs)
 
 -- ---- in the table's terms
 
-refuses-apart : {B : Type 0} (n : ℕ) (b : B) → refuses n ≡ answers b → ⊥
+pub refuses-apart : {B : Type 0} (n : ℕ) (b : B) → refuses n ≡ answers b → ⊥
 refuses-apart n b e = let z : _≡_ {A = ℕ} 0 1 = cc in omega arith
 
 module _ {A B : Type 0} (says : A → Says B) (refuse : ℕ → A) (refusal : (n : ℕ) → says (refuse n) ≡ refuses n) (answer : A) (cs : List Check) where

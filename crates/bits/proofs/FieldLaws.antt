@@ -3,14 +3,14 @@
 use mathlib.Core.Path.{_≡_, refl, sym, ap, ap₂, _∙_}
 use mathlib.Core.Bool.{Bool}
 use mathlib.Core.List.{List, [], _∷_, _++_, append-nil, append-assoc}
-use Prim.Native.Nat.{ℕ, _+_, _*_, _/_, _%_, _^_, _≤_, _<_}
+use Prim.Native.Nat.{ℕ, zero, suc, _+_, _*_, _/_, _%_, _^_, _≤_, _<_}
 use native.Mathlib.Nat.{add-assoc, mod-eq-of-lt}
 use native.Mathlib.Omega.{arith}
 use lib.ListN.{length, take, drop, length-append, length-take, length-drop}
 use lib.Seq.{take-all, take-append-le, drop-append-le, take-at, drop-at, drop-drop, take-add}
 use lib.Pow.{pow-mono}
 use Rattle.bits.specs.Bits.{bits, number}
-use Rattle.bits.specs.Fields.{fieldAt, fieldsAt, packed, span, Fit}
+use Rattle.bits.specs.Fields.{fieldAt, fieldsAt, packed, span, Fit, AreBytes}
 use Rattle.bits.proofs.Numbers.{length-bits, number-bits, number-lt, bits-number, bits-split, number-append}
 
 -- ONE FIELD
@@ -38,6 +38,12 @@ put-field o w bs h = bits-number w (take w (drop o bs)) (omega (arith, length-ta
 pub fits-fields : (ws : List ℕ) (o : ℕ) (bs : List Bool) → Fit ws (fieldsAt ws o bs)
 fits-fields [] o bs = tt
 fits-fields (w ∷ ws) o bs = (fits-field o w bs, fits-fields ws (o + w) bs)
+
+pub length-fit : (ws vs : List ℕ) → Fit ws vs → length vs ≡ length ws
+length-fit [] [] f = refl
+length-fit [] (v ∷ vs) f = absurd f
+length-fit (w ∷ ws) [] f = absurd f
+length-fit (w ∷ ws) (v ∷ vs) f = ap suc (length-fit ws vs (f .1))
 
 pub length-packed : (ws vs : List ℕ) → length (packed ws vs) ≡ span ws
 length-packed [] vs = refl
@@ -106,3 +112,15 @@ number-packed (w ∷ ws) [] f = absurd f
 number-packed (w ∷ ws) (v ∷ vs) f =
     number-append (bits w v) (packed ws vs)
     ∙ rw (number-bits w v, mod-eq-of-lt (f .0), length-packed ws vs, number-packed ws vs (f .1))
+
+-- ---- bytes: so are the first ones, and those past them
+
+pub fit-take : (k : ℕ) (bs : List ℕ) → AreBytes bs → AreBytes (take k bs)
+fit-take zero bs f = tt
+fit-take (suc k) [] f = tt
+fit-take (suc k) (b ∷ bs) f = (f .0, fit-take k bs (f .1))
+
+pub fit-drop : (k : ℕ) (bs : List ℕ) → AreBytes bs → AreBytes (drop k bs)
+fit-drop zero bs f = f
+fit-drop (suc k) [] f = tt
+fit-drop (suc k) (b ∷ bs) f = fit-drop k bs (f .1)

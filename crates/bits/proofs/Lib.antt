@@ -5,3 +5,4 @@ pub mod FieldLaws
 pub mod RowLaws
 pub mod WordLaws
 pub mod SignedLaws
+pub mod Stores

@@ -3,7 +3,7 @@
 use mathlib.Core.Bool.{Bool}
 use mathlib.Core.List.{List, [], _∷_, _++_}
 use Prim.Native.Nat.{ℕ, _+_, _^_, _<_}
-use lib.ListN.{take, drop}
+use lib.ListN.{length, take, drop, replicate}
 use Rattle.bits.specs.Bits.{bits, number}
 
 -- the number in the w bits from bit o on
@@ -32,3 +32,11 @@ Fit [] [] = Unit {0}
 Fit [] (v ∷ vs) = ⊥
 Fit (w ∷ ws) [] = ⊥
 Fit (w ∷ ws) (v ∷ vs) = (v < 2 ^ w) × Fit ws vs
+
+-- the layout of k bytes
+abbrev pub octets : ℕ → List ℕ
+octets k = replicate k 8
+
+-- each of these is a byte
+abbrev pub AreBytes : List ℕ → Type 0
+AreBytes bs = Fit (octets (length bs)) bs

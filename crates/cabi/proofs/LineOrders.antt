@@ -14,7 +14,7 @@ use Rattle.reader.specs.declared.FedAll.{FedAll}
 use Rattle.state_bytes.specs.State.{holdsState, stateIn}
 use Rattle.cabi.specs.Answer.{andThen}
 use Rattle.cabi.specs.Line.{doneBy, readBy, startedIn, fedAllIn, endedIn}
-use Rattle.cabi.specs.Orders.{startOrder, heldOrder}
+use Rattle.cabi.specs.Orders.{startedOrder, heldOrder}
 
 -- a call of the reader in its order, on the bytes that hold the reader
 module _ {A : Type 0} (answer : A → Answer) (call : Reader → A) (state : List ℕ) (checks : List Check) (refuse : ℕ → A) (next : A)
@@ -32,7 +32,7 @@ module _ {A : Type 0} (answer : A → Answer) (call : Reader → A) (state : Lis
       go false = refl
 
 -- START: 13
-pub start-order : (state : List ℕ) → startedIn state ≡ inOrder (startOrder state) refuses (answers started)
+pub start-order : (state : List ℕ) → startedIn state ≡ inOrder (startedOrder state) refuses (answers started)
 unfolding startedIn
 start-order state = refl
 

@@ -12,8 +12,9 @@ use Rattle.answer.specs.Order.{Says, answers}
 use Rattle.answer.proofs.OrderLaws.{order-told}
 use Rattle.bits.proofs.SignedLaws.{mag-signed}
 use Rattle.bits.proofs.WordLaws.{length-words}
-use Rattle.bits.specs.Fields.{span}
+use Rattle.bits.specs.Fields.{span, octets, AreBytes}
 use Rattle.bits.specs.Rows.{wordsIn, filled}
+use Rattle.bits.proofs.FieldLaws.{fit-take, fit-drop}
 use Rattle.frame.specs.Widths.{anyOf}
 use Rattle.frame.specs.declared.Frame.{Frame}
 use Rattle.frame.specs.declared.Header.{Header}
@@ -21,9 +22,7 @@ use Rattle.frame.specs.declared.Layout.{Layout}
 use Rattle.frame.specs.declared.Layout.the-variants as layout
 use Rattle.frame.proofs.FrameLaws.{length-framed}
 use Rattle.frame.proofs.WidthLaws.{both-false}
-use Rattle.journal.specs.Bytes.{octets, AreBytes}
 use Rattle.journal.specs.Journal.{keptBy, saysKept}
-use Rattle.journal.proofs.ByteLaws.{fit-take, fit-drop}
 use Rattle.journal.proofs.RoundTrip.{recall-kept}
 use Rattle.pack.specs.Coding.{Coding, entryBits, frameWith}
 use Rattle.pack.proofs.Round.{Faithful, length-entries}
@@ -43,7 +42,7 @@ use Rattle.healths.specs.declared.HealthRead.the-variants as health-read
 use Rattle.stage.proofs.StageLaws.{done-apart, done-frame}
 use Rattle.record_laws.proofs.CorrectionTrips.{corrections-made-read}
 use Rattle.record_laws.proofs.HealthTrips.{healths-made-read}
-use Rattle.entry_bytes.specs.Rows.{size, countOf, entryOf, entriesIn, rowAfter}
+use Rattle.entry_bytes.specs.Rows.{rowSize, countOf, entryOf, entriesFrom, rowAfter}
 use Rattle.entry_bytes.specs.Corrections as correction-bytes
 use Rattle.entry_bytes.specs.Healths as health-bytes
 use Rattle.entry_bytes.proofs.RowLaws.{entry-at, count-held, length-entries as length-read}
@@ -51,7 +50,7 @@ use Rattle.entry_bytes.proofs.Trips.{row-again, byte-small, each-read}
 use Rattle.entry_bytes.proofs.CorrectionRows as correction-rows
 use Rattle.entry_bytes.proofs.HealthRows as health-rows
 use Rattle.cabi.specs.Answer.{andThen}
-use Rattle.cabi.specs.Frames.{frameIn, keptTo, heldTo}
+use Rattle.cabi.specs.Frames.{frameSaid, keptTo, heldTo}
 use Rattle.cabi.specs.Rows.{madeOf, rowHeld}
 use Rattle.cabi.specs.Corrections as corrections
 use Rattle.cabi.specs.Healths as healths
@@ -73,9 +72,9 @@ told m buffer bytes e = go (m .answer) (m .frame) e
 
 -- the frame that comes in from the bytes left
 comes-back : (m : Made) (buffer : List ℕ) (bytes : ℕ) → Told m buffer bytes → length (m .frame .words) ≡ 31
-    → frameIn (heldTo (saysMade m) buffer) ≡ answers (m .frame)
+    → frameSaid (heldTo (saysMade m) buffer) ≡ answers (m .frame)
 comes-back m buffer bytes t full =
-    ap (λ s. frameIn (heldTo s buffer)) (t .says)
+    ap (λ s. frameSaid (heldTo s buffer)) (t .says)
     ∙ ap (λ s. andThen s (λ r. answers (r .1))) (recall-kept (m .frame) buffer bytes full (t .kept))
 
 -- what a made frame owes to the order: at most so many entries, 31 places for words
@@ -99,19 +98,19 @@ within asked k pattern most out fit h es c f e =
 
 -- ---- over the list
 
-module _ {A B : Type 0} (row : Coding A) (Good : A → Type 0) (law : Faithful row Good) (eight : row .widths ≡ octets (size row))
+module _ {A B : Type 0} (row : Coding A) (Good : A → Type 0) (law : Faithful row Good) (eight : row .widths ≡ octets (rowSize row))
     (make : Header → List A → ℕ → Made) (most : ℕ) (counts : Frame → Count) (reads : Frame → ℕ → B) (says : B → Says A) (entry : A → B)
     (says-entry : (x : A) → says (entry x) ≡ answers x)
     (fits : (h : Header) (es : List A) (c : ℕ) (f : Frame) → make h es c ≡ doneMade f → Within most c f)
-    (room : (i l : ℕ) → i < countOf (size row) l → i * size row + size row ≤ l)
+    (room : (i l : ℕ) → i < countOf (rowSize row) l → i * rowSize row + rowSize row ≤ l)
     (h : Header) (bs buffer : List ℕ) (b : AreBytes bs) (bytes : ℕ) (e : keptTo (madeOf row make most (answers h) bs) buffer ≡ answers bytes)
-    (trip : (c : ℕ) (d : A) (f : Frame) → c ≤ most → make h (entriesIn row most bs) c ≡ doneMade f
-    → (counts f ≡ count.Of c) × ((i : ℕ) → i < c → reads f i ≡ entry (getD (entriesIn row most bs) i d))) where
+    (trip : (c : ℕ) (d : A) (f : Frame) → c ≤ most → make h (entriesFrom row most bs) c ≡ doneMade f
+    → (counts f ≡ count.Of c) × ((i : ℕ) → i < c → reads f i ≡ entry (getD (entriesFrom row most bs) i d))) where
   abbrev c : ℕ
-  c = countOf (size row) (length bs)
+  c = countOf (rowSize row) (length bs)
 
   abbrev m : Made
-  m = make h (entriesIn row most bs) c
+  m = make h (entriesFrom row most bs) c
 
   abbrev held : List ℕ
   held = heldTo (madeOf row make most (answers h) bs) buffer
@@ -120,33 +119,33 @@ module _ {A B : Type 0} (row : Coding A) (Good : A → Type 0) (law : Faithful r
   t = told m buffer bytes e
 
   w : Within most c (m .frame)
-  w = fits h (entriesIn row most bs) c (m .frame) (t .done)
+  w = fits h (entriesFrom row most bs) c (m .frame) (t .done)
 
-  back : frameIn held ≡ answers (m .frame)
+  back : frameSaid held ≡ answers (m .frame)
   back = comes-back m buffer bytes t (w .full)
 
   d : A
   d = entryOf row []
 
   -- HOW MANY
-  count-back : andThen (frameIn held) (λ f. saysCount (counts f)) ≡ answers c
+  count-back : andThen (frameSaid held) (λ f. saysCount (counts f)) ≡ answers c
   count-back = ap (λ s. andThen s (λ f. saysCount (counts f))) back ∙ ap saysCount (trip c d (m .frame) (w .few) (t .done) .0)
 
   -- EACH ROW
-  row-back : (i : ℕ) (lent : List ℕ) → i < c → size row ≤ length lent
-      → rowHeld row (andThen (frameIn held) (λ f. says (reads f i))) lent ≡ take (size row) (drop (i * size row) bs) ++ drop (size row) lent
+  row-back : (i : ℕ) (lent : List ℕ) → i < c → rowSize row ≤ length lent
+      → rowHeld row (andThen (frameSaid held) (λ f. says (reads f i))) lent ≡ take (rowSize row) (drop (i * rowSize row) bs) ++ drop (rowSize row) lent
   row-back i lent l long =
       ap (λ s. rowHeld row (andThen s (λ f. says (reads f i))) lent) back
-      ∙ ap (λ s. rowHeld row s lent) (ap says (trip c d (m .frame) (w .few) (t .done) .1 i l) ∙ says-entry (getD (entriesIn row most bs) i d))
+      ∙ ap (λ s. rowHeld row s lent) (ap says (trip c d (m .frame) (w .few) (t .done) .1 i l) ∙ says-entry (getD (entriesFrom row most bs) i d))
       ∙ ap (λ x. rowAfter row x lent) (entry-at row most bs i d (omega (arith, w .few)))
       ∙ put
     where
-      there : size row ≤ length (drop (i * size row) bs)
-      there = omega (arith, room i (length bs) l, length-drop (i * size row) bs)
+      there : rowSize row ≤ length (drop (i * rowSize row) bs)
+      there = omega (arith, room i (length bs) l, length-drop (i * rowSize row) bs)
 
-      put : rowAfter row (entryOf row (drop (i * size row) bs)) lent ≡ take (size row) (drop (i * size row) bs) ++ drop (size row) lent
-      put = rw (le-ltb (length lent) (size row) long)
-          (ap (λ v. v ++ drop (size row) lent) (row-again row Good law eight (drop (i * size row) bs) (fit-drop (i * size row) bs b) there))
+      put : rowAfter row (entryOf row (drop (i * rowSize row) bs)) lent ≡ take (rowSize row) (drop (i * rowSize row) bs) ++ drop (rowSize row) lent
+      put = rw (le-ltb (length lent) (rowSize row) long)
+          (ap (λ v. v ++ drop (rowSize row) lent) (row-again row Good law eight (drop (i * rowSize row) bs) (fit-drop (i * rowSize row) bs b) there))
 
 -- ---- corrections
 
@@ -163,13 +162,13 @@ typed bs b =
 
 -- a maker's answer says that the frame was kept; then these hold of what it left
 pub record RowsBack {A : Type 0} (row : Coding A) (bs : List ℕ) (counted : Says ℕ) (entry : ℕ → Says A) : Type 0 where
-  pub counts : counted ≡ answers (countOf (size row) (length bs))
-  pub rows : (i : ℕ) (lent : List ℕ) → i < countOf (size row) (length bs) → size row ≤ length lent
-      → rowHeld row (entry i) lent ≡ take (size row) (drop (i * size row) bs) ++ drop (size row) lent
+  pub counts : counted ≡ answers (countOf (rowSize row) (length bs))
+  pub rows : (i : ℕ) (lent : List ℕ) → i < countOf (rowSize row) (length bs) → rowSize row ≤ length lent
+      → rowHeld row (entry i) lent ≡ take (rowSize row) (drop (i * rowSize row) bs) ++ drop (rowSize row) lent
 
 module _ (h : Header) (bs buffer : List ℕ) (b : AreBytes bs) (bytes : ℕ) where
   pub corrections-back : keptTo (corrections.madeSaid (answers h) bs) buffer ≡ answers bytes
-      → let held = frameIn (heldTo (corrections.madeSaid (answers h) bs) buffer) in
+      → let held = frameSaid (heldTo (corrections.madeSaid (answers h) bs) buffer) in
       RowsBack correction-bytes.row bs (corrections.countSaid held) (corrections.entrySaid held)
   unfolding correction.makeCorrections correction.countCorrections correction.correctionAt
   corrections-back e = record {
@@ -185,16 +184,16 @@ module _ (h : Header) (bs buffer : List ℕ) (b : AreBytes bs) (bytes : ℕ) whe
       room : (i l : ℕ) → i < countOf 7 l → i * 7 + 7 ≤ l
       room i l n = omega (arith, count-held 7 l)
 
-      trip : (n : ℕ) (x : Correction) (f : Frame) → n ≤ 18 → correction.makeCorrections h (entriesIn correction-bytes.row 18 bs) n ≡ doneMade f
+      trip : (n : ℕ) (x : Correction) (f : Frame) → n ≤ 18 → correction.makeCorrections h (entriesFrom correction-bytes.row 18 bs) n ≡ doneMade f
           → (correction.countCorrections f ≡ count.Of n)
-          × ((i : ℕ) → i < n → correction.correctionAt f i ≡ correction-read.Entry (getD (entriesIn correction-bytes.row 18 bs) i x))
+          × ((i : ℕ) → i < n → correction.correctionAt f i ≡ correction-read.Entry (getD (entriesFrom correction-bytes.row 18 bs) i x))
       trip n x f l q =
-          let r = corrections-made-read h (entriesIn correction-bytes.row 18 bs) n x f (omega (arith, l, length-read correction-bytes.row 18 bs))
+          let r = corrections-made-read h (entriesFrom correction-bytes.row 18 bs) n x f (omega (arith, l, length-read correction-bytes.row 18 bs))
           (each-read correction-bytes.row correction.Typed typed 18 n bs b) q in
           (r .counts, r .entries)
 
   pub healths-back : keptTo (healths.madeSaid (answers h) bs) buffer ≡ answers bytes
-      → let held = frameIn (heldTo (healths.madeSaid (answers h) bs) buffer) in
+      → let held = frameSaid (heldTo (healths.madeSaid (answers h) bs) buffer) in
       RowsBack health-bytes.row bs (healths.countSaid held) (healths.entrySaid held)
   unfolding health.makeHealths health.countHealths health.healthAt
   healths-back e = record {
@@ -210,9 +209,9 @@ module _ (h : Header) (bs buffer : List ℕ) (b : AreBytes bs) (bytes : ℕ) whe
       room : (i l : ℕ) → i < countOf 10 l → i * 10 + 10 ≤ l
       room i l n = omega (arith, count-held 10 l)
 
-      trip : (n : ℕ) (x : SatelliteHealth) (f : Frame) → n ≤ 31 → health.makeHealths h (entriesIn health-bytes.row 31 bs) n ≡ doneMade f
+      trip : (n : ℕ) (x : SatelliteHealth) (f : Frame) → n ≤ 31 → health.makeHealths h (entriesFrom health-bytes.row 31 bs) n ≡ doneMade f
           → (health.countHealths f ≡ count.Of n)
-          × ((i : ℕ) → i < n → health.healthAt f i ≡ health-read.Entry (getD (entriesIn health-bytes.row 31 bs) i x))
+          × ((i : ℕ) → i < n → health.healthAt f i ≡ health-read.Entry (getD (entriesFrom health-bytes.row 31 bs) i x))
       trip n x f l q =
-          let r = healths-made-read h (entriesIn health-bytes.row 31 bs) n x f (omega (arith, l, length-read health-bytes.row 31 bs)) q in
+          let r = healths-made-read h (entriesFrom health-bytes.row 31 bs) n x f (omega (arith, l, length-read health-bytes.row 31 bs)) q in
           (r .counts, r .entries)

@@ -20,8 +20,8 @@ use Rattle.frame.specs.declared.Layout.{Layout}
 use Rattle.frame.specs.declared.Layout.the-variants as layout
 use Rattle.frame.proofs.FrameLaws.{framed-inside}
 use Rattle.frame.proofs.WidthLaws.{both-false}
-use Rattle.journal.specs.Bytes.{wordsIn}
-use Rattle.journal.specs.Journal.{keepOrder as keptOrder, saysKept}
+use Rattle.journal.specs.Bytes.{wordsFrom}
+use Rattle.journal.specs.Journal.{keepOrder, saysKept}
 use Rattle.journal.specs.declared.Kept.the-variants as kept
 use Rattle.journal.proofs.WordLaws.{length-words, fit-words}
 use Rattle.pack.specs.Coding.{Coding, frameWith}
@@ -34,7 +34,7 @@ use Rattle.positions.specs.Positions as position
 use Rattle.positions.specs.declared.Position.{Position}
 use Rattle.nulls.specs.Nulls as null
 use Rattle.texts.specs.Texts as text
-use Rattle.entry_bytes.specs.Rows.{countOf, entriesIn}
+use Rattle.entry_bytes.specs.Rows.{countOf, entriesFrom}
 use Rattle.entry_bytes.specs.Corrections as correction-bytes
 use Rattle.entry_bytes.specs.Healths as health-bytes
 use Rattle.cabi.specs.Header.{headed, saysHeaded}
@@ -46,34 +46,34 @@ use Rattle.cabi.specs.Healths as healths
 use Rattle.cabi.specs.Positions as positions
 use Rattle.cabi.specs.Nulls as nulls
 use Rattle.cabi.specs.Texts as texts
-use Rattle.cabi.specs.Orders.{shortFor, headerOf, madeOrder, listChecks, textChecks}
+use Rattle.cabi.specs.Orders.{shortFor, headerWith, madeOrder, listChecks, textChecks}
 use Rattle.cabi.specs.Orders.{correctionsFrame, correctionsOrder, healthsFrame, healthsOrder, positionFrame, positionMadeOrder}
-use Rattle.cabi.specs.Orders.{nullFrame, nullMadeOrder, textFrame, textMadeOrder, wordsFrame, keepOrder}
+use Rattle.cabi.specs.Orders.{nullFrame, nullMadeOrder, textFrame, textMadeOrder, wordsFrame, keptOrder}
 use Rattle.cabi.proofs.Orders.{after-order, pass-five}
 
 -- keeping after an order: 5, 13
 kept-after : (cs : List Check) (f : Frame) (buffer : List ℕ)
-    → keptTo (inOrder cs refuses (answers f)) buffer ≡ inOrder cs refuses (inOrder (keptOrder f buffer) refuses (answers (3 * f .n + 9)))
+    → keptTo (inOrder cs refuses (answers f)) buffer ≡ inOrder cs refuses (inOrder (keepOrder f buffer) refuses (answers (3 * f .n + 9)))
 kept-after cs f buffer =
     order-map (λ s. keptTo s buffer) cs refuses (answers f)
-    ∙ ap (inOrder cs refuses) (says-order saysKept kept.Refused (λ n. refl) (kept.Done (3 * f .n + 9)) (keptOrder f buffer) refl)
+    ∙ ap (inOrder cs refuses) (says-order saysKept kept.Refused (λ n. refl) (kept.Done (3 * f .n + 9)) (keepOrder f buffer) refl)
 
 -- a health over 7 comes first
 headed-order : {A : Type 0} (kind station z sequence code : ℕ) (next : Header → Says A)
-    → andThen (headed kind station z sequence code) next ≡ inOrder ((ltb 7 code, 5) ∷ []) refuses (next (headerOf kind station z sequence code))
+    → andThen (headed kind station z sequence code) next ≡ inOrder ((ltb 7 code, 5) ∷ []) refuses (next (headerWith kind station z sequence code))
 headed-order kind station z sequence code next =
     ap (λ s. andThen s next)
-    (says-order saysHeaded of.Refused (λ n. refl) (of.Header (headerOf kind station z sequence code)) ((ltb 7 code, 5) ∷ []) refl)
-    ∙ order-map (λ s. andThen s next) ((ltb 7 code, 5) ∷ []) refuses (answers (headerOf kind station z sequence code))
+    (says-order saysHeaded of.Refused (λ n. refl) (of.Header (headerWith kind station z sequence code)) ((ltb 7 code, 5) ∷ []) refl)
+    ∙ order-map (λ s. andThen s next) ((ltb 7 code, 5) ∷ []) refuses (answers (headerWith kind station z sequence code))
 
 module _ (kind station z sequence code : ℕ) (buffer : List ℕ) where
   abbrev H : Header
-  H = headerOf kind station z sequence code
+  H = headerWith kind station z sequence code
 
   -- what follows the five numbers is kept in its order
   kept-headed : (next : Header → Says Frame) (cs : List Check) (f : Frame) → next H ≡ inOrder cs refuses (answers f)
       → keptTo (andThen (headed kind station z sequence code) next) buffer
-      ≡ inOrder ((ltb 7 code, 5) ∷ cs) refuses (inOrder (keptOrder f buffer) refuses (answers (3 * f .n + 9)))
+      ≡ inOrder ((ltb 7 code, 5) ∷ cs) refuses (inOrder (keepOrder f buffer) refuses (answers (3 * f .n + 9)))
   kept-headed next cs f is =
       ap (λ s. keptTo s buffer) (headed-order kind station z sequence code next ∙ ap (inOrder ((ltb 7 code, 5) ∷ []) refuses) is)
       ∙ kept-after ((ltb 7 code, 5) ∷ cs) f buffer
@@ -112,7 +112,7 @@ module _ (kind station z sequence code : ℕ) (buffer : List ℕ) where
         (answers (3 * correctionsFrame kind station z sequence code bs .n + 9))
     unfolding correction.makeCorrections
     corrections-made =
-        let es = entriesIn correction-bytes.row 18 bs in
+        let es = entriesFrom correction-bytes.row 18 bs in
         let c = countOf 7 (length bs) in
         entries-order layout.Correction correction.coding correction.fill (take c es) (listChecks 18 correction.outOfRange es c)
         (λ h. correction.makeCorrections h es c) refl (λ none. omega (arith, few es c 18 (none .0)))
@@ -121,7 +121,7 @@ module _ (kind station z sequence code : ℕ) (buffer : List ℕ) where
         ≡ inOrder (healthsOrder kind station z sequence code bs buffer) refuses (answers (3 * healthsFrame kind station z sequence code bs .n + 9))
     unfolding health.makeHealths
     healths-made =
-        let es = entriesIn health-bytes.row 31 bs in
+        let es = entriesFrom health-bytes.row 31 bs in
         let c = countOf 10 (length bs) in
         entries-order layout.Health health.coding health.fill (take c es) (listChecks 31 health.outOfRange es c)
         (λ h. health.makeHealths h es c) refl (λ none. omega (arith, few es c 31 (none .0)))
@@ -155,8 +155,8 @@ module _ (kind station z sequence code : ℕ) (buffer : List ℕ) where
 
   -- ---- a frame of any type: 5, 13
 
-  below : (n : ℕ) (bs : List ℕ) → Below (wordsIn 3 n bs)
-  unfolding wordsIn
+  below : (n : ℕ) (bs : List ℕ) → Below (wordsFrom 3 n bs)
+  unfolding wordsFrom
   below zero bs = tt
   below (suc n) bs = (fit-words 3 (suc n) bs .0, below n (drop 3 bs))
 
@@ -173,10 +173,10 @@ module _ (kind station z sequence code : ℕ) (buffer : List ℕ) where
       go true e = header-outside ws e
 
   pub keep-order : (bs : List ℕ) → keptTo (keepSaid kind station z sequence code bs) buffer
-      ≡ inOrder (keepOrder kind station z sequence code bs buffer) refuses (answers (3 * wordsFrame kind station z sequence code bs .n + 9))
+      ≡ inOrder (keptOrder kind station z sequence code bs buffer) refuses (answers (3 * wordsFrame kind station z sequence code bs .n + 9))
   keep-order bs =
       kept-headed (λ h. wordsSaid h bs) whole f refl
-      ∙ after-order ((ltb 7 code, 5) ∷ whole) (inOrder (keptOrder f buffer) refuses (answers (3 * f .n + 9)))
+      ∙ after-order ((ltb 7 code, 5) ∷ whole) (inOrder (keepOrder f buffer) refuses (answers (3 * f .n + 9)))
       (inOrder ((headerOutside H, 5) ∷ shortFor f buffer ∷ []) refuses (answers (3 * f .n + 9)))
       (λ none. ap (λ t. inOrder ((t, 5) ∷ shortFor f buffer ∷ []) refuses (answers (3 * f .n + 9)))
       (outside-framed words (below n bs) (omega (arith, length-words 3 n bs, ltb-false 31 n (none .1 .1 .0)))))
@@ -185,7 +185,7 @@ module _ (kind station z sequence code : ℕ) (buffer : List ℕ) where
       n = length bs / 3
 
       words : List ℕ
-      words = wordsIn 3 n bs
+      words = wordsFrom 3 n bs
 
       f : Frame
       f = framed H words

@@ -5,7 +5,7 @@ use Rattle.answer.specs.Order.{Says, refuses, answers}
 use Rattle.frame.specs.Header.{codeOf}
 use Rattle.frame.specs.declared.Frame.{Frame}
 use Rattle.cabi.specs.Answer.{numberOf, left}
-use Rattle.cabi.specs.Frames.{kindSaid, stationSaid, zSaid, sequenceSaid, healthSaid, nSaid, lengthSaid}
+use Rattle.cabi.specs.Frames.{kindSaid, stationSaid, zCountSaid, sequenceSaid, healthSaid, nSaid, lengthSaid}
 
 module _ (kind station z sequence health n length : ℕ) where
   -- the answer and the numbers that are left
@@ -14,7 +14,7 @@ module _ (kind station z sequence health n length : ℕ) where
       (answer ≡ numberOf said)
       × ((kind′ ≡ left said kindSaid kind)
       × ((station′ ≡ left said stationSaid station)
-      × ((z′ ≡ left said zSaid z)
+      × ((z′ ≡ left said zCountSaid z)
       × ((sequence′ ≡ left said sequenceSaid sequence)
       × ((health′ ≡ left said healthSaid health) × ((n′ ≡ left said nSaid n) × (length′ ≡ left said lengthSaid length)))))))
 

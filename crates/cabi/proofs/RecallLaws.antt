@@ -15,15 +15,15 @@ use Rattle.frame.specs.declared.State.{State}
 use Rattle.frame.specs.declared.Frame.{Frame}
 use Rattle.frame.specs.declared.Health.the-variants as health
 use Rattle.frame.proofs.StateLaws.{state-inside}
-use Rattle.journal.specs.Bytes.{wordsIn}
+use Rattle.journal.specs.Bytes.{wordsFrom}
 use Rattle.journal.specs.Forms.{nByte, wordsAfter, startOrder}
-use Rattle.journal.specs.Journal.{dataOrder, recallOrder, refused, recalled, recalledBy, saysFound, saysRecalled}
+use Rattle.journal.specs.Journal.{dataOrder, recallOrder, refusedRecall, recalled, recalledBy, saysFound, saysRecalled}
 use Rattle.journal.specs.declared.Found.the-variants as found
 use Rattle.journal.specs.declared.Recalled.{Recalled}
 use Rattle.journal.proofs.WordLaws.{length-words}
 use Rattle.journal.proofs.FormLaws.{start-few}
 use Rattle.cabi.specs.Answer.{andThen}
-use Rattle.cabi.specs.Frames.{recallSaid, frameIn}
+use Rattle.cabi.specs.Frames.{recallSaid, frameSaid}
 
 -- ---- what was recalled
 
@@ -36,10 +36,10 @@ module _ (bytes : List ℕ) (r : Recalled) (e : r ≡ recalledBy bytes) where
   recall-refused a = ap (λ x. saysFound x (r .frame)) a ∙ ap saysRecalled e
 
   -- the frame alone
-  pub frame-told : {n : ℕ} → found.Record n ≡ r .answer → answers (r .frame) ≡ frameIn bytes
+  pub frame-told : {n : ℕ} → found.Record n ≡ r .answer → answers (r .frame) ≡ frameSaid bytes
   frame-told a = ap (λ s. andThen s (λ p. answers (p .1))) (recall-told a)
 
-  pub frame-refused : {n : ℕ} → found.Refused n ≡ r .answer → refuses n ≡ frameIn bytes
+  pub frame-refused : {n : ℕ} → found.Refused n ≡ r .answer → refuses n ≡ frameSaid bytes
   frame-refused a = ap (λ s. andThen s (λ p. answers (p .1))) (recall-refused a)
 
 -- ---- a frame that comes in
@@ -48,16 +48,16 @@ state-coded : (ws : List ℕ) → stateOutside (frameOf ws .header .state) ≡ f
 unfolding frameOf framed headerOf
 state-coded ws = state-inside _
 
-count-words : (n : ℕ) (bs : List ℕ) → frameOf (wordsIn 3 (suc (suc n)) bs) .n ≡ n
-unfolding frameOf framed wordsIn
+count-words : (n : ℕ) (bs : List ℕ) → frameOf (wordsFrom 3 (suc (suc n)) bs) .n ≡ n
+unfolding frameOf framed wordsFrom
 count-words n bs = length-words 3 n (drop 3 (drop 3 bs))
 
 module _ (bs : List ℕ) {size : ℕ} {f : Frame} (h : answers (size, f) ≡ recallSaid bs) where
   passed : NoneApplies (recallOrder bs)
-  passed = says-none saysRecalled refused (λ n. refl) (recalled (nByte bs) (wordsAfter 3 bs)) (recallOrder bs) (sym h)
+  passed = says-none saysRecalled refusedRecall (λ n. refl) (recalled (nByte bs) (wordsAfter 3 bs)) (recallOrder bs) (sym h)
 
   is : f ≡ frameOf (wordsAfter 3 bs)
-  is = ap frame-said (h ∙ ap saysRecalled (order-answers refused (recalled (nByte bs) (wordsAfter 3 bs)) (recallOrder bs) passed))
+  is = ap frame-said (h ∙ ap saysRecalled (order-answers refusedRecall (recalled (nByte bs) (wordsAfter 3 bs)) (recallOrder bs) passed))
     where
       frame-said : Says (ℕ × Frame) → Frame
       frame-said (answers p) = p .1

@@ -7,7 +7,7 @@ use Rattle.frame.specs.declared.Frame.{Frame}
 use Rattle.writer.specs.Answer.{writtenBy, writtenTo, saysWritten}
 use Rattle.writer.specs.declared.Written.{Written}
 use Rattle.cabi.specs.Answer.{numberOf, left}
-use Rattle.cabi.specs.Send.{pairOf, writeSaid, lineAfter, d29After, d30After, countAfter}
+use Rattle.cabi.specs.Send.{pairOf, writeSaid, lineLent, d29After, d30After, countAfter}
 use Rattle.cabi.proofs.AnswerLaws.{number-as, left-as}
 
 -- the answer, the two bits, the line and the length that are left
@@ -15,7 +15,7 @@ abbrev pub Sends : ℕ → ℕ → List ℕ → ℕ → ℕ → ℕ → ℕ → 
 Sends d29 d30 line size answer a b held length said =
     (answer ≡ numberOf (writeSaid said d29 d30 line))
     × ((a ≡ d29After said d29 d30 line)
-    × ((b ≡ d30After said d29 d30 line) × ((held ≡ lineAfter said d29 d30 line) × (length ≡ countAfter said d29 d30 line size))))
+    × ((b ≡ d30After said d29 d30 line) × ((held ≡ lineLent said d29 d30 line) × (length ≡ countAfter said d29 d30 line size))))
 
 module _ (d29 d30 : ℕ) (line : List ℕ) (size : ℕ) where
   -- what the writer answered of a frame

@@ -7,13 +7,13 @@ use lib.Dec.{ltb}
 use lib.ListN.{length}
 use Rattle.answer.specs.Order.{refuses, answers, inOrder}
 use Rattle.answer.proofs.OrderLaws.{says-order}
+use Rattle.bits.specs.Fields.{AreBytes}
 use Rattle.frame.specs.Widths.{late}
-use Rattle.journal.specs.Bytes.{AreBytes}
-use Rattle.writer.specs.Sending.{bitsAfter, carriedOn, bytesOf}
+use Rattle.writer.specs.Sending.{bitsAfter, carriedOn, lineLength}
 use Rattle.writer.specs.Answer.{openChecks, writeChecks, writtenBy, saysOpened, saysWritten}
 use Rattle.writer.specs.declared.Opened.the-variants as opened
 use Rattle.writer.specs.declared.Written.the-variants as written
-use Rattle.cabi.specs.Frames.{frameIn}
+use Rattle.cabi.specs.Frames.{frameSaid}
 use Rattle.cabi.specs.Send.{openSaid, pairOf, writeSaid}
 use Rattle.cabi.specs.Orders.{frameFrom, writeOrder}
 use Rattle.cabi.proofs.ReadOrders.{read-order}
@@ -24,11 +24,11 @@ open-order line = says-order saysOpened opened.Refused (λ n. refl) opened.Done 
 
 -- WRITE: 14, 15, 16, 15, 16, 5 for either carried bit, 7, 13
 pub write-order : (bs : List ℕ) → AreBytes bs → (d29 d30 : ℕ) (line : List ℕ)
-    → writeSaid (frameIn bs) d29 d30 line
-    ≡ inOrder (writeOrder bs d29 d30 line) refuses (answers (bytesOf (frameFrom bs), carriedOn (bitsAfter (pairOf d29 d30) (frameFrom bs))))
+    → writeSaid (frameSaid bs) d29 d30 line
+    ≡ inOrder (writeOrder bs d29 d30 line) refuses (answers (lineLength (frameFrom bs), carriedOn (bitsAfter (pairOf d29 d30) (frameFrom bs))))
 write-order bs fits d29 d30 line =
     let f = frameFrom bs in
     let c = pairOf d29 d30 in
     read-order bs fits (λ g. saysWritten (writtenBy g c line)) ((ltb 1 d29, 5) ∷ (ltb 1 d30, 5) ∷ [])
-    ((late (f .header .z), 7) ∷ (ltb (length line) (bytesOf f), 13) ∷ []) (bytesOf f, carriedOn (bitsAfter c f))
-    (says-order saysWritten written.Refused (λ n. refl) (written.Done (bytesOf f) (carriedOn (bitsAfter c f))) (writeChecks f c line) refl)
+    ((late (f .header .z), 7) ∷ (ltb (length line) (lineLength f), 13) ∷ []) (lineLength f, carriedOn (bitsAfter c f))
+    (says-order saysWritten written.Refused (λ n. refl) (written.Done (lineLength f) (carriedOn (bitsAfter c f))) (writeChecks f c line) refl)

@@ -8,7 +8,7 @@ use borrow.Author.Tests.{lt-ltb, le-ltb, eq-eqb, ne-eqb}
 use Rattle.answer.specs.Order.{refuses, answers}
 use Rattle.frame.specs.Frames.{framed}
 use Rattle.frame.specs.declared.Header.{Header}
-use Rattle.journal.specs.Bytes.{wordIn, wordsIn}
+use Rattle.journal.specs.Bytes.{wordIn, wordsFrom}
 use Rattle.journal.proofs.ByteLaws.{word-none}
 use Rattle.journal.proofs.TurnLaws.{word-more}
 use Rattle.journal.proofs.WordLaws.{length-words}
@@ -44,9 +44,9 @@ module _ (h : Header) (bytes : List ℕ) where
     too-many m = rw (eq-eqb (length bytes % 3) 0 d, lt-ltb 31 (length bytes / 3) m)
 
     pub words-kept : {words : List ℕ} → length bytes / 3 ≤ 31
-        → words ≡ wordsIn 3 (length bytes / 3) bytes ++ replicate (31 - length bytes / 3) 0
+        → words ≡ wordsFrom 3 (length bytes / 3) bytes ++ replicate (31 - length bytes / 3) 0
         → answers (record { header = h; n = length bytes / 3; words = words }) ≡ wordsSaid h bytes
     words-kept {words} m e =
         rw (eq-eqb (length bytes % 3) 0 d, le-ltb 31 (length bytes / 3) m)
         (ap (λ ws. answers (record { header = h; n = length bytes / 3; words = ws })) e
-        ∙ ap answers (framed-by h (length bytes / 3) (wordsIn 3 (length bytes / 3) bytes) (length-words 3 (length bytes / 3) bytes)))
+        ∙ ap answers (framed-by h (length bytes / 3) (wordsFrom 3 (length bytes / 3) bytes) (length-words 3 (length bytes / 3) bytes)))

@@ -9,7 +9,7 @@ use Rattle.frame.specs.Header.{codeOf}
 use Rattle.frame.specs.Frames.{framed}
 use Rattle.frame.specs.declared.Header.{Header}
 use Rattle.frame.specs.declared.Frame.{Frame}
-use Rattle.journal.specs.Bytes.{wordsIn}
+use Rattle.journal.specs.Bytes.{wordsFrom}
 use Rattle.journal.specs.Journal.{recalledBy, saysRecalled, keptBy, heldBy, saysKept}
 use Rattle.cabi.specs.Answer.{left, andThen}
 use Rattle.cabi.specs.Header.{headed}
@@ -34,7 +34,7 @@ sizeTo said buffer size = left (keptTo said buffer) (λ k. k) size
 abbrev pub wordsSaid : Header → List ℕ → Says Frame
 wordsSaid h bytes =
     inOrder ((not (eqb (length bytes % 3) 0), 5) ∷ (ltb 31 (length bytes / 3), 5) ∷ []) refuses
-    (answers (framed h (wordsIn 3 (length bytes / 3) bytes)))
+    (answers (framed h (wordsFrom 3 (length bytes / 3) bytes)))
 
 -- KEEPING: 5 for a health over 7 too
 abbrev pub keepSaid : ℕ → ℕ → ℕ → ℕ → ℕ → List ℕ → Says Frame
@@ -47,8 +47,8 @@ abbrev pub recallSaid : List ℕ → Says (ℕ × Frame)
 recallSaid bytes = saysRecalled (recalledBy bytes)
 
 -- the frame alone
-abbrev pub frameIn : List ℕ → Says Frame
-frameIn bytes = andThen (recallSaid bytes) (λ r. answers (r .1))
+abbrev pub frameSaid : List ℕ → Says Frame
+frameSaid bytes = andThen (recallSaid bytes) (λ r. answers (r .1))
 
 -- its numbers
 abbrev pub kindSaid : ℕ × Frame → ℕ
@@ -57,8 +57,8 @@ kindSaid r = r .1 .header .kind
 abbrev pub stationSaid : ℕ × Frame → ℕ
 stationSaid r = r .1 .header .station
 
-abbrev pub zSaid : ℕ × Frame → ℕ
-zSaid r = r .1 .header .z
+abbrev pub zCountSaid : ℕ × Frame → ℕ
+zCountSaid r = r .1 .header .z
 
 abbrev pub sequenceSaid : ℕ × Frame → ℕ
 sequenceSaid r = r .1 .header .sequence

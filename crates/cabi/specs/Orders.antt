@@ -14,10 +14,10 @@ use Rattle.frame.specs.declared.Layout.{Layout}
 use Rattle.frame.specs.declared.Layout.the-variants as layout
 use Rattle.stream.specs.Standing.{frameAt}
 use Rattle.reader.specs.Reading.{bitsOf, past}
-use Rattle.journal.specs.Bytes.{wordsIn}
+use Rattle.journal.specs.Bytes.{wordsFrom}
 use Rattle.journal.specs.Forms.{wordsAfter}
 use Rattle.journal.specs.Journal.{recallOrder}
-use Rattle.writer.specs.Sending.{bytesOf}
+use Rattle.writer.specs.Sending.{lineLength}
 use Rattle.pack.specs.Coding.{Coding, frameWith}
 use Rattle.stage.specs.Stages.{otherLayout, countIn, misfit, wrongSize, makeOrder}
 use Rattle.corrections.specs.Corrections as correction
@@ -26,15 +26,15 @@ use Rattle.positions.specs.Positions as position
 use Rattle.texts.specs.Texts as text
 use Rattle.positions.specs.declared.Position.{Position}
 use Rattle.state_bytes.specs.State.{holdsState, stateIn}
-use Rattle.entry_bytes.specs.Rows.{size, countOf, entriesIn}
+use Rattle.entry_bytes.specs.Rows.{rowSize, countOf, entriesFrom}
 use Rattle.entry_bytes.specs.Corrections as correction-bytes
 use Rattle.entry_bytes.specs.Healths as health-bytes
 
 -- ---- reading the line
 
 -- START: 13
-abbrev pub startOrder : List ℕ → List Check
-startOrder state = (ltb (length state) 188, 13) ∷ []
+abbrev pub startedOrder : List ℕ → List Check
+startedOrder state = (ltb (length state) 188, 13) ∷ []
 
 -- A CALL OF THE READER: 5 for bytes that hold no state, then the call's own
 abbrev pub heldOrder : List ℕ → List Check → List Check
@@ -60,7 +60,7 @@ frameFrom bs = frameOf (wordsAfter 3 bs)
 abbrev pub writeOrder : List ℕ → ℕ → ℕ → List ℕ → List Check
 writeOrder bs d29 d30 line =
     recallOrder bs
-    ++ ((ltb 1 d29, 5) ∷ (ltb 1 d30, 5) ∷ (late (frameFrom bs .header .z), 7) ∷ (ltb (length line) (bytesOf (frameFrom bs)), 13) ∷ [])
+    ++ ((ltb 1 d29, 5) ∷ (ltb 1 d30, 5) ∷ (late (frameFrom bs .header .z), 7) ∷ (ltb (length line) (lineLength (frameFrom bs)), 13) ∷ [])
 
 -- A RECORD OF A LAYOUT: 6, 7, 8, then its own
 abbrev pub recordChecks : Layout → Frame → Bool → List Check → List Check
@@ -75,7 +75,7 @@ abbrev pub entryChecks : Layout → ℕ → Frame → ℕ → List Check
 entryChecks asked width f i = recordChecks asked f (misfit width (f .n)) ((leb (countIn width (f .n)) i, 9) ∷ [])
 
 abbrev pub entryOrder : {A : Type 0} → Layout → ℕ → Coding A → List ℕ → ℕ → List ℕ → List Check
-entryOrder asked width row bs i lent = (recallOrder bs ++ entryChecks asked width (frameFrom bs) i) ++ ((ltb (length lent) (size row), 13) ∷ [])
+entryOrder asked width row bs i lent = (recallOrder bs ++ entryChecks asked width (frameFrom bs) i) ++ ((ltb (length lent) (rowSize row), 13) ∷ [])
 
 -- POSITION: then 6, 7, 8, 10
 abbrev pub positionOrder : List ℕ → List Check
@@ -88,8 +88,8 @@ abbrev pub nullOrder : List ℕ → List Check
 nullOrder bs = recallOrder bs ++ recordChecks layout.Null (frameFrom bs) (wrongSize 0 (frameFrom bs .n)) []
 
 -- TEXT: then 6, 7, 8, 11, 13
-abbrev pub textOrder : List ℕ → List ℕ → List Check
-textOrder bs buffer =
+abbrev pub textReadOrder : List ℕ → List ℕ → List Check
+textReadOrder bs buffer =
     let f = frameFrom bs in
     recallOrder bs
     ++ recordChecks layout.Text f (text.wrongWords (f .n))
@@ -98,8 +98,8 @@ textOrder bs buffer =
 -- ---- a frame goes out: 5 first, 13 last
 
 -- the header of five numbers
-abbrev pub headerOf : ℕ → ℕ → ℕ → ℕ → ℕ → Header
-headerOf kind station z sequence code = record { kind = kind; station = station; z = z; sequence = sequence; state = stateOf code }
+abbrev pub headerWith : ℕ → ℕ → ℕ → ℕ → ℕ → Header
+headerWith kind station z sequence code = record { kind = kind; station = station; z = z; sequence = sequence; state = stateOf code }
 
 -- a list's own: 12, 10
 abbrev pub listChecks : {A : Type 0} → ℕ → (A → Bool) → List A → ℕ → List Check
@@ -111,7 +111,7 @@ textChecks t = (eqb (length t) 0 || ltb 90 (length t), 12) ∷ (anyOf text.forbi
 
 module _ (kind station z sequence code : ℕ) where
   abbrev H : Header
-  H = headerOf kind station z sequence code
+  H = headerWith kind station z sequence code
 
   -- MAKING: 5, a health over 7 too, 6, 7, the layout's own, 13
   abbrev pub madeOrder : Layout → List Check → Frame → List ℕ → List Check
@@ -119,20 +119,20 @@ module _ (kind station z sequence code : ℕ) where
 
   -- corrections: 12, 10
   abbrev pub correctionsFrame : List ℕ → Frame
-  correctionsFrame bs = frameWith correction.fill correction.coding H (take (countOf 7 (length bs)) (entriesIn correction-bytes.row 18 bs))
+  correctionsFrame bs = frameWith correction.fill correction.coding H (take (countOf 7 (length bs)) (entriesFrom correction-bytes.row 18 bs))
 
   abbrev pub correctionsOrder : List ℕ → List ℕ → List Check
   correctionsOrder bs buffer =
-      madeOrder layout.Correction (listChecks 18 correction.outOfRange (entriesIn correction-bytes.row 18 bs) (countOf 7 (length bs)))
+      madeOrder layout.Correction (listChecks 18 correction.outOfRange (entriesFrom correction-bytes.row 18 bs) (countOf 7 (length bs)))
       (correctionsFrame bs) buffer
 
   -- constellation health: 12, 10
   abbrev pub healthsFrame : List ℕ → Frame
-  healthsFrame bs = frameWith health.fill health.coding H (take (countOf 10 (length bs)) (entriesIn health-bytes.row 31 bs))
+  healthsFrame bs = frameWith health.fill health.coding H (take (countOf 10 (length bs)) (entriesFrom health-bytes.row 31 bs))
 
   abbrev pub healthsOrder : List ℕ → List ℕ → List Check
   healthsOrder bs buffer =
-      madeOrder layout.Health (listChecks 31 health.outOfRange (entriesIn health-bytes.row 31 bs) (countOf 10 (length bs))) (healthsFrame bs) buffer
+      madeOrder layout.Health (listChecks 31 health.outOfRange (entriesFrom health-bytes.row 31 bs) (countOf 10 (length bs))) (healthsFrame bs) buffer
 
   -- a position: 10
   abbrev pub positionFrame : Position → Frame
@@ -157,10 +157,10 @@ module _ (kind station z sequence code : ℕ) where
 
   -- KEEP: 5 for a health over 7, for bytes that are no whole number of words or over 31, for another number of the header; 13
   abbrev pub wordsFrame : List ℕ → Frame
-  wordsFrame bs = framed H (wordsIn 3 (length bs / 3) bs)
+  wordsFrame bs = framed H (wordsFrom 3 (length bs / 3) bs)
 
-  abbrev pub keepOrder : List ℕ → List ℕ → List Check
-  keepOrder bs buffer =
+  abbrev pub keptOrder : List ℕ → List ℕ → List Check
+  keptOrder bs buffer =
       (ltb 7 code, 5) ∷ (not (eqb (length bs % 3) 0), 5) ∷ (ltb 31 (length bs / 3), 5) ∷ (headerOutside H, 5) ∷ shortFor (wordsFrame bs) buffer ∷ []
 
 -- ---- UDRE: 5 for a health over 7, 10

@@ -8,7 +8,7 @@ use Rattle.frame.specs.declared.Header.{Header}
 use Rattle.pack.specs.Coding.{Coding}
 use Rattle.stage.specs.Stages.{saysMade}
 use Rattle.stage.specs.declared.Made.{Made}
-use Rattle.entry_bytes.specs.Rows.{size, countOf, entriesIn, putBy, rowAfter, saysPut}
+use Rattle.entry_bytes.specs.Rows.{rowSize, countOf, entriesFrom, putBy, rowAfter, saysPut}
 use Rattle.cabi.specs.Answer.{left, andThen}
 
 module _ {A : Type 0} (k : Coding A) where
@@ -22,4 +22,4 @@ module _ {A : Type 0} (k : Coding A) where
 
   -- COME IN: what is made of a header and the rows, as many as the bytes are and at most `most`
   abbrev pub madeOf : (Header → List A → ℕ → Made) → (most : ℕ) → Says Header → List ℕ → Says Frame
-  madeOf make most said bytes = andThen said (λ h. saysMade (make h (entriesIn k most bytes) (countOf (size k) (length bytes))))
+  madeOf make most said bytes = andThen said (λ h. saysMade (make h (entriesFrom k most bytes) (countOf (rowSize k) (length bytes))))

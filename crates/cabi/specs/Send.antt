@@ -20,8 +20,8 @@ abbrev pub writeSaid : Says Frame → ℕ → ℕ → List ℕ → Says (ℕ × 
 writeSaid said d29 d30 line = andThen said (λ f. saysWritten (writtenBy f (pairOf d29 d30) line))
 
 -- the line after it; on a refusal what it held
-abbrev pub lineAfter : Says Frame → ℕ → ℕ → List ℕ → List ℕ
-lineAfter said d29 d30 line = left said (λ f. writtenTo f (pairOf d29 d30) line) line
+abbrev pub lineLent : Says Frame → ℕ → ℕ → List ℕ → List ℕ
+lineLent said d29 d30 line = left said (λ f. writtenTo f (pairOf d29 d30) line) line
 
 -- the two bits after it, the pair that was carried on, or on a refusal what they were
 abbrev pub d29After : Says Frame → ℕ → ℕ → List ℕ → ℕ

@@ -2,11 +2,11 @@
 ghost use mathlib.Core.Path.{_≡_};
 ghost use lib.ListN.{length};
 ghost use Rattle.corrections.specs.Corrections.{makeCorrections, saysCorrectionRead};
-ghost use Rattle.entry_bytes.specs.Rows.{countOf, entriesIn};
+ghost use Rattle.entry_bytes.specs.Rows.{countOf, entriesFrom};
 ghost use Rattle.entry_bytes.specs.Corrections.{row};
 ghost use Rattle.cabi.specs.Answer.{numberOf, left};
 ghost use Rattle.cabi.specs.Header.{headed};
-ghost use Rattle.cabi.specs.Frames.{frameIn, keptTo, heldTo};
+ghost use Rattle.cabi.specs.Frames.{frameSaid, keptTo, heldTo};
 ghost use Rattle.cabi.specs.Rows.{rowTo, rowHeld};
 ghost use Rattle.cabi.specs.Corrections.{countSaid, entrySaid, madeSaid};
 use crate::header::Headed;
@@ -21,8 +21,8 @@ const SIZE: usize = 7;
 // How many corrections a frame has. Order 14, 15, 16, 15, 16, then 6, 7, 8.
 #[no_mangle]
 pub extern "C" fn rtcm2_count_corrections(frame: &[u8], count: &mut usize) -> u8
-    ensures { λ r. ⌜ r ≡ numberOf (countSaid (frameIn (now (frame .entry)))) ⌝ }
-    ensures { λ _. ⌜ now (count .exit) ≡ left (countSaid (frameIn (now (frame .entry)))) (λ k. k) (now (count .entry)) ⌝ }
+    ensures { λ r. ⌜ r ≡ numberOf (countSaid (frameSaid (now (frame .entry)))) ⌝ }
+    ensures { λ _. ⌜ now (count .exit) ≡ left (countSaid (frameSaid (now (frame .entry)))) (λ k. k) (now (count .entry)) ⌝ }
 {
     let recalled = journal::recall(frame);
     let answer = recalled.answer;
@@ -51,8 +51,8 @@ fn entry_to(read: CorrectionRead, correction: &mut [u8]) -> u8
 // Correction number `index` of a frame. Order 14, 15, 16, 15, 16, then 6, 7, 8, 9, 13.
 #[no_mangle]
 pub extern "C" fn rtcm2_correction_at(frame: &[u8], index: usize, correction: &mut [u8]) -> u8
-    ensures { λ r. ⌜ r ≡ numberOf (rowTo row (entrySaid (frameIn (now (frame .entry))) index) (now (correction .entry))) ⌝ }
-    ensures { λ _. ⌜ now (correction .exit) ≡ rowHeld row (entrySaid (frameIn (now (frame .entry))) index) (now (correction .entry)) ⌝ }
+    ensures { λ r. ⌜ r ≡ numberOf (rowTo row (entrySaid (frameSaid (now (frame .entry))) index) (now (correction .entry))) ⌝ }
+    ensures { λ _. ⌜ now (correction .exit) ≡ rowHeld row (entrySaid (frameSaid (now (frame .entry))) index) (now (correction .entry)) ⌝ }
 {
     let recalled = journal::recall(frame);
     let answer = recalled.answer;
@@ -67,7 +67,7 @@ pub extern "C" fn rtcm2_correction_at(frame: &[u8], index: usize, correction: &m
 
 // The frame of a header and the corrections in these bytes.
 fn made_of(header: Header, corrections: &[u8]) -> Made
-    ensures { λ r. ⌜ r ≡ makeCorrections header (entriesIn row 18 (now (corrections .entry))) (countOf 7 (length (now (corrections .entry)))) ⌝ }
+    ensures { λ r. ⌜ r ≡ makeCorrections header (entriesFrom row 18 (now (corrections .entry))) (countOf 7 (length (now (corrections .entry)))) ⌝ }
 {
     let count = entry_bytes::row::count_of(SIZE, corrections.len());
     let entries = entry_bytes::correction::corrections_in(corrections);

@@ -4,10 +4,10 @@ ghost use mathlib.Core.List.{_++_};
 ghost use Prim.Native.Nat.{_+_, _*_, _-_, _≤_};
 ghost use lib.ListN as list;
 ghost use Rattle.answer.specs.Order.{answers};
-ghost use Rattle.journal.specs.Bytes.{wordIn, wordsIn};
+ghost use Rattle.journal.specs.Bytes.{wordIn, wordsFrom};
 ghost use Rattle.stage.specs.Stages.{saysMade};
 ghost use Rattle.cabi.specs.Answer.{numberOf, left};
-ghost use Rattle.cabi.specs.Frames.{keptTo, heldTo, sizeTo, wordsSaid, keepSaid, recallSaid, kindSaid, stationSaid, zSaid, sequenceSaid, healthSaid, nSaid, lengthSaid};
+ghost use Rattle.cabi.specs.Frames.{keptTo, heldTo, sizeTo, wordsSaid, keepSaid, recallSaid, kindSaid, stationSaid, zCountSaid, sequenceSaid, healthSaid, nSaid, lengthSaid};
 use crate::header::Headed;
 use crate::header::header_of;
 use frame::Frame;
@@ -57,7 +57,7 @@ fn word_at(at: usize, bytes: &[u8]) -> u32
 // The first n words, three bytes each; zeros past them.
 fn words_of(n: usize, bytes: &[u8]) -> [u32; 31]
     requires { ⌜ (n ≤ 31) × (3 * n ≤ list.length (now bytes)) ⌝ }
-    ensures { λ r. ⌜ r ≡ wordsIn 3 n (now (bytes .entry)) ++ list.replicate (31 - n) 0 ⌝ }
+    ensures { λ r. ⌜ r ≡ wordsFrom 3 n (now (bytes .entry)) ++ list.replicate (31 - n) 0 ⌝ }
 {
     let mut words = [0u32; 31];
     let mut i = 0;
@@ -122,7 +122,7 @@ pub extern "C" fn rtcm2_recall(
     ensures { λ r. ⌜ r ≡ numberOf (recallSaid (now (frame .entry))) ⌝ }
     ensures { λ _. ⌜ now (kind .exit) ≡ left (recallSaid (now (frame .entry))) kindSaid (now (kind .entry)) ⌝ }
     ensures { λ _. ⌜ now (station .exit) ≡ left (recallSaid (now (frame .entry))) stationSaid (now (station .entry)) ⌝ }
-    ensures { λ _. ⌜ now (z .exit) ≡ left (recallSaid (now (frame .entry))) zSaid (now (z .entry)) ⌝ }
+    ensures { λ _. ⌜ now (z .exit) ≡ left (recallSaid (now (frame .entry))) zCountSaid (now (z .entry)) ⌝ }
     ensures { λ _. ⌜ now (sequence .exit) ≡ left (recallSaid (now (frame .entry))) sequenceSaid (now (sequence .entry)) ⌝ }
     ensures { λ _. ⌜ now (health .exit) ≡ left (recallSaid (now (frame .entry))) healthSaid (now (health .entry)) ⌝ }
     ensures { λ _. ⌜ now (n .exit) ≡ left (recallSaid (now (frame .entry))) nSaid (now (n .entry)) ⌝ }

@@ -2,11 +2,11 @@
 ghost use mathlib.Core.Path.{_≡_};
 ghost use lib.ListN.{length};
 ghost use Rattle.healths.specs.Healths.{makeHealths, saysHealthRead};
-ghost use Rattle.entry_bytes.specs.Rows.{countOf, entriesIn};
+ghost use Rattle.entry_bytes.specs.Rows.{countOf, entriesFrom};
 ghost use Rattle.entry_bytes.specs.Healths.{row};
 ghost use Rattle.cabi.specs.Answer.{numberOf, left};
 ghost use Rattle.cabi.specs.Header.{headed};
-ghost use Rattle.cabi.specs.Frames.{frameIn, keptTo, heldTo};
+ghost use Rattle.cabi.specs.Frames.{frameSaid, keptTo, heldTo};
 ghost use Rattle.cabi.specs.Rows.{rowTo, rowHeld};
 ghost use Rattle.cabi.specs.Healths.{countSaid, entrySaid, madeSaid};
 use crate::header::Headed;
@@ -21,8 +21,8 @@ const SIZE: usize = 10;
 // How many satellites a frame has. Order 14, 15, 16, 15, 16, then 6, 7, 8.
 #[no_mangle]
 pub extern "C" fn rtcm2_count_healths(frame: &[u8], count: &mut usize) -> u8
-    ensures { λ r. ⌜ r ≡ numberOf (countSaid (frameIn (now (frame .entry)))) ⌝ }
-    ensures { λ _. ⌜ now (count .exit) ≡ left (countSaid (frameIn (now (frame .entry)))) (λ k. k) (now (count .entry)) ⌝ }
+    ensures { λ r. ⌜ r ≡ numberOf (countSaid (frameSaid (now (frame .entry)))) ⌝ }
+    ensures { λ _. ⌜ now (count .exit) ≡ left (countSaid (frameSaid (now (frame .entry)))) (λ k. k) (now (count .entry)) ⌝ }
 {
     let recalled = journal::recall(frame);
     let answer = recalled.answer;
@@ -51,8 +51,8 @@ fn entry_to(read: HealthRead, bytes: &mut [u8]) -> u8
 // Entry number `index` of a frame. Order 14, 15, 16, 15, 16, then 6, 7, 8, 9, 13.
 #[no_mangle]
 pub extern "C" fn rtcm2_health_at(frame: &[u8], index: usize, bytes: &mut [u8]) -> u8
-    ensures { λ r. ⌜ r ≡ numberOf (rowTo row (entrySaid (frameIn (now (frame .entry))) index) (now (bytes .entry))) ⌝ }
-    ensures { λ _. ⌜ now (bytes .exit) ≡ rowHeld row (entrySaid (frameIn (now (frame .entry))) index) (now (bytes .entry)) ⌝ }
+    ensures { λ r. ⌜ r ≡ numberOf (rowTo row (entrySaid (frameSaid (now (frame .entry))) index) (now (bytes .entry))) ⌝ }
+    ensures { λ _. ⌜ now (bytes .exit) ≡ rowHeld row (entrySaid (frameSaid (now (frame .entry))) index) (now (bytes .entry)) ⌝ }
 {
     let recalled = journal::recall(frame);
     let answer = recalled.answer;
@@ -67,7 +67,7 @@ pub extern "C" fn rtcm2_health_at(frame: &[u8], index: usize, bytes: &mut [u8]) 
 
 // The frame of a header and the satellites' health in these bytes.
 fn made_of(header: Header, healths: &[u8]) -> Made
-    ensures { λ r. ⌜ r ≡ makeHealths header (entriesIn row 31 (now (healths .entry))) (countOf 10 (length (now (healths .entry)))) ⌝ }
+    ensures { λ r. ⌜ r ≡ makeHealths header (entriesFrom row 31 (now (healths .entry))) (countOf 10 (length (now (healths .entry)))) ⌝ }
 {
     let count = entry_bytes::row::count_of(SIZE, healths.len());
     let entries = entry_bytes::health::healths_in(healths);

@@ -1,7 +1,7 @@
 // The null frame, type 6.
 ghost use mathlib.Core.Path.{_≡_};
 ghost use Rattle.cabi.specs.Answer.{numberOf};
-ghost use Rattle.cabi.specs.Frames.{frameIn, keptTo, heldTo, sizeTo};
+ghost use Rattle.cabi.specs.Frames.{frameSaid, keptTo, heldTo, sizeTo};
 ghost use Rattle.cabi.specs.Nulls.{nullSaid, makeSaid};
 use crate::frames::keep_made;
 use crate::header::Headed;
@@ -12,7 +12,7 @@ use nulls::NullRead;
 // Whether the frame of a record is a null frame. Order 14, 15, 16, 15, 16, then 6, 7, 8.
 #[no_mangle]
 pub extern "C" fn rtcm2_read_null(frame: &[u8]) -> u8
-    ensures { λ r. ⌜ r ≡ numberOf (nullSaid (frameIn (now (frame .entry)))) ⌝ }
+    ensures { λ r. ⌜ r ≡ numberOf (nullSaid (frameSaid (now (frame .entry)))) ⌝ }
 {
     let recalled = journal::recall(frame);
     let answer = recalled.answer;

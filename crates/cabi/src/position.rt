@@ -1,7 +1,7 @@
 // The station's position, type 3: X, Y and Z in centimetres.
 ghost use mathlib.Core.Path.{_≡_};
 ghost use Rattle.cabi.specs.Answer.{numberOf, left};
-ghost use Rattle.cabi.specs.Frames.{frameIn, keptTo, heldTo, sizeTo};
+ghost use Rattle.cabi.specs.Frames.{frameSaid, keptTo, heldTo, sizeTo};
 ghost use Rattle.cabi.specs.Positions.{positionSaid, xSaid, ySaid, zSaid, makeSaid};
 use crate::frames::keep_made;
 use crate::header::Headed;
@@ -18,10 +18,10 @@ pub extern "C" fn rtcm2_read_position(
     y_cm: &mut i32,
     z_cm: &mut i32,
 ) -> u8
-    ensures { λ r. ⌜ r ≡ numberOf (positionSaid (frameIn (now (frame .entry)))) ⌝ }
-    ensures { λ _. ⌜ now («x_cm» .exit) ≡ left (positionSaid (frameIn (now (frame .entry)))) xSaid (now («x_cm» .entry)) ⌝ }
-    ensures { λ _. ⌜ now («y_cm» .exit) ≡ left (positionSaid (frameIn (now (frame .entry)))) ySaid (now («y_cm» .entry)) ⌝ }
-    ensures { λ _. ⌜ now («z_cm» .exit) ≡ left (positionSaid (frameIn (now (frame .entry)))) zSaid (now («z_cm» .entry)) ⌝ }
+    ensures { λ r. ⌜ r ≡ numberOf (positionSaid (frameSaid (now (frame .entry)))) ⌝ }
+    ensures { λ _. ⌜ now («x_cm» .exit) ≡ left (positionSaid (frameSaid (now (frame .entry)))) xSaid (now («x_cm» .entry)) ⌝ }
+    ensures { λ _. ⌜ now («y_cm» .exit) ≡ left (positionSaid (frameSaid (now (frame .entry)))) ySaid (now («y_cm» .entry)) ⌝ }
+    ensures { λ _. ⌜ now («z_cm» .exit) ≡ left (positionSaid (frameSaid (now (frame .entry)))) zSaid (now («z_cm» .entry)) ⌝ }
 {
     let recalled = journal::recall(frame);
     let answer = recalled.answer;

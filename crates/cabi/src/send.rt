@@ -3,8 +3,8 @@ ghost use mathlib.Core.Path.{_≡_};
 ghost use Rattle.answer.specs.Order.{answers};
 ghost use Rattle.writer.specs.Answer.{openedTo};
 ghost use Rattle.cabi.specs.Answer.{numberOf};
-ghost use Rattle.cabi.specs.Frames.{frameIn};
-ghost use Rattle.cabi.specs.Send.{openSaid, writeSaid, lineAfter, d29After, d30After, countAfter};
+ghost use Rattle.cabi.specs.Frames.{frameSaid};
+ghost use Rattle.cabi.specs.Send.{openSaid, writeSaid, lineLent, d29After, d30After, countAfter};
 use frame::Frame;
 use journal::Found;
 use writer::Carried;
@@ -28,7 +28,7 @@ fn write_frame(value: Frame, d29: &mut u8, d30: &mut u8, line: &mut [u8], length
     ensures { λ r. ⌜ r ≡ numberOf (writeSaid (answers value) (now (d29 .entry)) (now (d30 .entry)) (now (line .entry))) ⌝ }
     ensures { λ _. ⌜ now (d29 .exit) ≡ d29After (answers value) (now (d29 .entry)) (now (d30 .entry)) (now (line .entry)) ⌝ }
     ensures { λ _. ⌜ now (d30 .exit) ≡ d30After (answers value) (now (d29 .entry)) (now (d30 .entry)) (now (line .entry)) ⌝ }
-    ensures { λ _. ⌜ now (line .exit) ≡ lineAfter (answers value) (now (d29 .entry)) (now (d30 .entry)) (now (line .entry)) ⌝ }
+    ensures { λ _. ⌜ now (line .exit) ≡ lineLent (answers value) (now (d29 .entry)) (now (d30 .entry)) (now (line .entry)) ⌝ }
     ensures { λ _. ⌜ now (length .exit) ≡ countAfter (answers value) (now (d29 .entry)) (now (d30 .entry)) (now (line .entry)) (now (length .entry)) ⌝ }
 {
     let carried = Carried {
@@ -58,11 +58,11 @@ pub extern "C" fn rtcm2_write(
     line: &mut [u8],
     length: &mut usize,
 ) -> u8
-    ensures { λ r. ⌜ r ≡ numberOf (writeSaid (frameIn (now (frame .entry))) (now (d29 .entry)) (now (d30 .entry)) (now (line .entry))) ⌝ }
-    ensures { λ _. ⌜ now (d29 .exit) ≡ d29After (frameIn (now (frame .entry))) (now (d29 .entry)) (now (d30 .entry)) (now (line .entry)) ⌝ }
-    ensures { λ _. ⌜ now (d30 .exit) ≡ d30After (frameIn (now (frame .entry))) (now (d29 .entry)) (now (d30 .entry)) (now (line .entry)) ⌝ }
-    ensures { λ _. ⌜ now (line .exit) ≡ lineAfter (frameIn (now (frame .entry))) (now (d29 .entry)) (now (d30 .entry)) (now (line .entry)) ⌝ }
-    ensures { λ _. ⌜ now (length .exit) ≡ countAfter (frameIn (now (frame .entry))) (now (d29 .entry)) (now (d30 .entry)) (now (line .entry)) (now (length .entry)) ⌝ }
+    ensures { λ r. ⌜ r ≡ numberOf (writeSaid (frameSaid (now (frame .entry))) (now (d29 .entry)) (now (d30 .entry)) (now (line .entry))) ⌝ }
+    ensures { λ _. ⌜ now (d29 .exit) ≡ d29After (frameSaid (now (frame .entry))) (now (d29 .entry)) (now (d30 .entry)) (now (line .entry)) ⌝ }
+    ensures { λ _. ⌜ now (d30 .exit) ≡ d30After (frameSaid (now (frame .entry))) (now (d29 .entry)) (now (d30 .entry)) (now (line .entry)) ⌝ }
+    ensures { λ _. ⌜ now (line .exit) ≡ lineLent (frameSaid (now (frame .entry))) (now (d29 .entry)) (now (d30 .entry)) (now (line .entry)) ⌝ }
+    ensures { λ _. ⌜ now (length .exit) ≡ countAfter (frameSaid (now (frame .entry))) (now (d29 .entry)) (now (d30 .entry)) (now (line .entry)) (now (length .entry)) ⌝ }
 {
     let recalled = journal::recall(frame);
     let answer = recalled.answer;

@@ -1,7 +1,7 @@
 // Text, type 16: 1 to 90 characters 1 to 127.
 ghost use mathlib.Core.Path.{_≡_};
 ghost use Rattle.cabi.specs.Answer.{numberOf};
-ghost use Rattle.cabi.specs.Frames.{frameIn, keptTo, heldTo, sizeTo};
+ghost use Rattle.cabi.specs.Frames.{frameSaid, keptTo, heldTo, sizeTo};
 ghost use Rattle.cabi.specs.Texts.{textSaid, textAfter, countAfter, makeSaid};
 use crate::frames::keep_made;
 use crate::header::Headed;
@@ -12,9 +12,9 @@ use stage::Count;
 // The text of the frame of a record, at the start of the bytes. Order 14, 15, 16, 15, 16, then 6, 7, 8, 11, 13.
 #[no_mangle]
 pub extern "C" fn rtcm2_read_text(frame: &[u8], text: &mut [u8], length: &mut usize) -> u8
-    ensures { λ r. ⌜ r ≡ numberOf (textSaid (frameIn (now (frame .entry))) (now (text .entry))) ⌝ }
-    ensures { λ _. ⌜ now (text .exit) ≡ textAfter (frameIn (now (frame .entry))) (now (text .entry)) ⌝ }
-    ensures { λ _. ⌜ now (length .exit) ≡ countAfter (frameIn (now (frame .entry))) (now (text .entry)) (now (length .entry)) ⌝ }
+    ensures { λ r. ⌜ r ≡ numberOf (textSaid (frameSaid (now (frame .entry))) (now (text .entry))) ⌝ }
+    ensures { λ _. ⌜ now (text .exit) ≡ textAfter (frameSaid (now (frame .entry))) (now (text .entry)) ⌝ }
+    ensures { λ _. ⌜ now (length .exit) ≡ countAfter (frameSaid (now (frame .entry))) (now (text .entry)) (now (length .entry)) ⌝ }
 {
     let recalled = journal::recall(frame);
     let answer = recalled.answer;

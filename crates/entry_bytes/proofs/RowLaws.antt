@@ -13,7 +13,7 @@ use borrow.Author.Tests.{lt-ltb, le-ltb, eq-eqb, ne-eqb}
 use Rattle.pack.specs.Coding.{Coding}
 use Rattle.entry_bytes.specs.declared.row.Put.{Put}
 use Rattle.entry_bytes.specs.declared.row.Put.the-variants.{Done, Refused}
-use Rattle.entry_bytes.specs.Rows.{countOf, size, entryOf, entriesIn, putBy, rowAfter}
+use Rattle.entry_bytes.specs.Rows.{countOf, rowSize, entryOf, entriesFrom, putBy, rowAfter}
 
 -- ---- how many rows
 
@@ -51,44 +51,44 @@ pub byte-first : (n : ℕ) (bs : List ℕ) (at : ℕ) → 0 < n → getD (take n
 byte-first n bs at h = byte-in n bs at 0 h ∙ ap (λ j. getD bs j 0) (add-zero at)
 
 module _ {A : Type 0} (k : Coding A) where
-  pub more : (n : ℕ) → suc n * size k ≡ size k + n * size k
-  more n = suc-mul n (size k) ∙ add-comm (n * size k) (size k)
+  pub more : (n : ℕ) → suc n * rowSize k ≡ rowSize k + n * rowSize k
+  more n = suc-mul n (rowSize k) ∙ add-comm (n * rowSize k) (rowSize k)
 
   -- ---- reading
 
-  pub length-entries : (n : ℕ) (bs : List ℕ) → length (entriesIn k n bs) ≡ n
-  unfolding entriesIn
+  pub length-entries : (n : ℕ) (bs : List ℕ) → length (entriesFrom k n bs) ≡ n
+  unfolding entriesFrom
   length-entries zero bs = refl
-  length-entries (suc n) bs = ap suc (length-entries n (drop (size k) bs))
+  length-entries (suc n) bs = ap suc (length-entries n (drop (rowSize k) bs))
 
   -- one entry more
-  entries-snoc : (n : ℕ) (bs : List ℕ) → entriesIn k (suc n) bs ≡ entriesIn k n bs ++ (entryOf k (drop (n * size k) bs) ∷ [])
-  unfolding entriesIn
-  entries-snoc zero bs = rw (zero-mul (size k))
+  entries-snoc : (n : ℕ) (bs : List ℕ) → entriesFrom k (suc n) bs ≡ entriesFrom k n bs ++ (entryOf k (drop (n * rowSize k) bs) ∷ [])
+  unfolding entriesFrom
+  entries-snoc zero bs = rw (zero-mul (rowSize k))
   entries-snoc (suc n) bs =
       ap (λ es. entryOf k bs ∷ es)
-      (entries-snoc n (drop (size k) bs)
-      ∙ ap (λ r. entriesIn k n (drop (size k) bs) ++ (entryOf k r ∷ []))
-      (drop-drop (n * size k) (size k) bs ∙ ap (λ j. drop j bs) (sym (more n))))
+      (entries-snoc n (drop (rowSize k) bs)
+      ∙ ap (λ r. entriesFrom k n (drop (rowSize k) bs) ++ (entryOf k r ∷ []))
+      (drop-drop (n * rowSize k) (rowSize k) bs ∙ ap (λ j. drop j bs) (sym (more n))))
 
   -- entry number i of the n
-  pub entry-at : (n : ℕ) (bs : List ℕ) (i : ℕ) (d : A) → i < n → getD (entriesIn k n bs) i d ≡ entryOf k (drop (i * size k) bs)
-  unfolding entriesIn
+  pub entry-at : (n : ℕ) (bs : List ℕ) (i : ℕ) (d : A) → i < n → getD (entriesFrom k n bs) i d ≡ entryOf k (drop (i * rowSize k) bs)
+  unfolding entriesFrom
   entry-at zero bs i d h = absurd (omega arith)
-  entry-at (suc n) bs zero d h = ap (λ j. entryOf k (drop j bs)) (sym (zero-mul (size k)))
+  entry-at (suc n) bs zero d h = ap (λ j. entryOf k (drop j bs)) (sym (zero-mul (rowSize k)))
   entry-at (suc n) bs (suc i) d h =
-      entry-at n (drop (size k) bs) i d (omega arith)
-      ∙ ap (entryOf k) (drop-drop (i * size k) (size k) bs ∙ ap (λ j. drop j bs) (sym (more i)))
+      entry-at n (drop (rowSize k) bs) i d (omega arith)
+      ∙ ap (entryOf k) (drop-drop (i * rowSize k) (rowSize k) bs ∙ ap (λ j. drop j bs) (sym (more i)))
 
   -- the next entry of an array whose first i are read
-  pub entry-next : (i : ℕ) (bs : List ℕ) (es : List A) (e : A) → i < length es → take i es ≡ entriesIn k i bs → e ≡ entryOf k (drop (i * size k) bs)
-      → take (i + 1) (set es i e) ≡ entriesIn k (i + 1) bs
+  pub entry-next : (i : ℕ) (bs : List ℕ) (es : List A) (e : A) → i < length es → take i es ≡ entriesFrom k i bs → e ≡ entryOf k (drop (i * rowSize k) bs)
+      → take (i + 1) (set es i e) ≡ entriesFrom k (i + 1) bs
   entry-next i bs es e h q r =
       ap (λ j. take j (set es i e)) (add-one i)
       ∙ take-suc-set es i e h
       ∙ ap₂ (λ l x. l ++ (x ∷ [])) q r
       ∙ sym (entries-snoc i bs)
-      ∙ ap (λ j. entriesIn k j bs) (sym (add-one i))
+      ∙ ap (λ j. entriesFrom k j bs) (sym (add-one i))
 
   -- ---- putting
 
@@ -96,16 +96,16 @@ module _ {A : Type 0} (k : Coding A) where
   abbrev pub Puts : A → List ℕ → Put → List ℕ → Type 0
   Puts e bs answer held = (answer ≡ putBy k bs) × (held ≡ rowAfter k e bs)
 
-  pub put-short : (e : A) (bs : List ℕ) → length bs < size k → Puts e bs (Refused 13) bs
-  put-short e bs h = let s = lt-ltb (length bs) (size k) h in (rw s, rw s)
+  pub put-short : (e : A) (bs : List ℕ) → length bs < rowSize k → Puts e bs (Refused 13) bs
+  put-short e bs h = let s = lt-ltb (length bs) (rowSize k) h in (rw s, rw s)
 
-  pub put-whole : (e : A) (bs held : List ℕ) → length (k .codes e) ≡ size k → size k ≤ length bs → held ≡ sets bs 0 (k .codes e)
+  pub put-whole : (e : A) (bs held : List ℕ) → length (k .codes e) ≡ rowSize k → rowSize k ≤ length bs → held ≡ sets bs 0 (k .codes e)
       → Puts e bs Done held
   put-whole e bs held l h q =
-      let s = le-ltb (length bs) (size k) h in
+      let s = le-ltb (length bs) (rowSize k) h in
       (rw s, rw s (q ∙ sets-eq (k .codes e) bs 0 room ∙ ap (λ j. k .codes e ++ drop j bs) past))
     where
-      past : 0 + length (k .codes e) ≡ size k
+      past : 0 + length (k .codes e) ≡ rowSize k
       past = omega (arith, l)
 
       room : 0 + length (k .codes e) ≤ length bs

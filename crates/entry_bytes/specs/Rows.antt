@@ -15,33 +15,33 @@ countOf s l = cond (eqb s 0) 0 (cond (eqb (l % s) 0) (l / s) 0)
 
 module _ {A : Type 0} (k : Coding A) where
   -- the bytes of a row
-  abbrev pub size : ℕ
-  size = length (k .widths)
+  abbrev pub rowSize : ℕ
+  rowSize = length (k .widths)
 
   -- the entry that the first row says
   abbrev pub entryOf : List ℕ → A
-  entryOf bs = k .meant (take size bs)
+  entryOf bs = k .meant (take rowSize bs)
 
   -- n entries, row after row; what is past the last byte counts as 0
-  unfoldable pub entriesIn : ℕ → List ℕ → List A
-  entriesIn zero bs = []
-  entriesIn (suc n) bs = entryOf bs ∷ entriesIn n (drop size bs)
+  unfoldable pub entriesFrom : ℕ → List ℕ → List A
+  entriesFrom zero bs = []
+  entriesFrom (suc n) bs = entryOf bs ∷ entriesFrom n (drop rowSize bs)
 
   -- the rows of entries, one after the other
-  unfoldable pub bytesOf : List A → List ℕ
-  bytesOf [] = []
-  bytesOf (e ∷ es) = k .codes e ++ bytesOf es
+  unfoldable pub rowBytes : List A → List ℕ
+  rowBytes [] = []
+  rowBytes (e ∷ es) = k .codes e ++ rowBytes es
 
   -- PUT: 13
   abbrev pub putOrder : List ℕ → List Check
-  putOrder bs = (ltb (length bs) size, 13) ∷ []
+  putOrder bs = (ltb (length bs) rowSize, 13) ∷ []
 
   abbrev pub putBy : List ℕ → Put
   putBy bs = inOrder (putOrder bs) Refused Done
 
   -- what the lent bytes then hold: the row, and past it what they held before; on a refusal what they held before
   abbrev pub rowAfter : A → List ℕ → List ℕ
-  rowAfter e bs = inOrder (putOrder bs) (λ n. bs) (k .codes e ++ drop size bs)
+  rowAfter e bs = inOrder (putOrder bs) (λ n. bs) (k .codes e ++ drop rowSize bs)
 
 -- in the table's terms
 abbrev pub saysPut : Put → Says (Unit {0})

@@ -4,12 +4,12 @@ use mathlib.Core.List.{List, [], _∷_, _++_, append-nil, append-assoc}
 use Prim.Native.Nat.{ℕ, zero, suc, _+_, _*_, _/_, _%_, _^_, _<_}
 use native.Mathlib.Nat.{zero-add, mod-eq-of-lt}
 use native.Mathlib.Omega.{arith}
-use lib.ListN.{length, take, drop}
+use lib.ListN.{length}
 use Rattle.bits.specs.Bits.{bits, number}
-use Rattle.bits.specs.Fields.{fieldsAt, packed, span}
+use Rattle.bits.specs.Fields.{fieldsAt, packed, span, octets, AreBytes}
 use Rattle.bits.proofs.Numbers.{length-bits, number-bits, number-lt, bits-number, number-append}
 use Rattle.bits.proofs.FieldLaws.{valuesOf, length-packed, fields-packed, packed-fields, fields-bits}
-use Rattle.journal.specs.Bytes.{octets, AreBytes, bytesOf, wordIn}
+use Rattle.journal.specs.Bytes.{bytesOf, wordIn}
 
 span-octets : (k : ℕ) → span (octets k) ≡ 8 * k
 span-octets zero = refl
@@ -71,15 +71,3 @@ unfolding wordIn bytesOf
 bytes-word bs f =
     ap (fieldsAt (octets (length bs)) 0) (bits-number (span (octets (length bs))) (packed (octets (length bs)) bs) (length-packed (octets (length bs)) bs))
     ∙ fields-packed (octets (length bs)) bs f
-
--- ---- bytes that each fit eight bits: so do the first ones, and those past them
-
-pub fit-take : (k : ℕ) (bs : List ℕ) → AreBytes bs → AreBytes (take k bs)
-fit-take zero bs f = tt
-fit-take (suc k) [] f = tt
-fit-take (suc k) (b ∷ bs) f = (f .0, fit-take k bs (f .1))
-
-pub fit-drop : (k : ℕ) (bs : List ℕ) → AreBytes bs → AreBytes (drop k bs)
-fit-drop zero bs f = f
-fit-drop (suc k) [] f = tt
-fit-drop (suc k) (b ∷ bs) f = fit-drop k bs (f .1)

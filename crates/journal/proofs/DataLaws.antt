@@ -9,30 +9,30 @@ use borrow.Author.Tests.{eq-eqb, ne-eqb}
 use Rattle.bits.specs.Bits.{bits}
 use Rattle.frame.specs.Header.{nOf, preambled, headerOf}
 use Rattle.frame.specs.Frames.{framed, frameOf}
-use Rattle.journal.specs.Bytes.{wordIn, wordsIn}
-use Rattle.journal.specs.Journal.{refused, recalled, frameIn}
+use Rattle.journal.specs.Bytes.{wordIn, wordsFrom}
+use Rattle.journal.specs.Journal.{refusedRecall, recalled, frameIn}
 
 -- word 1 from byte 3, word 2 from byte 6, the data words from byte 9
 words-at : (n : ℕ) (bs : List ℕ)
-    → wordsIn 3 (suc (suc n)) (drop 3 bs) ≡ wordIn (take 3 (drop 3 bs)) ∷ wordIn (take 3 (drop 6 bs)) ∷ wordsIn 3 n (drop 9 bs)
-unfolding wordsIn
+    → wordsFrom 3 (suc (suc n)) (drop 3 bs) ≡ wordIn (take 3 (drop 3 bs)) ∷ wordIn (take 3 (drop 6 bs)) ∷ wordsFrom 3 n (drop 9 bs)
+unfolding wordsFrom
 words-at n bs =
     ap (λ ws. wordIn (take 3 (drop 3 bs)) ∷ ws)
-    (ap₂ (λ l m. wordIn (take 3 l) ∷ wordsIn 3 n m) (drop-drop 3 3 bs) (ap (drop 3) (drop-drop 3 3 bs) ∙ drop-drop 3 6 bs))
+    (ap₂ (λ l m. wordIn (take 3 l) ∷ wordsFrom 3 n m) (drop-drop 3 3 bs) (ap (drop 3) (drop-drop 3 3 bs) ∙ drop-drop 3 6 bs))
 
 -- the last number of the order, by word 1 and word 2 as they are read
 module _ (n : ℕ) (bs : List ℕ) {first second : ℕ} (e₁ : first ≡ wordIn (take 3 (drop 3 bs))) (e₂ : second ≡ wordIn (take 3 (drop 6 bs))) where
-  frame-at : frameIn n (wordsIn 3 (suc (suc n)) (drop 3 bs)) ≡ frameIn n (first ∷ second ∷ wordsIn 3 n (drop 9 bs))
-  frame-at = ap (frameIn n) (words-at n bs ∙ sym (ap₂ (λ a b. a ∷ b ∷ wordsIn 3 n (drop 9 bs)) e₁ e₂))
+  frame-at : frameIn n (wordsFrom 3 (suc (suc n)) (drop 3 bs)) ≡ frameIn n (first ∷ second ∷ wordsFrom 3 n (drop 9 bs))
+  frame-at = ap (frameIn n) (words-at n bs ∙ sym (ap₂ (λ a b. a ∷ b ∷ wordsFrom 3 n (drop 9 bs)) e₁ e₂))
 
-  pub n-unequal : (n ≡ nOf (bits 24 second) → ⊥) → frameIn n (wordsIn 3 (suc (suc n)) (drop 3 bs)) ≡ refused 16
+  pub n-unequal : (n ≡ nOf (bits 24 second) → ⊥) → frameIn n (wordsFrom 3 (suc (suc n)) (drop 3 bs)) ≡ refusedRecall 16
   n-unequal h = frame-at ∙ rw (ne-eqb n (nOf (bits 24 second)) h)
 
   module _ (h : n ≡ nOf (bits 24 second)) where
-    pub preamble-wrong : preambled (bits 24 first) ≡ false → frameIn n (wordsIn 3 (suc (suc n)) (drop 3 bs)) ≡ refused 16
+    pub preamble-wrong : preambled (bits 24 first) ≡ false → frameIn n (wordsFrom 3 (suc (suc n)) (drop 3 bs)) ≡ refusedRecall 16
     preamble-wrong p = frame-at ∙ rw (eq-eqb n (nOf (bits 24 second)) h, p)
 
-    pub both-right : preambled (bits 24 first) ≡ true → frameIn n (wordsIn 3 (suc (suc n)) (drop 3 bs)) ≡ recalled n (first ∷ second ∷ wordsIn 3 n (drop 9 bs))
+    pub both-right : preambled (bits 24 first) ≡ true → frameIn n (wordsFrom 3 (suc (suc n)) (drop 3 bs)) ≡ recalled n (first ∷ second ∷ wordsFrom 3 n (drop 9 bs))
     both-right p = frame-at ∙ rw (eq-eqb n (nOf (bits 24 second)) h, p)
 
 -- the frame of word 1, word 2 and N data words

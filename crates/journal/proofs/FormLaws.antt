@@ -12,13 +12,13 @@ use lib.Seq.{take-add}
 use borrow.Author.Tests.{ltb-false, eqb-true, not-false, le-ltb, eq-eqb}
 use Rattle.answer.specs.Order.{inOrder, NoneApplies}
 use Rattle.answer.proofs.OrderLaws.{order-answers, order-map, says-none}
-use Rattle.bits.specs.Fields.{Fit}
+use Rattle.bits.specs.Fields.{Fit, AreBytes}
+use Rattle.bits.proofs.FieldLaws.{fit-drop}
 use Rattle.frame.proofs.WidthLaws.{both-false}
-use Rattle.journal.specs.Bytes.{AreBytes, written, wordsIn}
+use Rattle.journal.specs.Bytes.{written, wordsFrom}
 use Rattle.journal.specs.Forms.{mark, recordWith, lengthWith, nByte, wordsAfter, unmarked, startOrder, startBy, saysStart}
 use Rattle.journal.specs.declared.form.Start.{Start}
 use Rattle.journal.specs.declared.form.Start.the-variants.{N, Refused}
-use Rattle.journal.proofs.ByteLaws.{fit-drop}
 use Rattle.journal.proofs.WordLaws.{length-written, words-written, written-words}
 
 -- the bytes after a record's start: k for each of N + 2 words
@@ -70,7 +70,7 @@ module _ (form k n : ℕ) (ws rest : List ℕ) (l : length ws ≡ suc (suc n)) w
       long = omega (arith, length-append (written k ws) rest, length-with form k n ws l)
 
   pub record-words : Fit (replicate (length ws) (8 * k)) ws → wordsAfter k (recordWith form k n ws ++ rest) ≡ ws
-  record-words f = ap (λ m. wordsIn k m (written k ws ++ rest)) (sym l) ∙ words-written k ws rest f
+  record-words f = ap (λ m. wordsFrom k m (written k ws ++ rest)) (sym l) ∙ words-written k ws rest f
 
 -- ---- from bytes to words and back
 

@@ -11,7 +11,7 @@ use borrow.Author.Tests.{eqb-true, not-false, le-ltb, eq-eqb}
 use Rattle.answer.specs.Order.{answers, refuses, NoneApplies}
 use Rattle.answer.proofs.OrderLaws.{order-answers, order-map, none-append, none-parts, says-none}
 use Rattle.bits.specs.Bits.{bits, number}
-use Rattle.bits.specs.Fields.{Fit}
+use Rattle.bits.specs.Fields.{Fit, AreBytes}
 use Rattle.bits.proofs.Numbers.{bits-number}
 use Rattle.frame.specs.Header.{preambled, nOf, headerOf, firstWord, secondWord}
 use Rattle.frame.specs.Frames.{framed, wordsOf, frameOf, Below}
@@ -19,9 +19,8 @@ use Rattle.frame.specs.Widths.{outside}
 use Rattle.frame.specs.declared.Frame.{Frame}
 use Rattle.frame.proofs.HeaderLaws.{length-first, length-second, n-words, first-preambled}
 use Rattle.frame.proofs.FrameLaws.{header-within, n-within, below-words, frame-words, length-framed, words-frame, frame-inside}
-use Rattle.journal.specs.Bytes.{AreBytes}
 use Rattle.journal.specs.Forms.{nByte, wordsAfter, startOrder, recordWith}
-use Rattle.journal.specs.Journal.{recordOf, keepOrder, keptBy, heldBy, dataOrder, recallOrder, refused, recalled, recalledBy, saysKept, saysRecalled}
+use Rattle.journal.specs.Journal.{recordOf, keepOrder, keptBy, heldBy, dataOrder, recallOrder, refusedRecall, recalled, recalledBy, saysKept, saysRecalled}
 use Rattle.journal.specs.declared.Found.the-variants.{Record}
 use Rattle.journal.specs.declared.Kept.{Kept}
 use Rattle.journal.specs.declared.Kept.the-variants as kept
@@ -73,7 +72,7 @@ module _ (f : Frame) (full : length (f .words) ≡ 31) (e : outside f ≡ false)
     pub recall-record : recalledBy (recordOf f ++ rest) ≡ record { answer = Record (3 * f .n + 9); frame = f }
     unfolding recordOf
     recall-record =
-        order-answers refused (recalled (f .n) (wordsAfter 3 (recordOf f ++ rest))) (recallOrder (recordOf f ++ rest)) clear
+        order-answers refusedRecall (recalled (f .n) (wordsAfter 3 (recordOf f ++ rest))) (recallOrder (recordOf f ++ rest)) clear
         ∙ ap (λ ws. recalled (f .n) ws) words-back
         ∙ ap (λ g. record { answer = Record (3 * f .n + 9); frame = g }) (frame-words f e full)
 
@@ -110,13 +109,13 @@ pub record Reread (bs : List ℕ) (f : Frame) (size : ℕ) : Type 0 where
 
 module _ (bs : List ℕ) (fits : AreBytes bs) (f : Frame) (size : ℕ) (h : saysRecalled (recalledBy bs) ≡ answers (size, f)) where
   passed : NoneApplies (recallOrder bs)
-  passed = says-none saysRecalled refused (λ n. refl) (recalled (nByte bs) (wordsAfter 3 bs)) (recallOrder bs) h
+  passed = says-none saysRecalled refusedRecall (λ n. refl) (recalled (nByte bs) (wordsAfter 3 bs)) (recallOrder bs) h
 
   parts : NoneApplies (startOrder 0x32 3 bs) × NoneApplies (dataOrder (nByte bs) (wordsAfter 3 bs))
   parts = none-parts (startOrder 0x32 3 bs) (dataOrder (nByte bs) (wordsAfter 3 bs)) passed
 
   values : _≡_ {A = ℕ × Frame} (3 * nByte bs + 9, frameOf (wordsAfter 3 bs)) (size, f)
-  values = let a = ap saysRecalled (order-answers refused (recalled (nByte bs) (wordsAfter 3 bs)) (recallOrder bs) passed) in cc (a, h)
+  values = let a = ap saysRecalled (order-answers refusedRecall (recalled (nByte bs) (wordsAfter 3 bs)) (recallOrder bs) passed) in cc (a, h)
 
   again : OwnWords (nByte bs) (wordsAfter 3 bs)
   again = frame-again (nByte bs) (wordsAfter 3 bs) (length-read 3 m (drop 3 bs)) narrow (start-few 0x32 3 bs (parts .0)) (parts .1)

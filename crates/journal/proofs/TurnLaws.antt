@@ -8,23 +8,13 @@ use native.Mathlib.Omega.{arith}
 use lib.ListN.{length, take, drop, getD, set, replicate, length-take, length-drop}
 use lib.Seq.{take-suc, drop-cons, getD-take, getD-drop, length-take-le, set-at, append-snoc, sets}
 use lib.Pow.{pow-mono}
-use Rattle.journal.specs.Bytes.{bytesOf, wordIn, written, wordsIn}
+use Rattle.bits.proofs.Stores.{sets-append}
+use Rattle.journal.specs.Bytes.{bytesOf, wordIn, written, wordsFrom}
 use Rattle.journal.specs.Forms.{mark, recordWith}
 use Rattle.journal.proofs.ByteLaws.{bytes-first, length-bytes, word-lt, word-snoc}
 use Rattle.journal.proofs.WordLaws.{length-words, words-snoc}
 
 -- ---- stores
-
--- a run of stores in two parts
-pub sets-append : (a b l : List ℕ) (i : ℕ) → sets l i (a ++ b) ≡ sets (sets l i a) (i + length a) b
-sets-append [] b l i = ap (λ j. sets l j b) at-first
-  where
-    at-first : i ≡ i + 0
-    at-first = omega arith
-sets-append (x ∷ a) b l i = sets-append a b (set l i x) (suc i) ∙ ap (λ j. sets (sets (set l i x) (suc i) a) j b) one-on
-  where
-    one-on : suc i + length a ≡ i + suc (length a)
-    one-on = omega arith
 
 -- the highest of the bytes that are left
 pub store-byte : (l : List ℕ) (next left w : ℕ) → 0 < left
@@ -90,12 +80,12 @@ word-small i bs h = lt-of-lt-of-le (word-lt (take i bs)) (pow-mono short)
 
 -- the next word of an array that is 0 from there on
 pub word-filled : (k m i : ℕ) (bs : List ℕ) → i < m
-    → set (wordsIn k i bs ++ replicate (m - i) 0) i (wordIn (take k (drop (k * i) bs))) ≡ wordsIn k (i + 1) bs ++ replicate (m - (i + 1)) 0
+    → set (wordsFrom k i bs ++ replicate (m - i) 0) i (wordIn (take k (drop (k * i) bs))) ≡ wordsFrom k (i + 1) bs ++ replicate (m - (i + 1)) 0
 word-filled k m i bs h =
-    ap (λ j. set (wordsIn k i bs ++ replicate j 0) i (wordIn (take k (drop (k * i) bs)))) lower
-    ∙ set-at (wordsIn k i bs) 0 (replicate (m - (i + 1)) 0) (wordIn (take k (drop (k * i) bs))) i (length-words k i bs)
-    ∙ sym (append-snoc (wordsIn k i bs) (wordIn (take k (drop (k * i) bs))) (replicate (m - (i + 1)) 0))
-    ∙ ap (λ ws. ws ++ replicate (m - (i + 1)) 0) (sym (words-snoc k i bs) ∙ ap (λ j. wordsIn k j bs) (sym (add-one i)))
+    ap (λ j. set (wordsFrom k i bs ++ replicate j 0) i (wordIn (take k (drop (k * i) bs)))) lower
+    ∙ set-at (wordsFrom k i bs) 0 (replicate (m - (i + 1)) 0) (wordIn (take k (drop (k * i) bs))) i (length-words k i bs)
+    ∙ sym (append-snoc (wordsFrom k i bs) (wordIn (take k (drop (k * i) bs))) (replicate (m - (i + 1)) 0))
+    ∙ ap (λ ws. ws ++ replicate (m - (i + 1)) 0) (sym (words-snoc k i bs) ∙ ap (λ j. wordsFrom k j bs) (sym (add-one i)))
   where
     lower : m - i ≡ suc (m - (i + 1))
     lower = omega arith

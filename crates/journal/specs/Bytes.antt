@@ -1,17 +1,9 @@
 -- Words of k bytes each, highest bits first: what every form of record shares. Assumes nothing.
 use mathlib.Core.List.{List, [], _∷_, _++_}
 use Prim.Native.Nat.{ℕ, zero, suc}
-use lib.ListN.{length, take, drop, replicate}
+use lib.ListN.{length, take, drop}
 use Rattle.bits.specs.Bits.{bits, number}
-use Rattle.bits.specs.Fields.{fieldsAt, packed, span, Fit}
-
--- the layout of k bytes
-abbrev pub octets : ℕ → List ℕ
-octets k = replicate k 8
-
--- each of these is a byte
-abbrev pub AreBytes : List ℕ → Type 0
-AreBytes bs = Fit (octets (length bs)) bs
+use Rattle.bits.specs.Fields.{fieldsAt, packed, span, octets}
 
 -- the k bytes of a word
 unfoldable pub bytesOf : ℕ → ℕ → List ℕ
@@ -27,6 +19,6 @@ written k [] = []
 written k (w ∷ ws) = bytesOf k w ++ written k ws
 
 -- the first n words of k bytes each
-unfoldable pub wordsIn : ℕ → ℕ → List ℕ → List ℕ
-wordsIn k zero bs = []
-wordsIn k (suc n) bs = wordIn (take k bs) ∷ wordsIn k n (drop k bs)
+unfoldable pub wordsFrom : ℕ → ℕ → List ℕ → List ℕ
+wordsFrom k zero bs = []
+wordsFrom k (suc n) bs = wordIn (take k bs) ∷ wordsFrom k n (drop k bs)

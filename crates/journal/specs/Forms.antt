@@ -6,7 +6,7 @@ use Prim.Native.Nat.{ℕ, suc, _+_, _*_}
 use lib.Dec.{ltb, eqb}
 use lib.ListN.{length, drop, getD}
 use Rattle.answer.specs.Order.{Says, refuses, answers, Check, inOrder}
-use Rattle.journal.specs.Bytes.{written, wordsIn}
+use Rattle.journal.specs.Bytes.{written, wordsFrom}
 use Rattle.journal.specs.declared.form.Start.{Start}
 use Rattle.journal.specs.declared.form.Start.the-variants.{N, Refused}
 
@@ -28,7 +28,7 @@ nByte bs = getD bs 2 0
 
 -- the N + 2 words after it
 abbrev pub wordsAfter : ℕ → List ℕ → List ℕ
-wordsAfter k bs = wordsIn k (suc (suc (nByte bs))) (drop 3 bs)
+wordsAfter k bs = wordsFrom k (suc (suc (nByte bs))) (drop 3 bs)
 
 -- REFUSAL 14: fewer than two bytes, or the first two are not the mark
 unfoldable pub unmarked : ℕ → List ℕ → Bool

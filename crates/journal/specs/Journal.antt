@@ -43,8 +43,8 @@ abbrev pub dataOrder : ℕ → List ℕ → List Check
 dataOrder n ws = (not (eqb n (nOf (bits 24 (getD ws 1 0)))), 16) ∷ (not (preambled (bits 24 (getD ws 0 0))), 16) ∷ []
 
 -- a refusal, beside the blank frame; and what is found for N and the data of the N + 2 words
-abbrev pub refused : ℕ → Recalled
-refused number = record { answer = found.Refused number; frame = blank }
+abbrev pub refusedRecall : ℕ → Recalled
+refusedRecall number = record { answer = found.Refused number; frame = blank }
 
 abbrev pub recalled : ℕ → List ℕ → Recalled
 recalled n ws = record { answer = found.Record (3 * n + 9); frame = frameOf ws }
@@ -55,11 +55,11 @@ recallOrder bs = startOrder 0x32 3 bs ++ dataOrder (nByte bs) (wordsAfter 3 bs)
 
 -- RECALL: one record at the start of the bytes, its length and its frame; what follows it is ignored
 abbrev pub recalledBy : List ℕ → Recalled
-recalledBy bs = inOrder (recallOrder bs) refused (recalled (nByte bs) (wordsAfter 3 bs))
+recalledBy bs = inOrder (recallOrder bs) refusedRecall (recalled (nByte bs) (wordsAfter 3 bs))
 
 -- its part once the record is known to be whole
 abbrev pub frameIn : ℕ → List ℕ → Recalled
-frameIn n ws = inOrder (dataOrder n ws) refused (recalled n ws)
+frameIn n ws = inOrder (dataOrder n ws) refusedRecall (recalled n ws)
 
 -- ---- in the table's terms
 

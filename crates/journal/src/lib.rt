@@ -6,9 +6,9 @@ ghost use mathlib.Core.List.{_∷_, _++_};
 ghost use Prim.Native.Nat.{suc, _+_, _*_, _-_, _≤_};
 ghost use lib.ListN.{length, take, drop, replicate};
 ghost use lib.Seq.{sets};
-ghost use Rattle.journal.specs.Bytes.{written, wordsIn};
+ghost use Rattle.journal.specs.Bytes.{written, wordsFrom};
 ghost use Rattle.journal.specs.Forms.{recordWith};
-ghost use Rattle.journal.specs.Journal.{keptBy, heldBy, refused, frameIn, recalledBy};
+ghost use Rattle.journal.specs.Journal.{keptBy, heldBy, refusedRecall, frameIn, recalledBy};
 use crate::form::Start;
 use crate::form::put_start;
 use crate::form::put_word;
@@ -91,7 +91,7 @@ pub fn keep(frame: Frame, buffer: &mut [u8]) -> Kept
 // The n words from `at` on, three bytes each; zeros past them.
 fn data_at(n: usize, at: usize, bytes: &[u8]) -> [u32; 31]
     requires { ⌜ (n ≤ 31) × (at + 3 * n ≤ length (now bytes)) ⌝ }
-    ensures { λ r. ⌜ r ≡ wordsIn 3 n (drop at (now (bytes .entry))) ++ replicate (31 - n) 0 ⌝ }
+    ensures { λ r. ⌜ r ≡ wordsFrom 3 n (drop at (now (bytes .entry))) ++ replicate (31 - n) 0 ⌝ }
 {
     let mut words = [0u32; 31];
     let mut i = 0;
@@ -106,7 +106,7 @@ fn data_at(n: usize, at: usize, bytes: &[u8]) -> [u32; 31]
 
 // A refusal's number beside the blank frame.
 fn refusal(number: u8) -> Recalled
-    ensures { λ r. ⌜ r ≡ refused number ⌝ }
+    ensures { λ r. ⌜ r ≡ refusedRecall number ⌝ }
 {
     Recalled {
         answer: Found::Refused(number),
@@ -117,7 +117,7 @@ fn refusal(number: u8) -> Recalled
 // The frame of a record that is whole; 16 for another N in word 2 or a wrong preamble.
 fn frame_in(n: usize, bytes: &[u8]) -> Recalled
     requires { ⌜ (n ≤ 31) × (3 * n + 9 ≤ length (now bytes)) ⌝ }
-    ensures { λ r. ⌜ r ≡ frameIn n (wordsIn 3 (suc (suc n)) (drop 3 (now (bytes .entry)))) ⌝ }
+    ensures { λ r. ⌜ r ≡ frameIn n (wordsFrom 3 (suc (suc n)) (drop 3 (now (bytes .entry)))) ⌝ }
 {
     let first = word_at(DATA_SIZE, 3, bytes);
     let second = word_at(DATA_SIZE, 6, bytes);

@@ -8,7 +8,7 @@ use Rattle.answer.specs.Order.{refuses, answers, inOrder}
 use Rattle.answer.proofs.OrderLaws.{says-order}
 use Rattle.line.specs.Line.{isData}
 use Rattle.frame.specs.declared.Layout.the-variants as layout
-use Rattle.reader.specs.Reading.{busy, pushed, fedBy}
+use Rattle.reader.specs.Reading.{busy, steppedBy, fedBy}
 use Rattle.reader.specs.declared.Answer.the-variants.{Done, Refused}
 use Rattle.reader.specs.declared.Next.{Next}
 use Rattle.journal.specs.Journal.{recallOrder}
@@ -33,16 +33,16 @@ use Rattle.library_promises.specs.CarriesItsNumber.{LibraryNumbers}
 -- FEED: 5 for bytes that hold no state, 5, 3, 2, 1
 feed-order : (state : List ℕ) (byte : ℕ) → fedIn state byte
     ≡ inOrder (in-order.heldOrder state (busy (stateIn state) ++ ((not (isData byte), 1) ∷ []))) refuses
-    (answers (record { answer = Done; reader = pushed (stateIn state) byte }))
+    (answers (record { answer = Done; reader = steppedBy (stateIn state) byte }))
 unfolding fedIn fedBy
 feed-order state byte =
     held-order (λ (x : Next). x .answer) (λ r. fedBy r byte) state (busy (stateIn state) ++ ((not (isData byte), 1) ∷ []))
-    (λ n. record { answer = Refused n; reader = stateIn state }) (record { answer = Done; reader = pushed (stateIn state) byte })
+    (λ n. record { answer = Refused n; reader = stateIn state }) (record { answer = Done; reader = steppedBy (stateIn state) byte })
     (λ n. refl) refl refl
 
 pub library-numbers : LibraryNumbers
 library-numbers = record {
-  start = λ state. ordered (in-order.startOrder state) _ (start-order state) refl refl;
+  start = λ state. ordered (in-order.startedOrder state) _ (start-order state) refl refl;
   feed = λ state byte. ordered (in-order.heldOrder state (busy (stateIn state) ++ ((not (isData byte), 1) ∷ []))) _ (feed-order state byte) refl refl;
   feed-all = λ state bs. ordered (in-order.heldOrder state (busy (stateIn state))) _ (feed-all-order state bs) refl refl;
   line-end = λ state. ordered (in-order.heldOrder state (busy (stateIn state))) _ (end-order state) refl refl;
@@ -50,7 +50,7 @@ library-numbers = record {
   line-open = λ line. ordered (openChecks line) _ (open-order line) refl refl;
   write = λ bs fits d29 d30 line. ordered (in-order.writeOrder bs d29 d30 line) _ (write-order bs fits d29 d30 line) refl refl;
   keep = λ kind station z sequence code bs buffer.
-      ordered (in-order.keepOrder kind station z sequence code bs buffer) _ (makes.keep-order kind station z sequence code buffer bs) refl refl;
+      ordered (in-order.keptOrder kind station z sequence code bs buffer) _ (makes.keep-order kind station z sequence code buffer bs) refl refl;
   recall = λ bs. ordered (recallOrder bs) _ (reads.recall-order bs) refl refl;
   count-corrections = λ bs fits. ordered (in-order.countOrder layout.Correction 40 bs) _ (reads.corrections-counted bs fits) refl refl;
   correction-at = λ bs fits i lent.
@@ -68,7 +68,7 @@ library-numbers = record {
   read-null = λ bs fits. ordered (in-order.nullOrder bs) _ (reads.null-order bs fits) refl refl;
   make-null = λ kind station z sequence code buffer.
       ordered (in-order.nullMadeOrder kind station z sequence code buffer) _ (makes.null-made kind station z sequence code buffer) refl refl;
-  read-text = λ bs fits buffer. ordered (in-order.textOrder bs buffer) _ (reads.text-order bs fits buffer) refl refl;
+  read-text = λ bs fits buffer. ordered (in-order.textReadOrder bs buffer) _ (reads.text-order bs fits buffer) refl refl;
   make-text = λ kind station z sequence code t buffer.
       ordered (in-order.textMadeOrder kind station z sequence code t buffer) _ (makes.text-made kind station z sequence code buffer t) refl refl;
   prc-mm = λ scale prc. ordered ((ltb 1 scale, 10) ∷ []) _ (prc-says scale prc) refl refl;

@@ -7,7 +7,7 @@ use Rattle.frame.specs.declared.Frame.{Frame}
 use Rattle.pack.specs.Coding.{Coding}
 use Rattle.cabi.specs.Answer.{left}
 use Rattle.cabi.specs.Frames.{keptTo, heldTo}
-use Rattle.cabi.specs.Send.{pairOf, writeSaid, lineAfter}
+use Rattle.cabi.specs.Send.{pairOf, writeSaid, lineLent}
 use Rattle.cabi.specs.Rows.{rowTo, rowHeld}
 use Rattle.cabi.specs.Texts.{textSaid, textAfter}
 use Rattle.promises.specs.ChangesNeither.{Keeps}
@@ -15,7 +15,7 @@ use Rattle.promises.proofs.ChangesNeither.{keeps, changes-neither}
 use Rattle.library_promises.specs.ChangesNeither.{LibraryKeeps}
 use Rattle.library_promises.proofs.CarriesItsNumber.{library-numbers}
 
-write-keeps : (s : Says Frame) (d29 d30 : ℕ) (line : List ℕ) → Keeps (writeSaid s d29 d30 line) (lineAfter s d29 d30 line) line
+write-keeps : (s : Says Frame) (d29 d30 : ℕ) (line : List ℕ) → Keeps (writeSaid s d29 d30 line) (lineLent s d29 d30 line) line
 write-keeps (answers f) d29 d30 line = changes-neither .write f (pairOf d29 d30) line
 write-keeps (refuses m) d29 d30 line = λ n e. refl
 

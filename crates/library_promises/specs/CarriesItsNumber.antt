@@ -5,10 +5,10 @@ use mathlib.Core.List.{List, [], _∷_, _++_}
 use Prim.Native.Nat.{ℕ}
 use lib.Dec.{ltb}
 use lib.IntN.{ℤ}
+use Rattle.bits.specs.Fields.{AreBytes}
 use Rattle.line.specs.Line.{isData}
 use Rattle.frame.specs.declared.Layout.the-variants as layout
 use Rattle.reader.specs.Reading.{busy}
-use Rattle.journal.specs.Bytes.{AreBytes}
 use Rattle.journal.specs.Journal.{recallOrder}
 use Rattle.writer.specs.Answer.{openChecks}
 use Rattle.pack.specs.Coding.{Coding}
@@ -17,7 +17,7 @@ use Rattle.entry_bytes.specs.Rows.{putOrder, putBy, saysPut}
 use Rattle.entry_bytes.specs.Corrections as correction
 use Rattle.entry_bytes.specs.Healths as health
 use Rattle.cabi.specs.Header.{headed}
-use Rattle.cabi.specs.Frames.{frameIn, keptTo, keepSaid, recallSaid}
+use Rattle.cabi.specs.Frames.{frameSaid, keptTo, keepSaid, recallSaid}
 use Rattle.cabi.specs.Line.{startedIn, fedIn, fedAllIn, endedIn, takenIn}
 use Rattle.cabi.specs.Send.{openSaid, writeSaid}
 use Rattle.cabi.specs.Rows.{rowTo}
@@ -41,7 +41,7 @@ afterHeader numbers = 5 ∷ 5 ∷ 6 ∷ 7 ∷ numbers
 -- every exported function that can refuse, and the two that put an entry in bytes
 pub record LibraryNumbers : Type 1 where
   -- reading the line
-  pub start : (state : List ℕ) → Ordered (13 ∷ []) (in-order.startOrder state) (startedIn state)
+  pub start : (state : List ℕ) → Ordered (13 ∷ []) (in-order.startedOrder state) (startedIn state)
   pub feed : (state : List ℕ) (byte : ℕ)
       → Ordered (5 ∷ 5 ∷ 3 ∷ 2 ∷ 1 ∷ []) (in-order.heldOrder state (busy (stateIn state) ++ ((not (isData byte), 1) ∷ []))) (fedIn state byte)
   pub feed-all : (state bs : List ℕ) → Ordered (5 ∷ 5 ∷ 3 ∷ 2 ∷ []) (in-order.heldOrder state (busy (stateIn state))) (fedAllIn state bs)
@@ -50,43 +50,43 @@ pub record LibraryNumbers : Type 1 where
   -- writing the line
   pub line-open : (line : List ℕ) → Ordered (13 ∷ []) (openChecks line) (openSaid line)
   pub write : (bs : List ℕ) → AreBytes bs → (d29 d30 : ℕ) (line : List ℕ)
-      → Ordered (afterRecord (5 ∷ 5 ∷ 7 ∷ 13 ∷ [])) (in-order.writeOrder bs d29 d30 line) (writeSaid (frameIn bs) d29 d30 line)
+      → Ordered (afterRecord (5 ∷ 5 ∷ 7 ∷ 13 ∷ [])) (in-order.writeOrder bs d29 d30 line) (writeSaid (frameSaid bs) d29 d30 line)
   -- frames and their journal records
   pub keep : (kind station z sequence code : ℕ) (bs buffer : List ℕ)
-      → Ordered (5 ∷ 5 ∷ 5 ∷ 5 ∷ 13 ∷ []) (in-order.keepOrder kind station z sequence code bs buffer) (keptTo (keepSaid kind station z sequence code bs) buffer)
+      → Ordered (5 ∷ 5 ∷ 5 ∷ 5 ∷ 13 ∷ []) (in-order.keptOrder kind station z sequence code bs buffer) (keptTo (keepSaid kind station z sequence code bs) buffer)
   pub recall : (bs : List ℕ) → Ordered (afterRecord []) (recallOrder bs) (recallSaid bs)
   -- corrections
   pub count-corrections : (bs : List ℕ) → AreBytes bs
-      → Ordered (afterRecord (6 ∷ 7 ∷ 8 ∷ [])) (in-order.countOrder layout.Correction 40 bs) (corrections.countSaid (frameIn bs))
+      → Ordered (afterRecord (6 ∷ 7 ∷ 8 ∷ [])) (in-order.countOrder layout.Correction 40 bs) (corrections.countSaid (frameSaid bs))
   pub correction-at : (bs : List ℕ) → AreBytes bs → (i : ℕ) (lent : List ℕ)
       → Ordered (afterRecord (6 ∷ 7 ∷ 8 ∷ 9 ∷ 13 ∷ [])) (in-order.entryOrder layout.Correction 40 correction.row bs i lent)
-      (rowTo correction.row (corrections.entrySaid (frameIn bs) i) lent)
+      (rowTo correction.row (corrections.entrySaid (frameSaid bs) i) lent)
   pub make-corrections : (kind station z sequence code : ℕ) (bs buffer : List ℕ)
       → Ordered (afterHeader (12 ∷ 10 ∷ 13 ∷ [])) (in-order.correctionsOrder kind station z sequence code bs buffer)
       (keptTo (corrections.madeSaid (headed kind station z sequence code) bs) buffer)
   -- constellation health
   pub count-healths : (bs : List ℕ) → AreBytes bs
-      → Ordered (afterRecord (6 ∷ 7 ∷ 8 ∷ [])) (in-order.countOrder layout.Health 24 bs) (healths.countSaid (frameIn bs))
+      → Ordered (afterRecord (6 ∷ 7 ∷ 8 ∷ [])) (in-order.countOrder layout.Health 24 bs) (healths.countSaid (frameSaid bs))
   pub health-at : (bs : List ℕ) → AreBytes bs → (i : ℕ) (lent : List ℕ)
       → Ordered (afterRecord (6 ∷ 7 ∷ 8 ∷ 9 ∷ 13 ∷ [])) (in-order.entryOrder layout.Health 24 health.row bs i lent)
-      (rowTo health.row (healths.entrySaid (frameIn bs) i) lent)
+      (rowTo health.row (healths.entrySaid (frameSaid bs) i) lent)
   pub make-healths : (kind station z sequence code : ℕ) (bs buffer : List ℕ)
       → Ordered (afterHeader (12 ∷ 10 ∷ 13 ∷ [])) (in-order.healthsOrder kind station z sequence code bs buffer)
       (keptTo (healths.madeSaid (headed kind station z sequence code) bs) buffer)
   -- the station's position
   pub read-position : (bs : List ℕ) → AreBytes bs
-      → Ordered (afterRecord (6 ∷ 7 ∷ 8 ∷ 10 ∷ [])) (in-order.positionOrder bs) (positions.positionSaid (frameIn bs))
+      → Ordered (afterRecord (6 ∷ 7 ∷ 8 ∷ 10 ∷ [])) (in-order.positionOrder bs) (positions.positionSaid (frameSaid bs))
   pub make-position : (kind station z sequence code : ℕ) (x y up : ℤ) (buffer : List ℕ)
       → Ordered (afterHeader (10 ∷ 13 ∷ [])) (in-order.positionMadeOrder kind station z sequence code (record { x = x; y = y; z = up }) buffer)
       (keptTo (positions.makeSaid kind station z sequence code x y up) buffer)
   -- the null frame
-  pub read-null : (bs : List ℕ) → AreBytes bs → Ordered (afterRecord (6 ∷ 7 ∷ 8 ∷ [])) (in-order.nullOrder bs) (nulls.nullSaid (frameIn bs))
+  pub read-null : (bs : List ℕ) → AreBytes bs → Ordered (afterRecord (6 ∷ 7 ∷ 8 ∷ [])) (in-order.nullOrder bs) (nulls.nullSaid (frameSaid bs))
   pub make-null : (kind station z sequence code : ℕ) (buffer : List ℕ)
       → Ordered (afterHeader (13 ∷ [])) (in-order.nullMadeOrder kind station z sequence code buffer)
       (keptTo (nulls.makeSaid kind station z sequence code) buffer)
   -- text
   pub read-text : (bs : List ℕ) → AreBytes bs → (buffer : List ℕ)
-      → Ordered (afterRecord (6 ∷ 7 ∷ 8 ∷ 11 ∷ 13 ∷ [])) (in-order.textOrder bs buffer) (texts.textSaid (frameIn bs) buffer)
+      → Ordered (afterRecord (6 ∷ 7 ∷ 8 ∷ 11 ∷ 13 ∷ [])) (in-order.textReadOrder bs buffer) (texts.textSaid (frameSaid bs) buffer)
   pub make-text : (kind station z sequence code : ℕ) (t buffer : List ℕ)
       → Ordered (afterHeader (12 ∷ 11 ∷ 13 ∷ [])) (in-order.textMadeOrder kind station z sequence code t buffer)
       (keptTo (texts.makeSaid kind station z sequence code t) buffer)

@@ -9,7 +9,7 @@ use Rattle.writer.specs.Answer.{openedTo}
 use Rattle.pack.specs.Coding.{Coding}
 use Rattle.cabi.specs.Answer.{left}
 use Rattle.cabi.specs.Frames.{keptTo, heldTo}
-use Rattle.cabi.specs.Send.{openSaid, writeSaid, lineAfter}
+use Rattle.cabi.specs.Send.{openSaid, writeSaid, lineLent}
 use Rattle.cabi.specs.Rows.{rowTo, rowHeld}
 use Rattle.cabi.specs.Texts.{textSaid, textAfter}
 use Rattle.promises.specs.ChangesNeither.{Keeps}
@@ -19,7 +19,7 @@ pub record LibraryKeeps : Type 1 where
   pub place : {A B : Type 0} (s : Says A) (put : A → B) (held : B) → Keeps s (left s put held) held
   -- the line
   pub line-open : (line : List ℕ) → Keeps (openSaid line) (openedTo line) line
-  pub write : (s : Says Frame) (d29 d30 : ℕ) (line : List ℕ) → Keeps (writeSaid s d29 d30 line) (lineAfter s d29 d30 line) line
+  pub write : (s : Says Frame) (d29 d30 : ℕ) (line : List ℕ) → Keeps (writeSaid s d29 d30 line) (lineLent s d29 d30 line) line
   -- a frame that is made or kept
   pub frame : (s : Says Frame) (buffer : List ℕ) → Keeps (keptTo s buffer) (heldTo s buffer) buffer
   -- a text

@@ -3,7 +3,6 @@ use libc::STDERR_FILENO;
 use libc::STDIN_FILENO;
 use libc::STDOUT_FILENO;
 use listing::Listing;
-use reader::Answer;
 
 // How a step of the run ended: it goes on, the input is at its end, or a call of the system failed.
 enum Step {

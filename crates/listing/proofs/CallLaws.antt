@@ -17,7 +17,7 @@ use Rattle.reader.specs.declared.Next.{Next}
 use Rattle.reader.specs.declared.Answer.{Answer}
 use Rattle.reader.specs.declared.Answer.the-variants.{Done, Refused}
 use Rattle.listing.specs.Text.{lastLine}
-use Rattle.listing.specs.Listing.{Lines, linesOf, linedBy, lineRoom, readyBy, refused, listed, pieceBy, pieceText, endRoom, endedOn, finalLines, finishBy, finishText}
+use Rattle.listing.specs.Listing.{Lines, linesOf, linedBy, lineRoom, readyBy, refusedListing, listed, pieceBy, pieceText, endRoom, endedOn, finalLines, finishBy, finishText}
 use Rattle.listing.specs.declared.Listing.{Listing}
 use Rattle.listing.specs.declared.Listed.{Listed}
 use Rattle.listing.specs.declared.Lined.{Lined}
@@ -49,7 +49,7 @@ module _ {A : Type 0} (refuse : ℕ → A) (done : A) (cs : List Check) (room le
   stage-done e h = staged ∙ ap (onAnswer refuse (inOrder short refuse done)) e ∙ ap (λ t. cond t (refuse 13) done) (le-ltb room least h)
 
 -- a refusal uses and writes nothing
-pub nothing : (l : Listing) (n : ℕ) (r : Listed) → r ≡ refused l n → (a b : ℕ) → (r .used ≤ a) × (r .written ≤ b)
+pub nothing : (l : Listing) (n : ℕ) (r : Listed) → r ≡ refusedListing l n → (a b : ℕ) → (r .used ≤ a) × (r .written ≤ b)
 nothing l n r e a b = (subst (λ (x : Listed). x .used ≤ a) (sym e) (omega arith), subst (λ (x : Listed). x .written ≤ b) (sym e) (omega arith))
 
 -- ---- a piece
@@ -61,17 +61,17 @@ module _ (l : Listing) (bs out : List ℕ) (a : Answer) (is : a ≡ readyBy (l .
   ready : List Check
   ready = (past (l .reader), 5) ∷ (l .reader .ended, 3) ∷ []
 
-  pub piece-refused : (n : ℕ) → a ≡ Refused n → (r : Listed) → r ≡ refused l n → (r ≡ pieceBy l bs (length out)) × (out ≡ pieceText l bs out)
+  pub piece-refused : (n : ℕ) → a ≡ Refused n → (r : Listed) → r ≡ refusedListing l n → (r ≡ pieceBy l bs (length out)) × (out ≡ pieceText l bs out)
   unfolding pieceBy pieceText lines ready
   piece-refused n e r k = (
-    k ∙ sym (stage-refused (refused l) (listed lines) ready (length out) lineRoom a is n e),
+    k ∙ sym (stage-refused (refusedListing l) (listed lines) ready (length out) lineRoom a is n e),
     sym (stage-refused (λ m. out) (sets out 0 (lines .text)) ready (length out) lineRoom a is n e),
   )
 
-  pub piece-short : a ≡ Done → length out < lineRoom → (r : Listed) → r ≡ refused l 13 → (r ≡ pieceBy l bs (length out)) × (out ≡ pieceText l bs out)
+  pub piece-short : a ≡ Done → length out < lineRoom → (r : Listed) → r ≡ refusedListing l 13 → (r ≡ pieceBy l bs (length out)) × (out ≡ pieceText l bs out)
   unfolding pieceBy pieceText lines ready
   piece-short e h r k = (
-    k ∙ sym (stage-short (refused l) (listed lines) ready (length out) lineRoom a is e h),
+    k ∙ sym (stage-short (refusedListing l) (listed lines) ready (length out) lineRoom a is e h),
     sym (stage-short (λ m. out) (sets out 0 (lines .text)) ready (length out) lineRoom a is e h),
   )
 
@@ -81,7 +81,7 @@ module _ (l : Listing) (bs out : List ℕ) (a : Answer) (is : a ≡ readyBy (l .
   unfolding pieceBy pieceText lines ready linedBy
   piece-done e h lined k out′ o = (
     ap (λ (x : Lined). record { answer = Done; used = x .used; written = x .written; listing = x .listing }) k
-        ∙ sym (stage-done (refused l) (listed lines) ready (length out) lineRoom a is e h),
+        ∙ sym (stage-done (refusedListing l) (listed lines) ready (length out) lineRoom a is e h),
     o ∙ sym (stage-done (λ m. out) (sets out 0 (lines .text)) ready (length out) lineRoom a is e h),
   )
 
@@ -97,17 +97,17 @@ module _ (l : Listing) (out : List ℕ) (e : Next) (is : e ≡ endedBy (l .reade
   answer-is : e .answer ≡ inOrder (busy (l .reader)) Refused Done
   answer-is = ap (λ (x : Next). x .answer) is ∙ end-answer (l .reader)
 
-  pub finish-refused : (n : ℕ) → e .answer ≡ Refused n → (r : Listed) → r ≡ refused l n → (r ≡ finishBy l (length out)) × (out ≡ finishText l out)
+  pub finish-refused : (n : ℕ) → e .answer ≡ Refused n → (r : Listed) → r ≡ refusedListing l n → (r ≡ finishBy l (length out)) × (out ≡ finishText l out)
   unfolding finishBy finishText
   finish-refused n f r k = (
-    k ∙ sym (stage-refused (refused l) (listed (finalLines l)) (busy (l .reader)) (length out) endRoom (e .answer) answer-is n f),
+    k ∙ sym (stage-refused (refusedListing l) (listed (finalLines l)) (busy (l .reader)) (length out) endRoom (e .answer) answer-is n f),
     sym (stage-refused (λ m. out) (sets out 0 (finalLines l .text)) (busy (l .reader)) (length out) endRoom (e .answer) answer-is n f),
   )
 
-  pub finish-short : e .answer ≡ Done → length out < endRoom → (r : Listed) → r ≡ refused l 13 → (r ≡ finishBy l (length out)) × (out ≡ finishText l out)
+  pub finish-short : e .answer ≡ Done → length out < endRoom → (r : Listed) → r ≡ refusedListing l 13 → (r ≡ finishBy l (length out)) × (out ≡ finishText l out)
   unfolding finishBy finishText
   finish-short f h r k = (
-    k ∙ sym (stage-short (refused l) (listed (finalLines l)) (busy (l .reader)) (length out) endRoom (e .answer) answer-is f h),
+    k ∙ sym (stage-short (refusedListing l) (listed (finalLines l)) (busy (l .reader)) (length out) endRoom (e .answer) answer-is f h),
     sym (stage-short (λ m. out) (sets out 0 (finalLines l .text)) (busy (l .reader)) (length out) endRoom (e .answer) answer-is f h),
   )
 
@@ -142,6 +142,6 @@ module _ (l : Listing) (out : List ℕ) (e : Next) (is : e ≡ endedBy (l .reade
     pub finish-done : (record { answer = Done; used = 0; written = written; listing = lined .listing } ≡ finishBy l (length out)) × (out₂ ≡ finishText l out)
     unfolding finishBy finishText
     finish-done = (
-      answered ∙ ap listed final-is ∙ sym (stage-done (refused l) (listed (finalLines l)) (busy (l .reader)) (length out) endRoom (e .answer) answer-is f h),
+      answered ∙ ap listed final-is ∙ sym (stage-done (refusedListing l) (listed (finalLines l)) (busy (l .reader)) (length out) endRoom (e .answer) answer-is f h),
       stored ∙ ap (λ y. sets out 0 (y .text)) final-is ∙ sym (stage-done (λ m. out) (sets out 0 (finalLines l .text)) (busy (l .reader)) (length out) endRoom (e .answer) answer-is f h),
     )

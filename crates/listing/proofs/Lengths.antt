@@ -9,7 +9,7 @@ use Rattle.frame.specs.declared.Frame.{Frame}
 use Rattle.reader.specs.Reading.{endedBy, takenBy}
 use Rattle.reader.specs.declared.Answer.{Answer}
 use Rattle.reader.specs.declared.Answer.the-variants.{Done, Refused}
-use Rattle.listing.specs.Text.{decimal, newline, mark, spaced, numbersOf, frameLine, framesLabel, bytesLabel, passedLabel, lastLine}
+use Rattle.listing.specs.Text.{decimal, newline, afterNumber, spaced, lineNumbers, frameLine, framesLabel, bytesLabel, passedLabel, lastLine}
 use Rattle.listing.specs.Listing.{fedOn, handedOn, endedOn, Lines, lineThen, linesOf, lineRoom, endRoom, finalLines}
 use Rattle.listing.specs.declared.Listing.{Listing}
 use Rattle.listing.proofs.TextLaws.{digits-le, length-decimal}
@@ -21,10 +21,10 @@ decimal-le n = omega (arith, length-decimal n, digits-le 20 n)
 spaced-le : (ns : List ℕ) → length (spaced ns) ≤ 21 * length ns
 unfolding spaced
 spaced-le [] = omega arith
-spaced-le (n ∷ ns) = omega (arith, length-append (decimal n) (mark ns ∷ spaced ns), decimal-le n, spaced-le ns)
+spaced-le (n ∷ ns) = omega (arith, length-append (decimal n) (afterNumber ns ∷ spaced ns), decimal-le n, spaced-le ns)
 
 line-le : (at : ℕ) (f : Frame) → length (frameLine at f) ≤ lineRoom
-line-le at f = spaced-le (numbersOf at f)
+line-le at f = spaced-le (lineNumbers at f)
 
 last-le : (a b c : ℕ) → length (lastLine a b c) ≤ lineRoom
 unfolding lastLine

@@ -9,6 +9,7 @@ use lib.ListN.{length, take, drop, length-append, length-drop}
 use lib.Seq.{sets, take-all, drop-drop}
 use Rattle.answer.specs.Order.{inOrder}
 use Rattle.bits.specs.Bits.{number}
+use Rattle.bits.proofs.Stores.{sets-append}
 use Rattle.line.specs.Line.{isData, six}
 use Rattle.frame.specs.Header.{headerOf}
 use Rattle.frame.specs.Frames.{framed, frameOf, blank}
@@ -24,7 +25,6 @@ use Rattle.listing.specs.Text.{frameLine}
 use Rattle.listing.specs.Listing.{fedOn, handedOn, Lines, lineThen, linesOf, linedBy}
 use Rattle.listing.specs.declared.Listing.{Listing}
 use Rattle.listing.specs.declared.Fed.{Fed}
-use Rattle.listing.proofs.StoreLaws.{sets-append}
 
 -- ---- the reader's answers
 

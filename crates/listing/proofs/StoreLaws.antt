@@ -6,17 +6,7 @@ use native.Mathlib.Numerals.{add-one}
 use native.Mathlib.Omega.{arith}
 use lib.ListN.{length, getD, set, drop, length-append, length-set}
 use lib.Seq.{sets, length-sets, drop-cons}
-
--- a run of stores in two parts
-pub sets-append : (a b l : List ℕ) (i : ℕ) → sets l i (a ++ b) ≡ sets (sets l i a) (i + length a) b
-sets-append [] b l i = ap (λ j. sets l j b) at-first
-  where
-    at-first : i ≡ i + 0
-    at-first = omega arith
-sets-append (x ∷ a) b l i = sets-append a b (set l i x) (suc i) ∙ ap (λ j. sets (sets (set l i x) (suc i) a) j b) one-on
-  where
-    one-on : suc i + length a ≡ i + suc (length a)
-    one-on = omega arith
+use Rattle.bits.proofs.Stores.{sets-append}
 
 -- two stores at different places, in either order
 set-apart : (l : List ℕ) (i j x y : ℕ) → i < j → set (set l i x) j y ≡ set (set l j y) i x

@@ -10,13 +10,14 @@ use lib.Dec.{ltb, eqb}
 use lib.ListN.{length, drop, getD, set, length-append, drop-of-length-le}
 use lib.Seq.{sets, drop-cons}
 use borrow.Author.Tests.{eqb-true, eqb-false, lt-ltb, le-ltb}
+use Rattle.bits.proofs.Stores.{sets-append}
 use Rattle.frame.specs.Header.{codeOf}
 use Rattle.frame.specs.Widths.{stateOutside}
 use Rattle.frame.specs.Answer.{healthOf}
 use Rattle.frame.specs.declared.State.{State}
 use Rattle.frame.specs.declared.Health.the-variants.{Code, Refused}
-use Rattle.listing.specs.Text.{lastDigits, digitsUpTo, decimal, space, newline, mark, spaced, framesLabel, bytesLabel, passedLabel, lastLine}
-use Rattle.listing.proofs.StoreLaws.{sets-append, sets-last, length-stored, length-marked, stored-then}
+use Rattle.listing.specs.Text.{lastDigits, digitsUpTo, decimal, space, newline, afterNumber, spaced, framesLabel, bytesLabel, passedLabel, lastLine}
+use Rattle.listing.proofs.StoreLaws.{sets-last, length-stored, length-marked, stored-then}
 
 -- ---- digits
 
@@ -89,15 +90,15 @@ store-digit l place (suc k) left h =
 -- ---- a line of numbers
 
 -- after number i of m + 1
-pub mark-after : (ns : List ℕ) (i m : ℕ) → length ns ≡ suc m → i ≤ m → mark (drop (i + 1) ns) ≡ cond (eqb i m) newline space
-mark-after ns i m l h = go (eqb i m) refl
+pub after-number : (ns : List ℕ) (i m : ℕ) → length ns ≡ suc m → i ≤ m → afterNumber (drop (i + 1) ns) ≡ cond (eqb i m) newline space
+after-number ns i m l h = go (eqb i m) refl
   where
-    go : (t : Bool) → eqb i m ≡ t → mark (drop (i + 1) ns) ≡ cond t newline space
-    go true e = ap mark (drop-of-length-le ns {i = i + 1} all)
+    go : (t : Bool) → eqb i m ≡ t → afterNumber (drop (i + 1) ns) ≡ cond t newline space
+    go true e = ap afterNumber (drop-of-length-le ns {i = i + 1} all)
       where
         all : length ns ≤ i + 1
         all = let last = eqb-true i m e in omega arith
-    go false e = ap mark (drop-cons ns (i + 1) 0 more)
+    go false e = ap afterNumber (drop-cons ns (i + 1) 0 more)
       where
         more : i + 1 < length ns
         more = let not-last = eqb-false i m e in omega arith
@@ -108,7 +109,7 @@ pub spaced-next : (ns : List ℕ) (i m : ℕ) → length ns ≡ suc m → i ≤ 
 unfolding spaced
 spaced-next ns i m l h =
     ap spaced (drop-cons ns i 0 inside ∙ ap (λ j. getD ns i 0 ∷ drop j ns) (sym (add-one i)))
-    ∙ ap (λ x. decimal (getD ns i 0) ++ (x ∷ spaced (drop (i + 1) ns))) (mark-after ns i m l h)
+    ∙ ap (λ x. decimal (getD ns i 0) ++ (x ∷ spaced (drop (i + 1) ns))) (after-number ns i m l h)
   where
     inside : i < length ns
     inside = omega arith

@@ -73,8 +73,8 @@ abbrev pub readyBy : Reader → Answer
 readyBy r = inOrder ((past r, 5) ∷ (r .ended, 3) ∷ []) Refused Done
 
 -- a refusal reads and writes nothing
-abbrev pub refused : Listing → ℕ → Listed
-refused l n = record { answer = Refused n; used = 0; written = 0; listing = l }
+abbrev pub refusedListing : Listing → ℕ → Listed
+refusedListing l n = record { answer = Refused n; used = 0; written = 0; listing = l }
 
 abbrev pub listed : Lines → Listed
 listed x = record { answer = Done; used = x .used; written = length (x .text); listing = x .listing }
@@ -83,7 +83,7 @@ abbrev pub pieceOrder : Listing → ℕ → List Check
 pieceOrder l room = (past (l .reader), 5) ∷ (l .reader .ended, 3) ∷ (ltb room lineRoom, 13) ∷ []
 
 unfoldable pub pieceBy : Listing → List ℕ → ℕ → Listed
-pieceBy l bs room = inOrder (pieceOrder l room) (refused l) (listed (linesOf (room / lineRoom) l bs))
+pieceBy l bs room = inOrder (pieceOrder l room) (refusedListing l) (listed (linesOf (room / lineRoom) l bs))
 
 -- the output buffer after it
 unfoldable pub pieceText : Listing → List ℕ → List ℕ → List ℕ
@@ -110,7 +110,7 @@ abbrev pub endOrder : Listing → ℕ → List Check
 endOrder l room = busy (l .reader) ++ ((ltb room endRoom, 13) ∷ [])
 
 unfoldable pub finishBy : Listing → ℕ → Listed
-finishBy l room = inOrder (endOrder l room) (refused l) (listed (finalLines l))
+finishBy l room = inOrder (endOrder l room) (refusedListing l) (listed (finalLines l))
 
 unfoldable pub finishText : Listing → List ℕ → List ℕ
 finishText l out = inOrder (endOrder l (length out)) (λ n. out) (sets out 0 (finalLines l .text))

@@ -37,23 +37,23 @@ abbrev pub newline : ℕ
 newline = 10
 
 -- what stands after a number: a space where another one follows, a newline after the last
-abbrev pub mark : List ℕ → ℕ
-mark [] = newline
-mark (n ∷ ns) = space
+abbrev pub afterNumber : List ℕ → ℕ
+afterNumber [] = newline
+afterNumber (n ∷ ns) = space
 
 -- a line of numbers
 unfoldable pub spaced : List ℕ → List ℕ
 spaced [] = []
-spaced (n ∷ ns) = decimal n ++ (mark ns ∷ spaced ns)
+spaced (n ∷ ns) = decimal n ++ (afterNumber ns ∷ spaced ns)
 
 -- A FRAME'S LINE: first bit position, type, station, Z count, sequence, N, health
-abbrev pub numbersOf : ℕ → Frame → List ℕ
-numbersOf at f =
+abbrev pub lineNumbers : ℕ → Frame → List ℕ
+lineNumbers at f =
     let h = f .header in
     at ∷ h .kind ∷ h .station ∷ h .z ∷ h .sequence ∷ f .n ∷ codeOf (h .state) ∷ []
 
 abbrev pub frameLine : ℕ → Frame → List ℕ
-frameLine at f = spaced (numbersOf at f)
+frameLine at f = spaced (lineNumbers at f)
 
 -- "frames ", " bytes ", " passed "
 abbrev pub framesLabel : List ℕ

@@ -3,7 +3,7 @@ ghost use mathlib.Core.Path.{_≡_};
 ghost use Prim.Native.Nat.{_*_, _≤_};
 ghost use lib.ListN.{length};
 ghost use lib.Seq.{sets};
-ghost use Rattle.listing.specs.Listing.{begun, fedOn, handedOn, endedOn, linesOf, linedBy, lineRoom, readyBy, refused, pieceBy, pieceText, finishBy, finishText};
+ghost use Rattle.listing.specs.Listing.{begun, fedOn, handedOn, endedOn, linesOf, linedBy, lineRoom, readyBy, refusedListing, pieceBy, pieceText, finishBy, finishText};
 
 mod text;
 
@@ -153,7 +153,7 @@ fn readiness(reader: Reader) -> Answer
 
 // A refusal reads and writes nothing.
 fn refusal(listing: Listing, n: u8) -> Listed
-    ensures { λ r. ⌜ r ≡ refused listing n ⌝ }
+    ensures { λ r. ⌜ r ≡ refusedListing listing n ⌝ }
 {
     Listed {
         answer: Answer::Refused(n),

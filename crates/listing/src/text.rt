@@ -46,7 +46,7 @@ fn put_number(n: u64, place: usize, buffer: &mut [u8]) -> usize
 }
 
 // What stands after number i of seven: a newline after the last, else a space.
-fn mark_after(i: usize) -> u8
+fn after_number(i: usize) -> u8
     ensures { λ r. ⌜ r ≡ cond (eqb i 6) 10 32 ⌝ }
 {
     if i == 6 {
@@ -65,7 +65,7 @@ fn put_numbers(numbers: &[u64; 7], place: usize, buffer: &mut [u8]) -> usize
     let mut i: usize = 0;
     while i < 7 {
         next = put_number(numbers[i], next, buffer);
-        buffer[next] = mark_after(i);
+        buffer[next] = after_number(i);
         next += 1;
         i += 1;
     }

@@ -7,7 +7,7 @@ use Prim.Native.Nat.{ℕ, _*_}
 use native.Mathlib.Omega.{arith}
 use lib.Dec.{ltb}
 use Rattle.answer.specs.Order.{Says, refuses, answers, Check, inOrder, NoneApplies, FirstIs}
-use Rattle.answer.proofs.OrderLaws.{order-answers, order-refuses, order-map, first-or-none}
+use Rattle.answer.proofs.OrderLaws.{order-answers, order-refuses, order-map, first-or-none, refuses-apart}
 use Rattle.line.specs.Answer.{saysSix}
 use Rattle.line.specs.declared.Six.the-variants as six
 use Rattle.word.specs.Answer.{saysSent}
@@ -27,7 +27,7 @@ use Rattle.reader.specs.declared.Taken.{Taken}
 use Rattle.writer.specs.Answer.{saysOpened, saysWritten}
 use Rattle.writer.specs.declared.Opened.the-variants as opened
 use Rattle.writer.specs.declared.Written.the-variants as written
-use Rattle.journal.specs.Journal.{refused, saysKept, saysRecalled}
+use Rattle.journal.specs.Journal.{refusedRecall, saysKept, saysRecalled}
 use Rattle.journal.specs.declared.Kept.the-variants as kept
 use Rattle.stage.specs.Stages.{refusedMade, doneMade, saysAsked, saysCounted, saysSize, saysCount, saysMade}
 use Rattle.corrections.specs.Corrections.{countCorrections, correctionAt, makeCorrections, saysCorrectionRead}
@@ -48,17 +48,14 @@ use Rattle.value.proofs.AnswerLaws.{prc-says, rrc-says, udre-says, cn0-says, mi
 use Rattle.listing.specs.Listing.{pieceBy, finishBy}
 use Rattle.listing.specs.Listing as listing
 use Rattle.listing.specs.declared.Listed.{Listed}
-use Rattle.promises.specs.CarriesItsNumber.{numbersOf, Ordered, CarriesItsNumber}
-
-pub says-apart : {A : Type 0} (n : ℕ) (v : A) → refuses n ≡ answers v → ⊥
-says-apart n v e = let z : _≡_ {A = ℕ} 0 1 = cc in omega arith
+use Rattle.promises.specs.CarriesItsNumber.{checkNumbers, Ordered, CarriesItsNumber}
 
 number-inj : {A : Type 0} (m n : ℕ) → _≡_ {A = Says A} (refuses m) (refuses n) → m ≡ n
 number-inj m n e = cc
 
 -- what an order says is its first number or its value
 pub ordered : {A : Type 0} {numbers : List ℕ} (cs : List Check) {s : Says A} (value : A) → s ≡ inOrder cs refuses (answers value)
-    → numbersOf cs ≡ numbers → anyOf (λ n. ltb n 1 || ltb 16 n) numbers ≡ false → Ordered numbers cs s
+    → checkNumbers cs ≡ numbers → anyOf (λ n. ltb n 1 || ltb 16 n) numbers ≡ false → Ordered numbers cs s
 ordered {A} {numbers} cs {s} value e numbered table = record {
   numbered = numbered;
   table = table;
@@ -68,13 +65,13 @@ ordered {A} {numbers} cs {s} value e numbered table = record {
 }
   where
     go : (n : ℕ) → s ≡ refuses n → NoneApplies cs ⊎ ((m : ℕ) × FirstIs cs m) → FirstIs cs n
-    go n h (inl none) = absurd (says-apart n value (sym h ∙ e ∙ order-answers refuses (answers value) cs none))
+    go n h (inl none) = absurd (refuses-apart n value (sym h ∙ e ∙ order-answers refuses (answers value) cs none))
     go n h (inr (m, first)) = subst (FirstIs cs) (number-inj m n (sym (e ∙ order-refuses refuses (answers value) cs m first) ∙ h)) first
 
 -- the same through an answer's own type
 told : {A X : Type 0} {numbers : List ℕ} {cs : List Check} (says : X → Says A) (refuse : ℕ → X) (answer : X) (value : A)
     → inOrder cs (λ n. says (refuse n)) (says answer) ≡ inOrder cs refuses (answers value)
-    → numbersOf cs ≡ numbers → anyOf (λ n. ltb n 1 || ltb 16 n) numbers ≡ false → Ordered numbers cs (says (inOrder cs refuse answer))
+    → checkNumbers cs ≡ numbers → anyOf (λ n. ltb n 1 || ltb 16 n) numbers ≡ false → Ordered numbers cs (says (inOrder cs refuse answer))
 told {cs} says refuse answer value e numbered table = ordered cs value (order-map says cs refuse answer ∙ e) numbered table
 
 pub carries-its-number : CarriesItsNumber
@@ -99,7 +96,7 @@ carries-its-number = record {
   write = λ f c buffer. told saysWritten written.Refused _ _ refl refl refl;
   writer-open = λ buffer. told saysOpened opened.Refused _ _ refl refl refl;
   keep = λ f buffer. told saysKept kept.Refused _ _ refl refl refl;
-  recall = λ bs. told saysRecalled refused _ _ refl refl refl;
+  recall = λ bs. told saysRecalled refusedRecall _ _ refl refl refl;
   six-of = λ b. told saysSix six.Refused _ _ refl refl refl;
   word-of = λ c d. told saysSent sent.Refused _ _ refl refl refl;
   health-of = λ s. told saysHealth health.Refused _ _ refl refl refl;
@@ -116,8 +113,8 @@ carries-its-number = record {
   cn0-dbhz = λ code. ordered ((ltb 31 code, 10) ∷ []) (cn0Value code) (cn0-says code) refl refl;
   value-minutes = λ code. ordered ((ltb 15 code, 10) ∷ []) (5 * code) (minutes-says code) refl refl;
   z-tenths = λ z. ordered ((ltb 8191 z, 5) ∷ (late z, 7) ∷ []) (6 * z) (z-says z) refl refl;
-  list-piece = λ l bs room. told (λ (x : Listed). saysAnswer (x .answer)) (listing.refused l) _ _ refl refl refl;
-  finish = λ l room. told (λ (x : Listed). saysAnswer (x .answer)) (listing.refused l) _ _ refl refl refl;
+  list-piece = λ l bs room. told (λ (x : Listed). saysAnswer (x .answer)) (listing.refusedListing l) _ _ refl refl refl;
+  finish = λ l room. told (λ (x : Listed). saysAnswer (x .answer)) (listing.refusedListing l) _ _ refl refl refl;
 }
 
 -- ---- back from what a call says

@@ -16,13 +16,13 @@ use Rattle.reader.specs.declared.Answer.the-variants.{Refused}
 use Rattle.reader.specs.declared.Next.{Next}
 use Rattle.reader.specs.declared.FedAll.{FedAll}
 use Rattle.reader.specs.declared.Taken.{Taken}
-use Rattle.writer.specs.Sending.{bitsAfter, carriedOn, bytesFor, bytesOf}
+use Rattle.writer.specs.Sending.{bitsAfter, carriedOn, bytesFor, lineLength}
 use Rattle.writer.specs.Answer.{over, lead, saysOpened, saysWritten}
 use Rattle.writer.proofs.Bytes.{length-bytes}
 use Rattle.writer.specs.declared.Opened.the-variants as opened
 use Rattle.writer.specs.declared.Written.the-variants as written
 use Rattle.journal.specs.Journal.{recordOf, saysKept}
-use Rattle.journal.specs.Journal.{refused as unrecalled}
+use Rattle.journal.specs.Journal.{refusedRecall as unrecalled}
 use Rattle.journal.specs.declared.Recalled.{Recalled}
 use Rattle.journal.specs.declared.Kept.the-variants as kept
 use Rattle.journal.proofs.KeepLaws.{length-record}
@@ -36,7 +36,7 @@ use Rattle.nulls.specs.Nulls.{makeNull}
 use Rattle.stage.specs.declared.Made.{Made}
 use Rattle.stage.specs.declared.Count.the-variants as count
 use Rattle.texts.specs.Texts.{lengthIn, textIn, readText, bufferAfter, makeText}
-use Rattle.listing.specs.Listing.{Lines, lineRoom, endRoom, refused, listed, linesOf, finalLines, pieceBy, pieceText, finishBy, finishText}
+use Rattle.listing.specs.Listing.{Lines, lineRoom, endRoom, refusedListing, listed, linesOf, finalLines, pieceBy, pieceText, finishBy, finishText}
 use Rattle.listing.specs.declared.Listing.{Listing}
 use Rattle.listing.specs.declared.Listed.{Listed}
 use Rattle.listing.proofs.Lengths.{lines-le, final-le}
@@ -69,9 +69,9 @@ changes-neither = record {
   write = λ f c buffer. keeps (carries-its-number .write f c buffer) (λ b. b) (λ n. buffer) _ _ (λ n. refl);
   keep = λ f buffer. keeps (carries-its-number .keep f buffer) (λ b. b) (λ n. buffer) _ _ (λ n. refl);
   read-text = λ f buffer. keeps (carries-its-number .read-text f buffer) (λ b. b) (λ n. buffer) _ _ (λ n. refl);
-  list-piece = λ l bs room. keeps (carries-its-number .list-piece l bs room) (λ (x : Listed). x .listing) (refused l) _ _ (λ n. refl);
+  list-piece = λ l bs room. keeps (carries-its-number .list-piece l bs room) (λ (x : Listed). x .listing) (refusedListing l) _ _ (λ n. refl);
   list-piece-output = λ l bs out. keeps (carries-its-number .list-piece l bs (length out)) (λ b. b) (λ n. out) _ _ (λ n. refl);
-  finish = λ l room. keeps (carries-its-number .finish l room) (λ (x : Listed). x .listing) (refused l) _ _ (λ n. refl);
+  finish = λ l room. keeps (carries-its-number .finish l room) (λ (x : Listed). x .listing) (refusedListing l) _ _ (λ n. refl);
   finish-output = λ l out. keeps (carries-its-number .finish l (length out)) (λ b. b) (λ n. out) _ _ (λ n. refl);
 }
 
@@ -86,8 +86,8 @@ number-alone = record {
   make-position = λ h p. keeps (carries-its-number .make-position h p) (λ (x : Made). x .frame) refusedMade _ _ (λ n. refl);
   make-null = λ h. keeps (carries-its-number .make-null h) (λ (x : Made). x .frame) refusedMade _ _ (λ n. refl);
   make-text = λ h t. keeps (carries-its-number .make-text h t) (λ (x : Made). x .frame) refusedMade _ _ (λ n. refl);
-  list-piece = λ l bs room. keeps (carries-its-number .list-piece l bs room) (λ (x : Listed). (x .used, x .written)) (refused l) _ _ (λ n. refl);
-  finish = λ l room. keeps (carries-its-number .finish l room) (λ (x : Listed). (x .used, x .written)) (refused l) _ _ (λ n. refl);
+  list-piece = λ l bs room. keeps (carries-its-number .list-piece l bs room) (λ (x : Listed). (x .used, x .written)) (refusedListing l) _ _ (λ n. refl);
+  finish = λ l room. keeps (carries-its-number .finish l room) (λ (x : Listed). (x .used, x .written)) (refusedListing l) _ _ (λ n. refl);
 }
 
 -- ---- an answer
@@ -123,12 +123,12 @@ first-stored out text h = record {
 
 -- the same of the listing's calls, which answer how much they wrote
 listing-owns : {numbers : List ℕ} {cs : List Check} (l : Listing) (x : Lines) (out : List ℕ)
-    → Ordered numbers cs (saysAnswer (inOrder cs (refused l) (listed x) .answer)) → (NoneApplies cs → length (x .text) ≤ length out)
-    → Owns (saysAnswer (inOrder cs (refused l) (listed x) .answer)) (λ v. inOrder cs (refused l) (listed x) .written)
+    → Ordered numbers cs (saysAnswer (inOrder cs (refusedListing l) (listed x) .answer)) → (NoneApplies cs → length (x .text) ≤ length out)
+    → Owns (saysAnswer (inOrder cs (refusedListing l) (listed x) .answer)) (λ v. inOrder cs (refusedListing l) (listed x) .written)
     (inOrder cs (λ n. out) (sets out 0 (x .text))) out
 listing-owns {cs} l x out o room v e =
-    subst (λ b. OnlyFirst (inOrder cs (refused l) (listed x) .written) b out) (sym (order-answers (λ n. out) (sets out 0 (x .text)) cs none))
-    (subst (λ (y : Listed). OnlyFirst (y .written) (sets out 0 (x .text)) out) (sym (order-answers (refused l) (listed x) cs none))
+    subst (λ b. OnlyFirst (inOrder cs (refusedListing l) (listed x) .written) b out) (sym (order-answers (λ n. out) (sets out 0 (x .text)) cs none))
+    (subst (λ (y : Listed). OnlyFirst (y .written) (sets out 0 (x .text)) out) (sym (order-answers (refusedListing l) (listed x) cs none))
     (first-stored out (x .text) (room none)))
   where
     none : NoneApplies cs
@@ -141,12 +141,12 @@ only-its-bytes = record {
       owns saysOpened opened.Refused opened.Done tt (carries-its-number .writer-open buffer) refl (λ v. 1) buffer (over (lead ∷ []) buffer)
       (λ none. first-bytes (lead ∷ []) buffer 1 refl (ltb-false (length buffer) 1 (none .0)));
   write = λ f c buffer.
-      let bytes = bytesFor (bytesOf f) (bitsAfter c f) in
-      let long = length-bytes (bytesOf f) (bitsAfter c f) in
-      owns saysWritten written.Refused (written.Done (bytesOf f) (carriedOn (bitsAfter c f))) _ (carries-its-number .write f c buffer) refl
+      let bytes = bytesFor (lineLength f) (bitsAfter c f) in
+      let long = length-bytes (lineLength f) (bitsAfter c f) in
+      owns saysWritten written.Refused (written.Done (lineLength f) (carriedOn (bitsAfter c f))) _ (carries-its-number .write f c buffer) refl
       (λ v. v .0) buffer (over bytes buffer)
-      (λ none. subst (λ k. OnlyFirst (bytesOf f) (bytes ++ drop k buffer) buffer) (sym long)
-      (first-bytes bytes buffer (bytesOf f) long (ltb-false (length buffer) (bytesOf f) (none .1 .1 .1 .1 .0))));
+      (λ none. subst (λ k. OnlyFirst (lineLength f) (bytes ++ drop k buffer) buffer) (sym long)
+      (first-bytes bytes buffer (lineLength f) long (ltb-false (length buffer) (lineLength f) (none .1 .1 .1 .1 .0))));
   keep = λ f buffer full.
       owns saysKept kept.Refused (kept.Done (3 * f .n + 9)) _ (carries-its-number .keep f buffer) refl (λ v. v) buffer
       (recordOf f ++ drop (3 * f .n + 9) buffer)

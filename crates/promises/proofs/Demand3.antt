@@ -22,7 +22,7 @@ use Rattle.stream.proofs.Prefix.{decided-undecided, decided-begins}
 use Rattle.stream.proofs.InTime as stream
 use Rattle.stream.proofs.Hunting.{MayCome, Idle}
 use Rattle.stream.proofs.Damage.{damaged-nowhere}
-use Rattle.reader.specs.Reading.{bitsOf, started, past, fedBy, endedBy, pushed, saysNext, saysFedAll, saysTaken}
+use Rattle.reader.specs.Reading.{bitsOf, started, past, fedBy, endedBy, steppedBy, saysNext, saysFedAll, saysTaken}
 use Rattle.reader.specs.declared.Reader.{Reader}
 use Rattle.reader.specs.declared.Answer.the-variants.{Done}
 use Rattle.reader.specs.declared.Next.{Next}
@@ -223,5 +223,5 @@ never-five cs = record {
 }
   where
     fed : (b : ℕ) → isData b ≡ true → afterAll started cs .ended ≡ false → afterAll started cs .candidate .waits ≡ false
-        → fedBy (afterAll started cs) b ≡ record { answer = Done; reader = pushed (afterAll started cs) b }
+        → fedBy (afterAll started cs) b ≡ record { answer = Done; reader = steppedBy (afterAll started cs) b }
     fed b d e w = fed-by (afterAll started cs) false false false (never-past _ _ _ (kept cs)) e w b true d

@@ -12,7 +12,7 @@ use Rattle.answer.specs.Order.{refuses, answers}
 use Rattle.bits.specs.Bits.{number}
 use Rattle.line.specs.Line.{isData, six, without}
 use Rattle.reader.specs.Cells.{roomEnd}
-use Rattle.reader.specs.Reading.{past, movedTo, stepCells, stepTo, pushed, fedBy, Run, runTo, fedAllBy, endTo, takeTo, saysAnswer, saysNext, saysFedAll}
+use Rattle.reader.specs.Reading.{past, movedTo, stepCells, stepTo, steppedBy, fedBy, Run, runTo, fedAllBy, endTo, takeTo, saysAnswer, saysNext, saysFedAll}
 use Rattle.reader.specs.declared.Candidate.{Candidate}
 use Rattle.reader.specs.declared.Reader.{Reader}
 use Rattle.reader.specs.declared.Answer.the-variants.{Done, Refused}
@@ -71,12 +71,12 @@ run-feeds (b ∷ bs) cells l c a =
     one u f (inl e) = inl (omega arith)
     one u f (inr e) = inr e
 
-    fed : (z : Bool) → isData b ≡ z → c .waits ≡ false → fedBy (going cells c) b .reader ≡ cond z (pushed (going cells c) b) (going cells c)
+    fed : (z : Bool) → isData b ≡ z → c .waits ≡ false → fedBy (going cells c) b .reader ≡ cond z (steppedBy (going cells c) b) (going cells c)
     fed true d w = ap (λ (f : Next). f .reader) (fed-by (going cells c) false false false (from-accepted cells c a) refl w b true d)
     fed false d w = ap (λ (f : Next). f .reader) (fed-by (going cells c) false false false (from-accepted cells c a) refl w b false d)
 
     fed-on : isData b ≡ true → c .waits ≡ false → fedBy (going cells c) b .reader ≡ going (stepCells cells c (number (six b))) (stepTo cells c (number (six b)))
-    fed-on d w = unfold pushed in fed true d w
+    fed-on d w = unfold steppedBy in fed true d w
 
     go : (y : Bool) → c .waits ≡ y → (z : Bool) → isData b ≡ z
         → (c .waits ≡ false → RunFeeds (stepCells cells c (number (six b))) (stepTo cells c (number (six b))) bs x)
@@ -183,7 +183,7 @@ next-is-accepted r l p (feeds b) = go (r .ended) refl (r .candidate .waits) refl
     go false ex false ey false ez = unfold after in subst P (sym (fed-by r false false false p ex ey b false ez)) p
     go false ex false ey true ez =
         unfold after in subst P (sym (fed-by r false false false p ex ey b true ez))
-        (unfold pushed in from-accepted (stepCells (r .cells) (r .candidate) (number (six b))) (stepTo (r .cells) (r .candidate) (number (six b))) (accepted-step (r .cells) l (r .candidate) a ey (number (six b))))
+        (unfold steppedBy in from-accepted (stepCells (r .cells) (r .candidate) (number (six b))) (stepTo (r .cells) (r .candidate) (number (six b))) (accepted-step (r .cells) l (r .candidate) a ey (number (six b))))
 next-is-accepted r l p (feedsAll bs) = go (r .ended) refl (r .candidate .waits) refl
   where
     P : FedAll → Type 0

@@ -23,7 +23,7 @@ use Rattle.stream.proofs.Prefix.{decided-hit}
 use Rattle.stream.proofs.Hunting.{MayCome, Idle, Hunts, hunts}
 use Rattle.reader.specs.Cells.{heldBits, roomEnd}
 use Rattle.reader.specs.Hunting.{stopOf, huntOf}
-use Rattle.reader.specs.Reading.{candidateBits, bitsOf, started, movedTo, stepCells, stepTo, pushed, endTo, takeTo}
+use Rattle.reader.specs.Reading.{candidateBits, bitsOf, started, movedTo, stepCells, stepTo, steppedBy, endTo, takeTo}
 use Rattle.reader.specs.declared.Candidate.{Candidate}
 use Rattle.reader.specs.declared.Reader.{Reader}
 use Rattle.reader.proofs.Buffer.{length-held, held-part, held-none}
@@ -127,8 +127,8 @@ stage-more s hits gone d x g = record {
 }
 
 pub kept-pushed : (s : List Bool) (out : List (ℕ × Frame)) (r : Reader) (b : ℕ) → Kept s out r → r .ended ≡ false → r .candidate .waits ≡ false
-    → Kept (s ++ six b) out (pushed r b)
-unfolding pushed stepTo
+    → Kept (s ++ six b) out (steppedBy r b)
+unfolding steppedBy stepTo
 kept-pushed s out r b k e w =
     subst (λ x. Kept (s ++ six b) out (record { cells = cells; candidate = stepTo (r .cells) (r .candidate) (number (six b)); ended = x })) (sym e)
     (settled (s ++ six b) out (k .hits) (k .given) false cells (length-step (r .cells) (k .len) c a w (number (six b)))

@@ -14,7 +14,7 @@ use Rattle.frame.specs.declared.Frame.{Frame}
 use Rattle.reader.specs.Reading.{past, saysAnswer, carrying}
 use Rattle.reader.specs.declared.Answer.{Answer}
 use Rattle.reader.specs.declared.Answer.the-variants.{Done, Refused}
-use Rattle.listing.specs.Listing.{Lines, linesOf, lineRoom, refused, listed, pieceOrder, pieceBy, pieceText}
+use Rattle.listing.specs.Listing.{Lines, linesOf, lineRoom, refusedListing, listed, pieceOrder, pieceBy, pieceText}
 use Rattle.promises.specs.Course.{Piece, Course, courseOf, Answered}
 use Rattle.listing.specs.declared.Listing.{Listing}
 use Rattle.listing.specs.declared.Listed.{Listed}
@@ -46,10 +46,10 @@ piece-tells used out l t lent buffer = go (past (l .reader)) (l .reader .ended) 
     x : Lines
     x = linesOf (length buffer / lineRoom) l lent
 
-    none : (n : ℕ) → PieceTells used out lent (refused l n) buffer
+    none : (n : ℕ) → PieceTells used out lent (refusedListing l n) buffer
     none n = record { more = []; text = (unfold told in refl); is = subst₂ (λ u o. Told u o l) (sym (append-nil used)) (sym (append-nil out)) t; within = omega arith }
 
-    go : (p e s : Bool) → PieceTells used out lent (inOrder ((p, 5) ∷ (e, 3) ∷ (s, 13) ∷ []) (refused l) (listed (linesOf (length buffer / lineRoom) l lent)))
+    go : (p e s : Bool) → PieceTells used out lent (inOrder ((p, 5) ∷ (e, 3) ∷ (s, 13) ∷ []) (refusedListing l) (listed (linesOf (length buffer / lineRoom) l lent)))
         (inOrder ((p, 5) ∷ (e, 3) ∷ (s, 13) ∷ []) (λ n. buffer) (sets buffer 0 (linesOf (length buffer / lineRoom) l lent .text)))
     go true e s = none 5
     go false true s = none 3
@@ -66,7 +66,7 @@ piece-tells used out l t lent buffer = go (past (l .reader)) (l .reader .ended) 
 -- a piece that has room is carried out
 pub piece-is : (l : Listing) (bs : List ℕ) (room : ℕ) → past (l .reader) ≡ false → l .reader .ended ≡ false → lineRoom ≤ room → pieceBy l bs room ≡ listed (linesOf (room / lineRoom) l bs)
 unfolding pieceBy
-piece-is l bs room p e h = order-answers (refused l) (listed (linesOf (room / lineRoom) l bs)) (pieceOrder l room) (p, (e, (le-ltb room lineRoom h, tt)))
+piece-is l bs room p e h = order-answers (refusedListing l) (listed (linesOf (room / lineRoom) l bs)) (pieceOrder l room) (p, (e, (le-ltb room lineRoom h, tt)))
 
 -- ---- piece after piece
 
@@ -109,7 +109,7 @@ pub piece-ended : (l : Listing) (bs : List ℕ) (room : ℕ) (used : List ℕ) (
 unfolding pieceBy
 piece-ended l bs room used out t = go (past (l .reader)) (l .reader .ended) (ltb room lineRoom)
   where
-    go : (p e s : Bool) → inOrder ((p, 5) ∷ (e, 3) ∷ (s, 13) ∷ []) (refused l) (listed (linesOf (room / lineRoom) l bs)) .listing .reader .ended ≡ l .reader .ended
+    go : (p e s : Bool) → inOrder ((p, 5) ∷ (e, 3) ∷ (s, 13) ∷ []) (refusedListing l) (listed (linesOf (room / lineRoom) l bs)) .listing .reader .ended ≡ l .reader .ended
     go true e s = refl
     go false true s = refl
     go false false true = refl

@@ -23,8 +23,8 @@ use Rattle.promises.specs.Calls.{feedsAll, after}
 use Rattle.promises.proofs.Runs.{not-done, says-done, all-by, taken-by, never-past}
 use Rattle.promises.proofs.EveryReader.{fed-parts, next-is-accepted}
 use Rattle.listing.specs.Text.{frameLine}
-use Rattle.listing.specs.Listing.{begun, fedOn, handedOn, Lines, lineThen, linesOf, lineRoom, endRoom, refused, listed, pieceBy, finalLines, endOrder, finishBy, saysListed}
-use Rattle.promises.specs.Course.{Piece, courseOf, Answered, NothingLeft, PieceTaken, Fit, Reached, TextComes}
+use Rattle.listing.specs.Listing.{begun, fedOn, handedOn, Lines, lineThen, linesOf, lineRoom, endRoom, refusedListing, listed, pieceBy, finalLines, endOrder, finishBy, saysListed}
+use Rattle.promises.specs.Course.{Piece, courseOf, Answered, NothingLeft, PieceTaken, Roomy, Reached, TextComes}
 use Rattle.promises.proofs.Telling.{Told, told-none, line-some, none-there, told-fed, told-taken, fed-held, taken-less, lines-go}
 use Rattle.promises.proofs.Pieces.{done-answered, piece-is, piece-tells, course-tells, piece-ended, course-goes}
 use Rattle.promises.proofs.Whole.{idle-takes, lines-takes, text-is-whole}
@@ -83,7 +83,7 @@ module _ (l : Listing) (bs : List ℕ) (len : length (l .reader .cells) ≡ 40) 
 finish-answers : (l : Listing) (room : ℕ) → past (l .reader) ≡ false → l .reader .ended ≡ false → l .reader .candidate .waits ≡ false → endRoom ≤ room → finishBy l room .answer ≡ Done
 unfolding finishBy
 finish-answers l room p e w h =
-    ap (λ (x : Listed). x .answer) (order-answers (refused l) (listed (finalLines l)) (endOrder l room) (p, (e, (w, (le-ltb room endRoom h, tt)))))
+    ap (λ (x : Listed). x .answer) (order-answers (refusedListing l) (listed (finalLines l)) (endOrder l room) (p, (e, (w, (le-ltb room endRoom h, tt)))))
 
 idle-piece : (l : Listing) (bs : List ℕ) (room : ℕ) → length (l .reader .cells) ≡ 40 → pieceBy l bs room .answer ≡ Done → pieceBy l bs room .written ≡ 0
     → (pieceBy l bs room .used ≡ length bs) × ((n : ℕ) → endRoom ≤ n → finishBy (pieceBy l bs room .listing) n .answer ≡ Done)
@@ -91,10 +91,10 @@ unfolding pieceBy
 idle-piece l bs room len = go (past (l .reader)) refl (l .reader .ended) refl (ltb room lineRoom) refl
   where
     go : (p : Bool) → past (l .reader) ≡ p → (e : Bool) → l .reader .ended ≡ e → (s : Bool) → ltb room lineRoom ≡ s
-        → inOrder ((p, 5) ∷ (e, 3) ∷ (s, 13) ∷ []) (refused l) (listed (linesOf (room / lineRoom) l bs)) .answer ≡ Done
-        → inOrder ((p, 5) ∷ (e, 3) ∷ (s, 13) ∷ []) (refused l) (listed (linesOf (room / lineRoom) l bs)) .written ≡ 0
-        → (inOrder ((p, 5) ∷ (e, 3) ∷ (s, 13) ∷ []) (refused l) (listed (linesOf (room / lineRoom) l bs)) .used ≡ length bs)
-        × ((n : ℕ) → endRoom ≤ n → finishBy (inOrder ((p, 5) ∷ (e, 3) ∷ (s, 13) ∷ []) (refused l) (listed (linesOf (room / lineRoom) l bs)) .listing) n .answer ≡ Done)
+        → inOrder ((p, 5) ∷ (e, 3) ∷ (s, 13) ∷ []) (refusedListing l) (listed (linesOf (room / lineRoom) l bs)) .answer ≡ Done
+        → inOrder ((p, 5) ∷ (e, 3) ∷ (s, 13) ∷ []) (refusedListing l) (listed (linesOf (room / lineRoom) l bs)) .written ≡ 0
+        → (inOrder ((p, 5) ∷ (e, 3) ∷ (s, 13) ∷ []) (refusedListing l) (listed (linesOf (room / lineRoom) l bs)) .used ≡ length bs)
+        × ((n : ℕ) → endRoom ≤ n → finishBy (inOrder ((p, 5) ∷ (e, 3) ∷ (s, 13) ∷ []) (refusedListing l) (listed (linesOf (room / lineRoom) l bs)) .listing) n .answer ≡ Done)
     go true ep e ee s es d w = not-done 5 d
     go false ep true ee s es d w = not-done 3 d
     go false ep false ee true es d w = not-done 13 d
@@ -200,7 +200,7 @@ module _ (used : List ℕ) (out : List (ℕ × Frame)) (l : Listing) (t : Told u
         ∙ ap (λ (y : Reader). y .candidate .waits) (lines-takes k l ∙ idle-takes k (l .reader) (ap (λ (y : Taken). y .reader) (taken-by (l .reader) false false fine (o .1)))) ∙ o .1,
   )
 
-goes-on : (ps : List Piece) (l : Listing) (bs used : List ℕ) (out : List (ℕ × Frame)) → Told used out l → l .reader .ended ≡ false → Fit ps
+goes-on : (ps : List Piece) (l : Listing) (bs used : List ℕ) (out : List (ℕ × Frame)) → Told used out l → l .reader .ended ≡ false → Roomy ps
     → (7 * length bs + l .reader .candidate .held ≤ length ps) ⊎ Over l bs → Over (courseOf ps l bs .listing) (courseOf ps l bs .left)
 unfolding courseOf
 goes-on [] l bs used out t g f (inr o) = o

@@ -30,7 +30,7 @@ use Rattle.record_laws.proofs.HealthTrips.{healths-sent}
 use Rattle.record_laws.proofs.PositionTrips.{position-sent}
 use Rattle.record_laws.proofs.NullTrips.{null-sent}
 use Rattle.record_laws.proofs.TextTrips.{text-sent}
-use Rattle.writer.specs.Sending.{bitsAfter, carriedOn, bytesOf}
+use Rattle.writer.specs.Sending.{bitsAfter, carriedOn, lineLength}
 use Rattle.writer.specs.Answer.{writeChecks, writtenBy, saysWritten}
 use Rattle.writer.specs.OneFrame.{Wrote}
 use Rattle.writer.specs.declared.Written.the-variants.{Done}
@@ -56,7 +56,7 @@ sent-reads-back : (asked : Layout) (h : Header) (cs : List Check) (ws : List ℕ
     → HeaderFor asked h → s .frame .header ≡ h → outside (s .frame) ≡ false → ReadsBack (inOrder cs refusedMade (doneMade (framed h ws))) Reads
 sent-reads-back asked h cs ws Reads s for header within c buffer p q room = record {
   made = s;
-  count = bytesOf f;
+  count = lineLength f;
   on = carriedOn (bitsAfter c f);
   answer = ap saysWritten done;
   wrote = written;
@@ -72,14 +72,14 @@ sent-reads-back asked h cs ws Reads s for header within c buffer p q room = reco
     none : NoneApplies (writeChecks f c buffer)
     none = (
       le-ltb 1 (c .d29) p,
-      (le-ltb 1 (c .d30) q, (within, (lt-leb 6000 (f .header .z) hour, (le-ltb (length buffer) (bytesOf f) (omega (arith, room, n-within f within)), tt)))),
+      (le-ltb 1 (c .d30) q, (within, (lt-leb 6000 (f .header .z) hour, (le-ltb (length buffer) (lineLength f) (omega (arith, room, n-within f within)), tt)))),
     )
 
-    done : writtenBy f c buffer ≡ Done (bytesOf f) (carriedOn (bitsAfter c f))
+    done : writtenBy f c buffer ≡ Done (lineLength f) (carriedOn (bitsAfter c f))
     done = sym (write-answers f c buffer none .0)
 
-    written : Wrote f c buffer (bytesOf f) (carriedOn (bitsAfter c f))
-    written = wrote f (made-full cs h ws f (s .done) within) c buffer (bytesOf f) (carriedOn (bitsAfter c f)) done
+    written : Wrote f c buffer (lineLength f) (carriedOn (bitsAfter c f))
+    written = wrote f (made-full cs h ws f (s .done) within) c buffer (lineLength f) (carriedOn (bitsAfter c f)) done
 
 -- THE SENTENCE, layout by layout
 pub what-can-be-sent : WhatCanBeSent

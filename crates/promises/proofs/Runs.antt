@@ -12,7 +12,7 @@ use Rattle.line.specs.Line.{isData, six, lineBits}
 use Rattle.frame.specs.Frames.{blank}
 use Rattle.frame.specs.declared.Frame.{Frame}
 use Rattle.stream.specs.Standing.{frameAt}
-use Rattle.reader.specs.Reading.{bitsOf, started, past, stepCells, stepTo, pushed, fedBy, Run, runTo, ranBy, fedAllBy, endTo, endedBy, takeTo, takenBy, saysAnswer, carrying, saysNext, saysFedAll, saysTaken}
+use Rattle.reader.specs.Reading.{bitsOf, started, past, stepCells, stepTo, steppedBy, fedBy, Run, runTo, ranBy, fedAllBy, endTo, endedBy, takeTo, takenBy, saysAnswer, carrying, saysNext, saysFedAll, saysTaken}
 use Rattle.reader.specs.declared.Candidate.{Candidate}
 use Rattle.reader.specs.declared.Reader.{Reader}
 use Rattle.reader.specs.declared.Answer.{Answer}
@@ -46,9 +46,9 @@ says-refused v n (Refused m) e = ap Refused (let z : m ≡ n = cc in z)
 
 module _ (r : Reader) (p x y : Bool) (ep : past r ≡ p) (ex : r .ended ≡ x) (ey : r .candidate .waits ≡ y) where
   pub fed-by : (b : ℕ) (z : Bool) → isData b ≡ z
-      → fedBy r b ≡ inOrder ((p, 5) ∷ (x, 3) ∷ (y, 2) ∷ (not z, 1) ∷ []) (λ n. record { answer = Refused n; reader = r }) (record { answer = Done; reader = pushed r b })
+      → fedBy r b ≡ inOrder ((p, 5) ∷ (x, 3) ∷ (y, 2) ∷ (not z, 1) ∷ []) (λ n. record { answer = Refused n; reader = r }) (record { answer = Done; reader = steppedBy r b })
   unfolding fedBy
-  fed-by b z ez = λ i. inOrder ((ep i, 5) ∷ (ex i, 3) ∷ (ey i, 2) ∷ (not (ez i), 1) ∷ []) (λ n. record { answer = Refused n; reader = r }) (record { answer = Done; reader = pushed r b })
+  fed-by b z ez = λ i. inOrder ((ep i, 5) ∷ (ex i, 3) ∷ (ey i, 2) ∷ (not (ez i), 1) ∷ []) (λ n. record { answer = Refused n; reader = r }) (record { answer = Done; reader = steppedBy r b })
 
   pub all-by : (bs : List ℕ) → fedAllBy r bs
       ≡ inOrder ((p, 5) ∷ (x, 3) ∷ (y, 2) ∷ []) (λ n. record { answer = Refused n; used = 0; passed = 0; reader = r }) (ranBy r (runTo (r .cells) (r .candidate) bs))
@@ -109,7 +109,7 @@ kept-run (b ∷ bs) s out cells c k = go (c .waits) refl (isData b) refl (λ q. 
         subst P (sym (run-on cells c b bs w d))
         (subst (λ l. Kept l out (going (next .cells) (next .candidate)))
         (append-assoc s (six b) (lineBits (take (next .used) bs)) ∙ ap (λ l. s ++ l) (sym (first-bits b bs (next .used) true d)))
-        (on (unfold pushed in kept-pushed s out (going cells c) b k refl w)))
+        (on (unfold steppedBy in kept-pushed s out (going cells c) b k refl w)))
     go false w false d on over =
         subst P (sym (run-over cells c b bs w d))
         (subst (λ l. Kept (s ++ l) out (going (runTo cells c bs .cells) (runTo cells c bs .candidate))) (sym (first-bits b bs (runTo cells c bs .used) false d)) over)
@@ -136,7 +136,7 @@ module _ (s : List Bool) (out : List (ℕ × Frame)) (r : Reader) (k : Kept s ou
       go false ex false ey false ez = subst P (sym (fed-by r false false false fine ex ey b false ez)) (unfold bitsGiven in same)
       go false ex false ey true ez =
           subst P (sym (fed-by r false false false fine ex ey b true ez))
-          (unfold bitsGiven in subst (λ o. Kept (s ++ six b) o (pushed r b)) (sym (append-nil out)) (kept-pushed s out r b k ex ey))
+          (unfold bitsGiven in subst (λ o. Kept (s ++ six b) o (steppedBy r b)) (sym (append-nil out)) (kept-pushed s out r b k ex ey))
 
   kept-all : (bs : List ℕ) → Kept (s ++ bitsGiven (feedsAll bs) (used (saysFedAll (fedAllBy r bs)))) (out ++ []) (fedAllBy r bs .reader)
   kept-all bs = go (r .ended) refl (r .candidate .waits) refl

@@ -18,7 +18,7 @@ use Rattle.stream.proofs.Scanning.{only, complete}
 use Rattle.stream.proofs.Verdicts.{so-far-append}
 use Rattle.stream.proofs.Hunting.{Idle, Hunts, hunts}
 use Rattle.reader.specs.Cells.{heldBits, roomEnd}
-use Rattle.reader.specs.Reading.{candidateBits, bitsOf, past, movedTo, stepCells, stepTo, pushed, fedBy, takeTo, takenBy, saysNext}
+use Rattle.reader.specs.Reading.{candidateBits, bitsOf, past, movedTo, stepCells, stepTo, steppedBy, fedBy, takeTo, takenBy, saysNext}
 use Rattle.reader.specs.declared.Candidate.{Candidate}
 use Rattle.reader.specs.declared.Reader.{Reader}
 use Rattle.reader.specs.declared.Answer.the-variants.{Done, Refused}
@@ -121,7 +121,7 @@ none-behind d x h j l e s = go (subst (FoundOrCovered (placed (2 + j) (drop j (d
     go (inr c) = omega (arith, later (c .by) (c .there), c .before)
 
 module _ (s : List Bool) (out : List (ℕ × Frame)) (r : Reader) (k : Kept s out r) (e : r .ended ≡ false) (w : r .candidate .waits ≡ false) (b : ℕ) where
-  fed : (z : Bool) → isData b ≡ z → fedBy r b ≡ cond z (record { answer = Done; reader = pushed r b }) (record { answer = Refused 1; reader = r })
+  fed : (z : Bool) → isData b ≡ z → fedBy r b ≡ cond z (record { answer = Done; reader = steppedBy r b }) (record { answer = Refused 1; reader = r })
   fed true d = fed-by r false false false (never-past s out r k) e w b true d
   fed false d = fed-by r false false false (never-past s out r k) e w b false d
 
@@ -139,14 +139,14 @@ module _ (s : List Bool) (out : List (ℕ × Frame)) (r : Reader) (k : Kept s ou
   byte-goes = go (isData b) refl
     where
       go : (z : Bool) → isData b ≡ z → fedBy r b .reader .ended ≡ false
-      go true d = unfold pushed in ap (λ (f : Next). f .reader .ended) (fed true d) ∙ e
+      go true d = unfold steppedBy in ap (λ (f : Next). f .reader .ended) (fed true d) ∙ e
       go false d = ap (λ (f : Next). f .reader .ended) (fed false d) ∙ e
 
   -- the reader then holds its bits and the six of a data byte after them, less those of positions that are now ruled out
   pub byte-held : isData b ≡ true → RuledOutTo (bitsOf r ++ six b) (bitsOf (after r (feeds b)))
   byte-held d = record { gone = h .gone; is = first ∙ held; none = λ j l y s. none-behind _ _ h j l y (subst (λ z. Stands (drop j (z ++ y))) (sym is) s) }
     where
-      first : bitsOf (after r (feeds b)) ≡ bitsOf (pushed r b)
+      first : bitsOf (after r (feeds b)) ≡ bitsOf (steppedBy r b)
       first = unfold after in ap (λ (f : Next). bitsOf (f .reader)) (fed true d)
 
       c : Candidate
@@ -167,9 +167,9 @@ module _ (s : List Bool) (out : List (ℕ × Frame)) (r : Reader) (k : Kept s ou
       h : Hunts false (heldBits (stepCells (r .cells) c x) end (c .held + 6)) (hunt false (c .words) (heldBits (stepCells (r .cells) c x) end (c .held + 6)))
       h = hunts false (c .words) _ (subst (RightSoFar (c .words)) (sym is) (so-far-append (c .words) (bitsOf r) (six b) (quiet .0)))
 
-      held : bitsOf (pushed r b) ≡ drop (h .gone) (bitsOf r ++ six b)
+      held : bitsOf (steppedBy r b) ≡ drop (h .gone) (bitsOf r ++ six b)
       held =
-          unfold pushed stepTo movedTo candidateBits in
+          unfold steppedBy stepTo movedTo candidateBits in
           rest-bits (stepCells (r .cells) c x) (length-step (r .cells) (k .len) c (k .accepted) w x) end (c .held + 6)
           (step-top (r .cells) (k .len) c (k .accepted) w x) (step-low (r .cells) (k .len) c (k .accepted) w x) (c .words) false
           ∙ h .rest ∙ ap (drop (h .gone)) is

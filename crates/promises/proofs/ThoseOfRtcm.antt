@@ -10,7 +10,7 @@ use lib.IntN.{ℤ, pos, negℤ}
 use lib.ListN.{length, take, drop, getD}
 use borrow.Author.Tests.{ltb-false, leb-false, not-false, le-ltb, eqb-true}
 use Rattle.answer.specs.Order.{Says, refuses, answers, Check, inOrder, NoneApplies}
-use Rattle.answer.proofs.OrderLaws.{order-answers, order-told}
+use Rattle.answer.proofs.OrderLaws.{order-answers, order-told, refuses-apart}
 use Rattle.bits.specs.Bits.{bits, number}
 use Rattle.bits.proofs.Numbers.{bits-number, number-lt, length-bits}
 use Rattle.bits.proofs.SignedLaws.{signed-code, code-signed}
@@ -54,7 +54,7 @@ use Rattle.writer.specs.declared.Written.the-variants.{Done, Refused}
 use Rattle.writer.proofs.Wrote.{wrote, writes-back, writes-back-turned}
 use Rattle.writer.proofs.Streams.{stream-written}
 use Rattle.promises.specs.ThoseOfRtcm.{GpsParityRule, FramesOfRtcm, SaysExactly, RecordsOfRtcm}
-use Rattle.promises.proofs.CarriesItsNumber.{says-apart, says-inj, none-told, carries-its-number}
+use Rattle.promises.proofs.CarriesItsNumber.{says-inj, none-told, carries-its-number}
 
 -- ---- the parity rule
 
@@ -170,7 +170,7 @@ frames-of-rtcm = record {
 
 -- a value that an order says is the one that was ready
 value-told : {A : Type 0} {s : Says A} (cs : List Check) (value v : A) → s ≡ inOrder cs refuses (answers value) → s ≡ answers v → value ≡ v
-value-told cs value v is e = says-inj (order-told refuses (answers value) (answers v) (λ n. says-apart n v) cs (sym is ∙ e) .1)
+value-told cs value v is e = says-inj (order-told refuses (answers value) (answers v) (λ n. refuses-apart n v) cs (sym is ∙ e) .1)
 
 says-exactly : (h small large : ℕ) (says : ℕ → ℤ → Says Reading)
     → ((scale : ℕ) (z : ℤ) → says scale z ≡ inOrder ((ltb 1 scale, 10) ∷ []) refuses (answers (signedValue h small large scale z)))
@@ -193,7 +193,7 @@ udre-exact s code mm e =
 
 count-told : (x : Count) (c : ℕ) → saysCount x ≡ answers c → x ≡ count.Of c
 count-told (count.Of b) c e = ap count.Of (says-inj e)
-count-told (count.Refused n) c e = absurd (says-apart n c e)
+count-told (count.Refused n) c e = absurd (refuses-apart n c e)
 
 corrections-fit : (f : Frame) (c k : ℕ) → saysCount (countCorrections f) ≡ answers c
     → ((c ≡ 3 * k) ↔ (f .n ≡ 5 * k)) × ((c ≡ 3 * k + 1) ↔ (f .n ≡ 5 * k + 2)) × ((c ≡ 3 * k + 2) ↔ (f .n ≡ 5 * k + 4))

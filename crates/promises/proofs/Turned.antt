@@ -13,7 +13,7 @@ use Rattle.line.proofs.LineLaws.{data-turned, six-turned}
 use Rattle.frame.specs.declared.Frame.{Frame}
 use Rattle.stream.specs.Standing.{frameAt}
 use Rattle.stream.proofs.Turning.{stands-turned, stands-back, frame-turned}
-use Rattle.reader.specs.Reading.{candidateBits, bitsOf, started, past, stepCells, stepTo, pushed, fedBy, Run, runTo, spent, fedAllBy, endedBy, takeTo, takenBy, saysNext, saysFedAll, saysTaken}
+use Rattle.reader.specs.Reading.{candidateBits, bitsOf, started, past, stepCells, stepTo, steppedBy, fedBy, Run, runTo, spent, fedAllBy, endedBy, takeTo, takenBy, saysNext, saysFedAll, saysTaken}
 use Rattle.reader.specs.declared.Candidate.{Candidate}
 use Rattle.reader.specs.declared.Reader.{Reader}
 use Rattle.reader.specs.declared.Next.{Next}
@@ -103,7 +103,7 @@ module _ (s s′ : List Bool) (out out′ : List (ℕ × Frame)) (r r′ : Reade
           alike (subst₂ P (sym (fed-by r false false false p ex ey b false ez)) (sym (fed-by r′ false false false p′ (f .ended ∙ ex) (o .waits ∙ ey) d false (t .both ∙ ez))) (refl, f))
       go false ex false ey true ez =
           alike (subst₂ P (sym (fed-by r false false false p ex ey b true ez)) (sym (fed-by r′ false false false p′ (f .ended ∙ ex) (o .waits ∙ ey) d true (t .both ∙ ez)))
-          (refl, (unfold pushed in record { opposed = step-opposed (r .cells) (k .len) (r .candidate) (k .accepted) (r′ .cells) (k′ .len) (r′ .candidate) (k′ .accepted) o ey b d (t .bits ez); ended = f .ended })))
+          (refl, (unfold steppedBy in record { opposed = step-opposed (r .cells) (k .len) (r .candidate) (k .accepted) (r′ .cells) (k′ .len) (r′ .candidate) (k′ .accepted) o ey b d (t .bits ez); ended = f .ended })))
 
   all-alike : (bs ds : List ℕ) → OppositeBytes bs ds → Alike r r′ (feedsAll bs) (feedsAll ds)
   all-alike bs ds t = go (r .ended) refl (r .candidate .waits) refl

@@ -2,7 +2,7 @@
 use mathlib.Core.Path.{_≡_, refl, sym, ap, subst, subst₂, _∙_}
 use mathlib.Core.Bool.{Bool, true, false, not}
 use mathlib.Core.List.{List, [], _∷_, _++_, append-nil, append-assoc}
-use Prim.Native.Nat.{ℕ, zero, suc, _+_, _%_, _^_, _≤_}
+use Prim.Native.Nat.{ℕ, zero, suc, _+_, _%_, _^_}
 use native.Mathlib.Omega.{arith}
 use lib.Dec.{ltb}
 use lib.ListN.{length, take, drop, replicate, length-map}
@@ -26,7 +26,7 @@ use Rattle.promises.proofs.Kept.{Kept}
 use Rattle.promises.proofs.Runs.{not-done, ended-by, never-past, kept-call}
 use Rattle.promises.proofs.Serving.{takes-ended, none-waits}
 use Rattle.listing.specs.Text.{frameLine, linesIn, lastLine, textOf}
-use Rattle.listing.specs.Listing.{begun, fedOn, handedOn, Lines, lineThen, linesOf, refused, listed, endedOn, endRoom, finalLines, finishBy, finishText}
+use Rattle.listing.specs.Listing.{begun, fedOn, handedOn, Lines, lineThen, linesOf, refusedListing, listed, endedOn, endRoom, finalLines, finishBy, finishText}
 use Rattle.promises.specs.Course.{Piece, Course, courseOf, listedText, TextIsWhole}
 use Rattle.listing.specs.declared.Listing.{Listing}
 use Rattle.listing.proofs.Lengths.{final-le, stored-text}
@@ -166,8 +166,8 @@ unfolding finishBy finishText
 finish-tells bs out l t buffer done = go (past (l .reader)) (l .reader .ended) refl (l .reader .candidate .waits) refl (ltb (length buffer) endRoom) refl done
   where
     go : (p e : Bool) → l .reader .ended ≡ e → (w : Bool) → l .reader .candidate .waits ≡ w → (s : Bool) → ltb (length buffer) endRoom ≡ s
-        → inOrder ((p, 5) ∷ (e, 3) ∷ (w, 2) ∷ (s, 13) ∷ []) (refused l) (listed (finalLines l)) .answer ≡ Done
-        → told out ++ take (inOrder ((p, 5) ∷ (e, 3) ∷ (w, 2) ∷ (s, 13) ∷ []) (refused l) (listed (finalLines l)) .written)
+        → inOrder ((p, 5) ∷ (e, 3) ∷ (w, 2) ∷ (s, 13) ∷ []) (refusedListing l) (listed (finalLines l)) .answer ≡ Done
+        → told out ++ take (inOrder ((p, 5) ∷ (e, 3) ∷ (w, 2) ∷ (s, 13) ∷ []) (refusedListing l) (listed (finalLines l)) .written)
         (inOrder ((p, 5) ∷ (e, 3) ∷ (w, 2) ∷ (s, 13) ∷ []) (λ n. buffer) (sets buffer 0 (finalLines l .text))) ≡ textOf bs
     go true e ee w ew s es d = not-done 5 d
     go false true ee w ew s es d = not-done 3 d

@@ -37,13 +37,13 @@ use Rattle.listing.specs.Listing.{pieceOrder, pieceBy, endOrder, finishBy}
 use Rattle.listing.specs.declared.Listing.{Listing}
 
 -- the numbers of checks, in their order
-abbrev pub numbersOf : List Check → List ℕ
-numbersOf cs = map (λ (c : Check). c .1) cs
+abbrev pub checkNumbers : List Check → List ℕ
+checkNumbers cs = map (λ (c : Check). c .1) cs
 
 -- THE ORDER: the checks have these numbers of the table, which has 1 to 16. Where none applies the call answers; it refuses with n exactly when the
 -- first check that applies has the number n.
 pub record Ordered {A : Type 0} (numbers : List ℕ) (checks : List Check) (s : Says A) : Type 0 where
-  pub numbered : numbersOf checks ≡ numbers
+  pub numbered : checkNumbers checks ≡ numbers
   pub table : anyOf (λ n. ltb n 1 || ltb 16 n) numbers ≡ false
   pub answered : NoneApplies checks → (value : A) × (s ≡ answers value)
   pub refused : (n : ℕ) → FirstIs checks n → s ≡ refuses n

@@ -57,17 +57,17 @@ abbrev pub PieceTaken : List ℕ → List Piece → Type 0
 PieceTaken bs ps = (lent : List ℕ) (room : ℕ) → lineRoom ≤ room → Answered (saysListed (pieceBy (courseOf ps begun bs .listing) lent room))
 
 -- each piece lends a byte at least, where one is left, and has room for a line
-abbrev pub Fit : List Piece → Type 0
-Fit [] = Unit {0}
-Fit (p ∷ ps) = (1 ≤ p .0) × (lineRoom ≤ length (p .1)) × Fit ps
+abbrev pub Roomy : List Piece → Type 0
+Roomy [] = Unit {0}
+Roomy (p ∷ ps) = (1 ≤ p .0) × (lineRoom ≤ length (p .1)) × Roomy ps
 
 -- AND IT IS REACHED: after so many such pieces nothing is left, and with room for `endRoom` bytes the end is carried out. Seven for a byte: each piece
 -- uses one at least or writes a line, and a line takes sixty at least of the bits that bytes brought, six each.
 abbrev pub Reached : List ℕ → List Piece → Type 0
 Reached bs ps =
     let c = courseOf ps begun bs in
-    Fit ps → 7 * length bs ≤ length ps → (c .left ≡ []) × ((n : ℕ) → endRoom ≤ n → Answered (saysListed (finishBy (c .listing) n)))
+    Roomy ps → 7 * length bs ≤ length ps → (c .left ≡ []) × ((n : ℕ) → endRoom ≤ n → Answered (saysListed (finishBy (c .listing) n)))
 
 -- so the whole text comes
 abbrev pub TextComes : List ℕ → List Piece → List ℕ → Type 0
-TextComes bs ps out = Fit ps → 7 * length bs ≤ length ps → endRoom ≤ length out → listedText bs ps out ≡ textOf bs
+TextComes bs ps out = Roomy ps → 7 * length bs ≤ length ps → endRoom ≤ length out → listedText bs ps out ≡ textOf bs

@@ -6,6 +6,7 @@ use mathlib.Core.List.{List, _++_}
 use Prim.Native.Nat.{ℕ, _+_, _*_, _≤_, _<_}
 use lib.ListN.{length, take, drop, getD}
 use Rattle.answer.specs.Order.{Says, answers}
+use Rattle.bits.specs.Fields.{AreBytes}
 use Rattle.line.specs.Line.{lineBits}
 use Rattle.frame.specs.declared.Header.{Header}
 use Rattle.frame.specs.declared.Frame.{Frame}
@@ -28,7 +29,6 @@ use Rattle.positions.specs.Positions.{readPosition, makePosition, PositionMade}
 use Rattle.positions.specs.Positions as positions
 use Rattle.nulls.specs.Nulls.{readNull, makeNull, NullMade}
 use Rattle.texts.specs.Texts.{readText, bufferAfter, makeText, TextMade}
-use Rattle.journal.specs.Bytes.{AreBytes}
 use Rattle.journal.specs.Journal.{keptBy, heldBy, recalledBy, saysKept, saysRecalled}
 use Rattle.writer.specs.Sending.{carriedOn}
 use Rattle.writer.specs.Answer.{writtenBy, writtenTo}

@@ -19,7 +19,7 @@ use Rattle.corrections.specs.Corrections.{countCorrections}
 use Rattle.value.specs.Values.{exactly, stop, upTo, dbHz, notTracked}
 use Rattle.value.specs.Answer.{prcMm, rrcMmS, udreLimit, cn0DbHz, saysDistance, saysRate, saysLimit, saysStrength}
 use Rattle.promises.specs.Calls.{feeds, ends, replied, replyTo, bitsGiven, handedOut, takesAll, served}
-use Rattle.promises.specs.Course.{Piece, listedText, Fit}
+use Rattle.promises.specs.Course.{Piece, listedText, Roomy}
 
 -- the stream of eleven bytes, and the same with all bits turned over
 abbrev pub elevenBytes : List ℕ
@@ -47,7 +47,7 @@ twoLines =
 
 -- the bytes are listed to those lines by any pieces that are enough, each with a byte at least and room for a line, and by the end
 abbrev pub ListsAsTwoLines : List ℕ → Type 0
-ListsAsTwoLines bs = (ps : List Piece) (out : List ℕ) → Fit ps → 7 * length bs ≤ length ps → endRoom ≤ length out → listedText bs ps out ≡ twoLines
+ListsAsTwoLines bs = (ps : List Piece) (out : List ℕ) → Roomy ps → 7 * length bs ≤ length ps → endRoom ≤ length out → listedText bs ps out ≡ twoLines
 
 -- a frame of type 1 with this Z count and this N
 abbrev pub typeOne : ℕ → ℕ → Frame

@@ -10,7 +10,7 @@ use Rattle.bits.specs.Bits.{number}
 use Rattle.line.specs.Line.{isData, six}
 use Rattle.reader.specs.Cells.{roomEnd, pushedCells}
 use Rattle.reader.specs.Hunting.{huntOf}
-use Rattle.reader.specs.Reading.{pastOf, busy, readyOf, movedTo, stepCells, stepTo, pushed, fedBy, Run, runTo, ranBy, fedAllBy, endTo, endedBy}
+use Rattle.reader.specs.Reading.{pastOf, busy, readyOf, movedTo, stepCells, stepTo, steppedBy, fedBy, Run, runTo, ranBy, fedAllBy, endTo, endedBy}
 use Rattle.reader.specs.declared.hunt.Stop.{Stop}
 use Rattle.reader.specs.declared.Candidate.{Candidate}
 use Rattle.reader.specs.declared.Reader.{Reader}
@@ -68,9 +68,9 @@ module _ (r : Reader) (b : ℕ) where
   refused : ℕ → Next
   refused n = record { answer = answer.Refused n; reader = r }
 
-  fed-order : fedBy r b ≡ inOrder (busy r) refused (inOrder ((not (isData b), 1) ∷ []) refused (record { answer = answer.Done; reader = pushed r b }))
+  fed-order : fedBy r b ≡ inOrder (busy r) refused (inOrder ((not (isData b), 1) ∷ []) refused (record { answer = answer.Done; reader = steppedBy r b }))
   unfolding fedBy refused
-  fed-order = order-append (busy r) ((not (isData b), 1) ∷ []) refused (record { answer = answer.Done; reader = pushed r b })
+  fed-order = order-append (busy r) ((not (isData b), 1) ∷ []) refused (record { answer = answer.Done; reader = steppedBy r b })
 
   module _ (state : Ready) (is : state ≡ readyOf (r .cells) (r .candidate) (r .ended)) where
     pub fed-refused : (n : ℕ) → state ≡ Refused n → record { answer = answer.Refused n; reader = r } ≡ fedBy r b
@@ -79,14 +79,14 @@ module _ (r : Reader) (b : ℕ) where
 
     pub fed-empty : state ≡ Yes → isData b ≡ false → record { answer = answer.Refused 1; reader = r } ≡ fedBy r b
     unfolding refused
-    fed-empty e d = ap (λ t. cond (not t) (refused 1) (record { answer = answer.Done; reader = pushed r b })) (sym d) ∙ is-ready refused _ r state is e ∙ sym fed-order
+    fed-empty e d = ap (λ t. cond (not t) (refused 1) (record { answer = answer.Done; reader = steppedBy r b })) (sym d) ∙ is-ready refused _ r state is e ∙ sym fed-order
 
     pub fed-done : state ≡ Yes → isData b ≡ true → (cells : List ℕ) → cells ≡ stepCells (r .cells) (r .candidate) (number (six b))
         → (c : Candidate) → c ≡ stepTo (r .cells) (r .candidate) (number (six b))
         → record { answer = answer.Done; reader = record { cells = cells; candidate = c; ended = r .ended } } ≡ fedBy r b
-    unfolding pushed
+    unfolding steppedBy
     fed-done e d cells ec c cc′ =
-        rw (ec, cc′) (ap (λ t. cond (not t) (refused 1) (record { answer = answer.Done; reader = pushed r b })) (sym d) ∙ is-ready refused _ r state is e ∙ sym fed-order)
+        rw (ec, cc′) (ap (λ t. cond (not t) (refused 1) (record { answer = answer.Done; reader = steppedBy r b })) (sym d) ∙ is-ready refused _ r state is e ∙ sym fed-order)
 
 -- ---- bytes fed, and the end
 

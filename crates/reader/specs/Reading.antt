@@ -61,8 +61,8 @@ stepTo cells c sixBits =
     let end = roomEnd (c .end) (c .held) + 6 in
     movedTo (c .at) end (c .held + 6) (huntOf (stepCells cells c sixBits) end (c .held + 6) (c .words) false)
 
-unfoldable pub pushed : Reader → ℕ → Reader
-pushed r b = record {
+unfoldable pub steppedBy : Reader → ℕ → Reader
+steppedBy r b = record {
   cells = stepCells (r .cells) (r .candidate) (number (six b));
   candidate = stepTo (r .cells) (r .candidate) (number (six b));
   ended = r .ended;
@@ -82,7 +82,7 @@ readyOf cells c ended = inOrder (busyBy cells c ended) ready.Refused ready.Yes
 
 unfoldable pub fedBy : Reader → ℕ → Next
 fedBy r b =
-    let next : Next = record { answer = Done; reader = pushed r b } in
+    let next : Next = record { answer = Done; reader = steppedBy r b } in
     inOrder (busy r ++ ((not (isData b), 1) ∷ [])) (λ n. record { answer = Refused n; reader = r }) next
 
 -- ---- FEED ALL: 5, 3, 2; bytes until a frame waits or none is left, and a byte that carries no bit is passed over

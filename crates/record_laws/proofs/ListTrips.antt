@@ -29,7 +29,7 @@ use Rattle.stage.specs.declared.Count.the-variants as count
 use Rattle.stage.specs.Stages.{otherLayout, countIn, misfit, readOrder, makeOrder, refusedMade, doneMade}
 use Rattle.stage.specs.Lists.{listCount, listEntry, listMade, MadeReads, Sendable, Holding, ListRead}
 use Rattle.stage.proofs.ListCode.{fitting}
-use Rattle.stage.proofs.StageLaws.{done-frame, of-apart}
+use Rattle.stage.proofs.StageLaws.{done-frame, of-apart, of-inj}
 use Rattle.record_laws.proofs.SentLaws.{told-layout, frame-for, some-few, none-taken, list-made, list-told, list-read}
 
 -- what every value has, each entry has
@@ -54,9 +54,6 @@ count-read asked k f c e = record { inside = t .0 .0; same = t .0 .1 .0; hour = 
 
     t : NoneApplies (readOrder asked f (misfit w (f .n)) []) × (count.Of (countIn w (f .n)) ≡ count.Of c)
     t = order-told count.Refused (count.Of (countIn w (f .n))) (count.Of c) (λ m. of-apart m c) (readOrder asked f (misfit w (f .n)) []) e
-
-    of-inj : (a b : ℕ) → count.Of a ≡ count.Of b → a ≡ b
-    of-inj a b q = cc
 
     held : countIn w (f .n) ≡ c
     held = of-inj (countIn w (f .n)) c (t .1)

@@ -23,7 +23,7 @@ use Rattle.pack.specs.Coding.{frameBits, entryIn, rowsOf, frameWith}
 use Rattle.pack.proofs.Round.{made-again}
 use Rattle.stage.specs.declared.Count.the-variants as count
 use Rattle.stage.specs.Stages.{makeOrder, refusedMade, doneMade}
-use Rattle.stage.proofs.StageLaws.{of-apart}
+use Rattle.stage.proofs.StageLaws.{of-apart, of-inj}
 use Rattle.texts.specs.Texts.{widths, coding, fill, characters, lengthIn, textIn, forbidden, textOrder, readText, bufferAfter, makeText}
 use Rattle.texts.proofs.TextCode.{length-characters, length-le, some-words}
 use Rattle.record_laws.proofs.TextHeld.{closing}
@@ -88,9 +88,6 @@ text-read-made f buffer c full e =
   where
     o : NoneApplies (textOrder f buffer) × (count.Of (lengthIn f) ≡ count.Of c)
     o = order-told count.Refused (count.Of (lengthIn f)) (count.Of c) (λ m. of-apart m c) (textOrder f buffer) e
-
-    of-inj : (a b : ℕ) → count.Of a ≡ count.Of b → a ≡ b
-    of-inj a b q = cc
 
     n : (0 < f .n) × (f .n ≤ 30)
     n = some-words (f .n) (o .0 .1 .1 .1 .0)

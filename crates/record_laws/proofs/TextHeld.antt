@@ -17,7 +17,7 @@ use Rattle.frame.specs.declared.Frame.{Frame}
 use Rattle.frame.specs.declared.Layout.the-variants as layout
 use Rattle.pack.specs.Coding.{frameBits, entryIn}
 use Rattle.stage.specs.declared.Count.the-variants as count
-use Rattle.stage.proofs.StageLaws.{of-apart}
+use Rattle.stage.proofs.StageLaws.{of-apart, of-inj}
 use Rattle.texts.specs.Texts.{coding, characters, textLength, lengthIn, textIn, wrongWords, forbidden, textOrder, readText, bufferAfter, Allowed, HoldsText, ReadsText}
 use Rattle.texts.proofs.TextCode.{length-characters, character-at, length-all, length-less, length-least, Ends, none, one, two, ends}
 use Rattle.record_laws.proofs.SentLaws.{read-passes, read-passed, some-few, told-some-few, none-entry, told-entry, any-entry}
@@ -202,9 +202,6 @@ text-held f buffer c e = (
   where
     o : NoneApplies (textOrder f buffer) × (count.Of (lengthIn f) ≡ count.Of c)
     o = order-told count.Refused (count.Of (lengthIn f)) (count.Of c) (λ m. of-apart m c) (textOrder f buffer) e
-
-    of-inj : (a b : ℕ) → count.Of a ≡ count.Of b → a ≡ b
-    of-inj a b q = cc
 
     n : (1 ≤ f .n) × (f .n ≤ 30)
     n = told-some-few (f .n) 30 (o .0 .1 .1 .1 .0)

@@ -126,3 +126,6 @@ done-frame e = ap (λ m. m .frame) e
 
 pub of-apart : (n c : ℕ) → count.Refused n ≡ count.Of c → ⊥
 of-apart n c e = let z : _≡_ {A = ℕ} 0 1 = cc in omega arith
+
+pub of-inj : (a b : ℕ) → count.Of a ≡ count.Of b → a ≡ b
+of-inj a b e = cc

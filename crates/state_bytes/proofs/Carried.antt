@@ -24,7 +24,7 @@ use Rattle.reader.specs.Reading.{
   movedTo,
   stepCells,
   stepTo,
-  pushed,
+  steppedBy,
   Run,
   runTo,
   ranBy,
@@ -43,7 +43,7 @@ use Rattle.reader.specs.declared.Next.{Next}
 use Rattle.reader.specs.declared.FedAll.{FedAll}
 use Rattle.reader.specs.declared.Taken.{Taken}
 use Rattle.reader.proofs.Accepted.{Accepted, accept-free, length-step, accepted-step, accepted-end, accepted-take}
-use Rattle.state_bytes.specs.State.{numbersOf}
+use Rattle.state_bytes.specs.State.{stateNumbers}
 
 -- ---- cells of 32 bits
 
@@ -119,8 +119,8 @@ small-val true = omega arith
 small-val false = omega arith
 
 -- every number fits in 32 bits
-pub carried-fit : (r : Reader) → CarriedBy r → Fit (replicate 47 32) (numbersOf r)
-unfolding numbersOf
+pub carried-fit : (r : Reader) → CarriedBy r → Fit (replicate 47 32) (stateNumbers r)
+unfolding stateNumbers
 carried-fit r k =
     let a = k .fine in (
       omega arith,
@@ -210,10 +210,10 @@ order-holds P cs refuse answer h k = go (first-or-none cs)
 
 module _ (r : Reader) (k : CarriedBy r) where
   pub carried-fed : (b : ℕ) → CarriedBy (fedBy r b .reader)
-  unfolding fedBy pushed
+  unfolding fedBy steppedBy
   carried-fed b =
       order-holds (λ (x : Next). CarriedBy (x .reader)) (busy r ++ ((not (isData b), 1) ∷ [])) (λ n. record { answer = Refused n; reader = r })
-      (record { answer = Done; reader = pushed r b }) (λ n. k) (λ none. carried-step (r .cells) (r .candidate) k (none .1 .1 .0) (number (six b)))
+      (record { answer = Done; reader = steppedBy r b }) (λ n. k) (λ none. carried-step (r .cells) (r .candidate) k (none .1 .1 .0) (number (six b)))
 
   pub carried-fed-all : (bs : List ℕ) → CarriedBy (fedAllBy r bs .reader)
   unfolding fedAllBy

@@ -7,28 +7,29 @@ use native.Mathlib.Numerals.{add-one}
 use native.Mathlib.Omega.{arith}
 use lib.ListN.{length, take, drop, getD, set, replicate, length-append, length-drop}
 use lib.Seq.{take-at, drop-at, drop-drop, take-add, length-take-le, set-at, append-snoc}
-use Rattle.bits.specs.Fields.{Fit}
-use Rattle.state_bytes.specs.Numbers.{AreBytes, bytesOf, numberIn, written, numbersIn}
+use Rattle.bits.specs.Fields.{Fit, AreBytes}
+use Rattle.bits.proofs.FieldLaws.{fit-take, fit-drop}
+use Rattle.state_bytes.specs.Numbers.{lowBytes, numberIn, numbersWritten, numbersIn}
 
 -- ---- one number
 
-pub length-bytes : (k n : ℕ) → length (bytesOf k n) ≡ k
-unfolding bytesOf
+pub length-bytes : (k n : ℕ) → length (lowBytes k n) ≡ k
+unfolding lowBytes
 length-bytes zero n = refl
 length-bytes (suc k) n = ap suc (length-bytes k (n / 256))
 
-pub number-bytes : (k n : ℕ) → n < 256 ^ k → numberIn (bytesOf k n) ≡ n
-unfolding bytesOf numberIn
+pub number-bytes : (k n : ℕ) → n < 256 ^ k → numberIn (lowBytes k n) ≡ n
+unfolding lowBytes numberIn
 number-bytes zero n h = omega arith
 number-bytes (suc k) n h = omega (arith, number-bytes k (n / 256) upper)
   where
     upper : n / 256 < 256 ^ k
     upper = omega (arith, pow-suc 256 k)
 
-pub bytes-number : (bs : List ℕ) → AreBytes bs → bytesOf (length bs) (numberIn bs) ≡ bs
-unfolding bytesOf numberIn
+pub bytes-number : (bs : List ℕ) → AreBytes bs → lowBytes (length bs) (numberIn bs) ≡ bs
+unfolding lowBytes numberIn
 bytes-number [] f = refl
-bytes-number (b ∷ bs) f = ap₂ _∷_ low (ap (bytesOf (length bs)) high ∙ bytes-number bs (f .1))
+bytes-number (b ∷ bs) f = ap₂ _∷_ low (ap (lowBytes (length bs)) high ∙ bytes-number bs (f .1))
   where
     low : (b + 256 * numberIn bs) % 256 ≡ b
     low = omega (arith, f .0)
@@ -36,24 +37,12 @@ bytes-number (b ∷ bs) f = ap₂ _∷_ low (ap (bytesOf (length bs)) high ∙ b
     high : (b + 256 * numberIn bs) / 256 ≡ numberIn bs
     high = omega (arith, f .0)
 
--- ---- bytes: so are the first ones, and those past them
-
-fit-take : (k : ℕ) (bs : List ℕ) → AreBytes bs → AreBytes (take k bs)
-fit-take zero bs f = tt
-fit-take (suc k) [] f = tt
-fit-take (suc k) (b ∷ bs) f = (f .0, fit-take k bs (f .1))
-
-fit-drop : (k : ℕ) (bs : List ℕ) → AreBytes bs → AreBytes (drop k bs)
-fit-drop zero bs f = f
-fit-drop (suc k) [] f = tt
-fit-drop (suc k) (b ∷ bs) f = fit-drop k bs (f .1)
-
 -- ---- numbers one after the other
 
-pub length-written : (ns : List ℕ) → length (written ns) ≡ 4 * length ns
-unfolding written
+pub length-written : (ns : List ℕ) → length (numbersWritten ns) ≡ 4 * length ns
+unfolding numbersWritten
 length-written [] = refl
-length-written (n ∷ ns) = omega (arith, length-append (bytesOf 4 n) (written ns), length-bytes 4 n, length-written ns)
+length-written (n ∷ ns) = omega (arith, length-append (lowBytes 4 n) (numbersWritten ns), length-bytes 4 n, length-written ns)
 
 pub length-numbers : (n : ℕ) (bs : List ℕ) → length (numbersIn n bs) ≡ n
 unfolding numbersIn
@@ -97,22 +86,22 @@ numbers-from (suc m) n (suc i) bs e =
 
 -- ---- inverse both ways
 
-pub numbers-written : (ns rest : List ℕ) → Fit (replicate (length ns) 32) ns → numbersIn (length ns) (written ns ++ rest) ≡ ns
-unfolding written numbersIn
+pub numbers-written : (ns rest : List ℕ) → Fit (replicate (length ns) 32) ns → numbersIn (length ns) (numbersWritten ns ++ rest) ≡ ns
+unfolding numbersWritten numbersIn
 numbers-written [] rest f = refl
 numbers-written (n ∷ ns) rest f =
     rw (
-      append-assoc (bytesOf 4 n) (written ns) rest,
-      take-at (bytesOf 4 n) (written ns ++ rest) 4 (length-bytes 4 n),
-      drop-at (bytesOf 4 n) (written ns ++ rest) 4 (length-bytes 4 n),
+      append-assoc (lowBytes 4 n) (numbersWritten ns) rest,
+      take-at (lowBytes 4 n) (numbersWritten ns ++ rest) 4 (length-bytes 4 n),
+      drop-at (lowBytes 4 n) (numbersWritten ns ++ rest) 4 (length-bytes 4 n),
     )
     (ap₂ _∷_ (number-bytes 4 n (f .0)) (numbers-written ns rest (f .1)))
 
-pub written-numbers : (n : ℕ) (bs : List ℕ) → AreBytes bs → 4 * n ≤ length bs → written (numbersIn n bs) ≡ take (4 * n) bs
-unfolding written numbersIn
+pub written-numbers : (n : ℕ) (bs : List ℕ) → AreBytes bs → 4 * n ≤ length bs → numbersWritten (numbersIn n bs) ≡ take (4 * n) bs
+unfolding numbersWritten numbersIn
 written-numbers zero bs f h = refl
 written-numbers (suc n) bs f h =
-    ap₂ _++_ (ap (λ j. bytesOf j (numberIn (take 4 bs))) (sym full) ∙ bytes-number (take 4 bs) (fit-take 4 bs f))
+    ap₂ _++_ (ap (λ j. lowBytes j (numberIn (take 4 bs))) (sym full) ∙ bytes-number (take 4 bs) (fit-take 4 bs f))
     (written-numbers n (drop 4 bs) (fit-drop 4 bs f) (omega (arith, length-drop 4 bs)))
     ∙ sym (take-add 4 (4 * n) bs)
     ∙ ap (λ j. take j bs) more

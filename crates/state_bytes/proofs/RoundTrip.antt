@@ -10,10 +10,11 @@ use lib.ListN.{length, drop, replicate, length-append, length-replicate, take-ap
 use lib.Seq.{drop-at}
 use borrow.Author.Tests.{le-ltb, ltb-true, eqb-true}
 use Rattle.bits.specs.Bits.{val}
-use Rattle.bits.specs.Fields.{Fit}
+use Rattle.bits.specs.Fields.{Fit, AreBytes}
+use Rattle.bits.proofs.FieldLaws.{length-fit}
 use Rattle.reader.specs.declared.Reader.{Reader}
-use Rattle.state_bytes.specs.Numbers.{AreBytes, bytesOf, written, numbersIn}
-use Rattle.state_bytes.specs.State.{startOf, numbersOf, readerOf, areState, holdsState, stateIn, startPut, statePut}
+use Rattle.state_bytes.specs.Numbers.{lowBytes, numbersWritten, numbersIn}
+use Rattle.state_bytes.specs.State.{startOf, stateNumbers, readerOf, areState, holdsState, stateIn, startPut, statePut}
 use Rattle.state_bytes.proofs.NumberLaws.{length-written, length-numbers, numbers-written, written-numbers}
 use Rattle.state_bytes.proofs.StateLaws.{held-long, start-is}
 
@@ -32,8 +33,8 @@ below-two : (b : Bool) → ltb (val b) 2 ≡ true
 below-two true = refl
 below-two false = refl
 
-reader-numbers : (r : Reader) → readerOf (numbersOf r) ≡ r
-unfolding readerOf numbersOf
+reader-numbers : (r : Reader) → readerOf (stateNumbers r) ≡ r
+unfolding readerOf stateNumbers
 reader-numbers r =
     let c = r .candidate in
     ap₂ (λ waits ended. record {
@@ -42,12 +43,12 @@ reader-numbers r =
       ended = ended;
     }) (yes-no (c .waits)) (yes-no (r .ended))
 
-numbers-state : (r : Reader) → areState (numbersOf r) ≡ true
-unfolding areState numbersOf
+numbers-state : (r : Reader) → areState (stateNumbers r) ≡ true
+unfolding areState stateNumbers
 numbers-state r = rw (below-two (r .candidate .waits), below-two (r .ended))
 
-numbers-reader : (ns : List ℕ) → 7 ≤ length ns → areState ns ≡ true → numbersOf (readerOf ns) ≡ ns
-unfolding areState numbersOf readerOf
+numbers-reader : (ns : List ℕ) → 7 ≤ length ns → areState ns ≡ true → stateNumbers (readerOf ns) ≡ ns
+unfolding areState stateNumbers readerOf
 numbers-reader [] l h = absurd (omega arith)
 numbers-reader (a ∷ []) l h = absurd (omega arith)
 numbers-reader (a ∷ b ∷ []) l h = absurd (omega arith)
@@ -64,29 +65,23 @@ numbers-reader (a ∷ b ∷ c ∷ d ∷ e ∷ f ∷ g ∷ ns) l h =
 -- ---- put, then read
 
 -- where there are at least 188 bytes
-put-is : (r : Reader) (bs : List ℕ) → 188 ≤ length bs → statePut r bs ≡ written (numbersOf r) ++ drop 188 bs
+put-is : (r : Reader) (bs : List ℕ) → 188 ≤ length bs → statePut r bs ≡ numbersWritten (stateNumbers r) ++ drop 188 bs
 unfolding statePut
 put-is r bs h = rw (le-ltb (length bs) 188 h)
 
-fit-length : (ws vs : List ℕ) → Fit ws vs → length ws ≡ length vs
-fit-length [] [] f = refl
-fit-length [] (v ∷ vs) f = absurd f
-fit-length (w ∷ ws) [] f = absurd f
-fit-length (w ∷ ws) (v ∷ vs) f = ap suc (fit-length ws vs (f .1))
-
 -- every number of the reader fits in 32 bits, and there are forty cells
-module _ (r : Reader) (bs : List ℕ) (h : 188 ≤ length bs) (f : Fit (replicate 47 32) (numbersOf r)) where
-  count : 47 ≡ length (numbersOf r)
-  count = sym (length-replicate {A = ℕ} 47 32) ∙ fit-length (replicate 47 32) (numbersOf r) f
+module _ (r : Reader) (bs : List ℕ) (h : 188 ≤ length bs) (f : Fit (replicate 47 32) (stateNumbers r)) where
+  count : 47 ≡ length (stateNumbers r)
+  count = sym (length-replicate {A = ℕ} 47 32) ∙ sym (length-fit (replicate 47 32) (stateNumbers r) f)
 
-  numbers-back : numbersIn 47 (statePut r bs) ≡ numbersOf r
+  numbers-back : numbersIn 47 (statePut r bs) ≡ stateNumbers r
   numbers-back =
       ap (numbersIn 47) (put-is r bs h)
-      ∙ ap (λ n. numbersIn n (written (numbersOf r) ++ drop 188 bs)) count
-      ∙ numbers-written (numbersOf r) (drop 188 bs) (rw (sym count) f)
+      ∙ ap (λ n. numbersIn n (numbersWritten (stateNumbers r) ++ drop 188 bs)) count
+      ∙ numbers-written (stateNumbers r) (drop 188 bs) (rw (sym count) f)
 
   long : 188 ≤ length (statePut r bs)
-  long = omega (arith, ap length (put-is r bs h), length-append (written (numbersOf r)) (drop 188 bs), length-written (numbersOf r), count)
+  long = omega (arith, ap length (put-is r bs h), length-append (numbersWritten (stateNumbers r)) (drop 188 bs), length-written (stateNumbers r), count)
 
   -- HELD after it was put
   pub put-held : holdsState (statePut r bs) ≡ true
@@ -102,21 +97,21 @@ module _ (r : Reader) (bs : List ℕ) (h : 188 ≤ length bs) (f : Fit (replicat
   pub put-again : (q : Reader) → statePut q (statePut r bs) ≡ statePut q bs
   put-again q =
       put-is q (statePut r bs) long
-      ∙ ap (λ l. written (numbersOf q) ++ drop 188 l) (put-is r bs h)
-      ∙ ap (λ l. written (numbersOf q) ++ l) (drop-at (written (numbersOf r)) (drop 188 bs) 188 size)
+      ∙ ap (λ l. numbersWritten (stateNumbers q) ++ drop 188 l) (put-is r bs h)
+      ∙ ap (λ l. numbersWritten (stateNumbers q) ++ l) (drop-at (numbersWritten (stateNumbers r)) (drop 188 bs) 188 size)
       ∙ sym (put-is q bs h)
     where
-      size : length (written (numbersOf r)) ≡ 188
-      size = omega (arith, length-written (numbersOf r), count)
+      size : length (numbersWritten (stateNumbers r)) ≡ 188
+      size = omega (arith, length-written (stateNumbers r), count)
 
   -- PUT THE START over it, of a reader with the same cells: as if the whole of that reader had been put
   pub start-put : (q : Reader) → q .cells ≡ r .cells → startPut (q .candidate) (q .ended) (statePut r bs) ≡ statePut q bs
-  unfolding numbersOf written bytesOf
+  unfolding stateNumbers numbersWritten lowBytes
   start-put q e =
-      let start = written (startOf (q .candidate) (q .ended)) in
+      let start = numbersWritten (startOf (q .candidate) (q .ended)) in
       start-is (q .candidate) (q .ended) (statePut r bs) long
       ∙ ap (λ l. start ++ drop 28 l) (put-is r bs h)
-      ∙ ap (λ cells. start ++ (written cells ++ drop 188 bs)) (sym e)
+      ∙ ap (λ cells. start ++ (numbersWritten cells ++ drop 188 bs)) (sym e)
       ∙ sym (put-is q bs h)
 
 -- ---- read, then put: no byte changes
@@ -133,7 +128,7 @@ module _ (bs : List ℕ) (f : AreBytes bs) (e : holdsState bs ≡ true) where
   pub read-put : statePut (stateIn bs) bs ≡ bs
   read-put =
       put-is (stateIn bs) bs (held-long bs e)
-      ∙ ap (λ r. written (numbersOf r) ++ drop 188 bs) read-is
-      ∙ ap (λ ns. written ns ++ drop 188 bs) (numbers-reader (numbersIn 47 bs) (omega (arith, length-numbers 47 bs)) are-state)
+      ∙ ap (λ r. numbersWritten (stateNumbers r) ++ drop 188 bs) read-is
+      ∙ ap (λ ns. numbersWritten ns ++ drop 188 bs) (numbers-reader (numbersIn 47 bs) (omega (arith, length-numbers 47 bs)) are-state)
       ∙ ap (λ l. l ++ drop 188 bs) (written-numbers 47 bs f (held-long bs e))
       ∙ take-append-drop 188 bs

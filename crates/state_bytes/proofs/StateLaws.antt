@@ -12,8 +12,8 @@ use Rattle.bits.specs.Bits.{val}
 use Rattle.reader.specs.Reading.{started}
 use Rattle.reader.specs.declared.Candidate.{Candidate}
 use Rattle.reader.specs.declared.Reader.{Reader}
-use Rattle.state_bytes.specs.Numbers.{bytesOf, numberIn, written, numbersIn}
-use Rattle.state_bytes.specs.State.{startOf, numbersOf, readerOf, areState, holdsState, stateIn, startPut, statePut}
+use Rattle.state_bytes.specs.Numbers.{lowBytes, numberIn, numbersWritten, numbersIn}
+use Rattle.state_bytes.specs.State.{startOf, stateNumbers, readerOf, areState, holdsState, stateIn, startPut, statePut}
 use Rattle.state_bytes.proofs.NumberLaws.{length-written, number-of, numbers-from}
 use Rattle.state_bytes.proofs.StoreLaws.{store-both, store-seven}
 
@@ -86,9 +86,9 @@ read-held bs e {end} {held} {words} {at} {waits} {ended} {cells} e₁ e₂ e₃ 
 -- the mark, the counts, waits and ended, one after the other
 pub put-counts : (c : Candidate) (ended : Bool) (l : List ℕ) {l₁ l₂ l₃ l₄ l₅ l₆ l₇ : List ℕ} {m at w e : ℕ}
     → m ≡ 0x31533252 → at ≡ c .at → w ≡ val (c .waits) → e ≡ val ended
-    → l₁ ≡ sets l 0 (bytesOf 4 m) → l₂ ≡ sets l₁ 4 (bytesOf 4 (c .end)) → l₃ ≡ sets l₂ 8 (bytesOf 4 (c .held)) → l₄ ≡ sets l₃ 12 (bytesOf 4 (c .words))
-    → l₅ ≡ sets l₄ 16 (bytesOf 4 at) → l₆ ≡ sets l₅ 20 (bytesOf 4 w) → l₇ ≡ sets l₆ 24 (bytesOf 4 e)
-    → l₇ ≡ sets l 0 (written (startOf c ended))
+    → l₁ ≡ sets l 0 (lowBytes 4 m) → l₂ ≡ sets l₁ 4 (lowBytes 4 (c .end)) → l₃ ≡ sets l₂ 8 (lowBytes 4 (c .held)) → l₄ ≡ sets l₃ 12 (lowBytes 4 (c .words))
+    → l₅ ≡ sets l₄ 16 (lowBytes 4 at) → l₆ ≡ sets l₅ 20 (lowBytes 4 w) → l₇ ≡ sets l₆ 24 (lowBytes 4 e)
+    → l₇ ≡ sets l 0 (numbersWritten (startOf c ended))
 put-counts c ended l em ea ew ee e₁ e₂ e₃ e₄ e₅ e₆ e₇ =
     rw (e₇, e₆, e₅, e₄, e₃, e₂, e₁, em, ea, ew, ee) (store-seven l 0x31533252 (c .end) (c .held) (c .words) (c .at) (val (c .waits)) (val ended))
 
@@ -98,16 +98,16 @@ module _ (c : Candidate) (ended : Bool) (bs : List ℕ) where
   start-short h = rw (lt-ltb (length bs) 188 h)
 
   -- where there are at least 188 bytes
-  pub start-is : 188 ≤ length bs → startPut c ended bs ≡ written (startOf c ended) ++ drop 28 bs
+  pub start-is : 188 ≤ length bs → startPut c ended bs ≡ numbersWritten (startOf c ended) ++ drop 28 bs
   unfolding startPut
   start-is h = rw (le-ltb (length bs) 188 h)
 
-  pub start-whole : 188 ≤ length bs → {l : List ℕ} → l ≡ sets bs 0 (written (startOf c ended)) → l ≡ startPut c ended bs
+  pub start-whole : 188 ≤ length bs → {l : List ℕ} → l ≡ sets bs 0 (numbersWritten (startOf c ended)) → l ≡ startPut c ended bs
   start-whole h e =
-      e ∙ sets-eq (written (startOf c ended)) bs 0 (omega (arith, size)) ∙ ap (λ j. written (startOf c ended) ++ drop j bs) size
+      e ∙ sets-eq (numbersWritten (startOf c ended)) bs 0 (omega (arith, size)) ∙ ap (λ j. numbersWritten (startOf c ended) ++ drop j bs) size
       ∙ sym (start-is h)
     where
-      size : 0 + length (written (startOf c ended)) ≡ 28
+      size : 0 + length (numbersWritten (startOf c ended)) ≡ 28
       size = omega (arith, length-written (startOf c ended))
 
 module _ (r : Reader) (bs : List ℕ) where
@@ -117,15 +117,15 @@ module _ (r : Reader) (bs : List ℕ) where
 
   -- the start, then the cells
   pub put-whole : length (r .cells) ≡ 40 → 188 ≤ length bs → {l m : List ℕ}
-      → l ≡ sets bs 0 (written (startOf (r .candidate) (r .ended))) → m ≡ sets l 28 (written (r .cells))
+      → l ≡ sets bs 0 (numbersWritten (startOf (r .candidate) (r .ended))) → m ≡ sets l 28 (numbersWritten (r .cells))
       → m ≡ statePut r bs
-  unfolding statePut numbersOf
+  unfolding statePut stateNumbers
   put-whole full h {l} {m} el em =
-      em ∙ ap (λ k. sets k 28 (written (r .cells))) el
+      em ∙ ap (λ k. sets k 28 (numbersWritten (r .cells))) el
       ∙ sym (store-both (startOf (r .candidate) (r .ended)) (r .cells) bs 0)
-      ∙ sets-eq (written (startOf (r .candidate) (r .ended) ++ r .cells)) bs 0 (omega (arith, size))
-      ∙ ap (λ j. written (startOf (r .candidate) (r .ended) ++ r .cells) ++ drop j bs) size
+      ∙ sets-eq (numbersWritten (startOf (r .candidate) (r .ended) ++ r .cells)) bs 0 (omega (arith, size))
+      ∙ ap (λ j. numbersWritten (startOf (r .candidate) (r .ended) ++ r .cells) ++ drop j bs) size
       ∙ sym (rw (le-ltb (length bs) 188 h))
     where
-      size : 0 + length (written (startOf (r .candidate) (r .ended) ++ r .cells)) ≡ 188
+      size : 0 + length (numbersWritten (startOf (r .candidate) (r .ended) ++ r .cells)) ≡ 188
       size = omega (arith, length-written (startOf (r .candidate) (r .ended) ++ r .cells))

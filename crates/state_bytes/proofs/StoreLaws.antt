@@ -5,7 +5,7 @@ use Prim.Native.Nat.{ℕ, suc, _+_, _*_, _/_, _%_, _≤_, _<_}
 use native.Mathlib.Omega.{arith}
 use lib.ListN.{length, take, drop, getD, set}
 use lib.Seq.{drop-cons, sets}
-use Rattle.state_bytes.specs.Numbers.{bytesOf, numberIn, written}
+use Rattle.state_bytes.specs.Numbers.{lowBytes, numberIn, numbersWritten}
 
 -- ---- reads
 
@@ -38,8 +38,8 @@ number-four bs at a b c d h ea eb ec ed =
 -- ---- stores
 
 pub store-four : (l : List ℕ) (at n : ℕ)
-    → set (set (set (set l at (n % 256)) (at + 1) (n / 256 % 256)) (at + 2) (n / 65536 % 256)) (at + 3) (n / 16777216 % 256) ≡ sets l at (bytesOf 4 n)
-unfolding bytesOf
+    → set (set (set (set l at (n % 256)) (at + 1) (n / 256 % 256)) (at + 2) (n / 65536 % 256)) (at + 3) (n / 16777216 % 256) ≡ sets l at (lowBytes 4 n)
+unfolding lowBytes
 store-four l at n = rw (one, two, three, second, third)
   where
     one : at + 1 ≡ suc at
@@ -58,38 +58,38 @@ store-four l at n = rw (one, two, three, second, third)
     third = omega arith
 
 -- the first of numbers that are stored, and the others
-pub store-number : (l : List ℕ) (i n : ℕ) (ns : List ℕ) → sets l i (written (n ∷ ns)) ≡ sets (sets l i (bytesOf 4 n)) (i + 4) (written ns)
-unfolding bytesOf written
-store-number l i n ns = ap (λ j. sets (sets l i (bytesOf 4 n)) j (written ns)) four-on
+pub store-number : (l : List ℕ) (i n : ℕ) (ns : List ℕ) → sets l i (numbersWritten (n ∷ ns)) ≡ sets (sets l i (lowBytes 4 n)) (i + 4) (numbersWritten ns)
+unfolding lowBytes numbersWritten
+store-number l i n ns = ap (λ j. sets (sets l i (lowBytes 4 n)) j (numbersWritten ns)) four-on
   where
     four-on : suc (suc (suc (suc i))) ≡ i + 4
     four-on = omega arith
 
 -- numbers that are stored in two parts
-pub store-both : (ms ns l : List ℕ) (i : ℕ) → sets l i (written (ms ++ ns)) ≡ sets (sets l i (written ms)) (i + 4 * length ms) (written ns)
-unfolding written
-store-both [] ns l i = ap (λ j. sets l j (written ns)) none
+pub store-both : (ms ns l : List ℕ) (i : ℕ) → sets l i (numbersWritten (ms ++ ns)) ≡ sets (sets l i (numbersWritten ms)) (i + 4 * length ms) (numbersWritten ns)
+unfolding numbersWritten
+store-both [] ns l i = ap (λ j. sets l j (numbersWritten ns)) none
   where
     none : i ≡ i + 4 * 0
     none = omega arith
 store-both (m ∷ ms) ns l i =
-    store-number l i m (ms ++ ns) ∙ store-both ms ns (sets l i (bytesOf 4 m)) (i + 4)
-    ∙ ap₂ (λ k j. sets k j (written ns)) (sym (store-number l i m ms)) four-on
+    store-number l i m (ms ++ ns) ∙ store-both ms ns (sets l i (lowBytes 4 m)) (i + 4)
+    ∙ ap₂ (λ k j. sets k j (numbersWritten ns)) (sym (store-number l i m ms)) four-on
   where
     four-on : i + 4 + 4 * length ms ≡ i + 4 * suc (length ms)
     four-on = omega arith
 
 -- seven numbers, stored one after the other from the start on
 pub store-seven : (l : List ℕ) (a b c d e f g : ℕ)
-    → sets (sets (sets (sets (sets (sets (sets l 0 (bytesOf 4 a)) 4 (bytesOf 4 b)) 8 (bytesOf 4 c)) 12 (bytesOf 4 d)) 16 (bytesOf 4 e)) 20 (bytesOf 4 f)) 24 (bytesOf 4 g)
-    ≡ sets l 0 (written (a ∷ b ∷ c ∷ d ∷ e ∷ f ∷ g ∷ []))
-unfolding bytesOf written
+    → sets (sets (sets (sets (sets (sets (sets l 0 (lowBytes 4 a)) 4 (lowBytes 4 b)) 8 (lowBytes 4 c)) 12 (lowBytes 4 d)) 16 (lowBytes 4 e)) 20 (lowBytes 4 f)) 24 (lowBytes 4 g)
+    ≡ sets l 0 (numbersWritten (a ∷ b ∷ c ∷ d ∷ e ∷ f ∷ g ∷ []))
+unfolding lowBytes numbersWritten
 store-seven l a b c d e f g = refl
 
 -- number i of those that are left
 pub store-next : (ns l : List ℕ) (next i : ℕ) → i < length ns
-    → sets l next (written (drop i ns)) ≡ sets (sets l next (bytesOf 4 (getD ns i 0))) (next + 4) (written (drop (i + 1) ns))
-store-next ns l next i h = ap (λ r. sets l next (written r)) first ∙ store-number l next (getD ns i 0) (drop (i + 1) ns)
+    → sets l next (numbersWritten (drop i ns)) ≡ sets (sets l next (lowBytes 4 (getD ns i 0))) (next + 4) (numbersWritten (drop (i + 1) ns))
+store-next ns l next i h = ap (λ r. sets l next (numbersWritten r)) first ∙ store-number l next (getD ns i 0) (drop (i + 1) ns)
   where
     one : suc i ≡ i + 1
     one = omega arith

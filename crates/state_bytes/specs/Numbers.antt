@@ -1,17 +1,12 @@
 -- Numbers kept as four bytes each, low byte first. Assumes nothing.
 use mathlib.Core.List.{List, [], _∷_, _++_}
 use Prim.Native.Nat.{ℕ, zero, suc, _+_, _*_, _/_, _%_}
-use lib.ListN.{length, take, drop, replicate}
-use Rattle.bits.specs.Fields.{Fit}
-
--- each of these is a byte
-abbrev pub AreBytes : List ℕ → Type 0
-AreBytes bs = Fit (replicate (length bs) 8) bs
+use lib.ListN.{take, drop}
 
 -- the k low bytes of a number, the lowest first
-unfoldable pub bytesOf : ℕ → ℕ → List ℕ
-bytesOf zero n = []
-bytesOf (suc k) n = n % 256 ∷ bytesOf k (n / 256)
+unfoldable pub lowBytes : ℕ → ℕ → List ℕ
+lowBytes zero n = []
+lowBytes (suc k) n = n % 256 ∷ lowBytes k (n / 256)
 
 -- the number that bytes write, the lowest first
 unfoldable pub numberIn : List ℕ → ℕ
@@ -19,9 +14,9 @@ numberIn [] = 0
 numberIn (b ∷ bs) = b + 256 * numberIn bs
 
 -- numbers one after the other, four bytes each
-unfoldable pub written : List ℕ → List ℕ
-written [] = []
-written (n ∷ ns) = bytesOf 4 n ++ written ns
+unfoldable pub numbersWritten : List ℕ → List ℕ
+numbersWritten [] = []
+numbersWritten (n ∷ ns) = lowBytes 4 n ++ numbersWritten ns
 
 -- the first n numbers of four bytes each
 unfoldable pub numbersIn : ℕ → List ℕ → List ℕ

@@ -8,15 +8,15 @@ use Rattle.bits.specs.Bits.{val}
 use Rattle.reader.specs.Reading.{started}
 use Rattle.reader.specs.declared.Candidate.{Candidate}
 use Rattle.reader.specs.declared.Reader.{Reader}
-use Rattle.state_bytes.specs.Numbers.{written, numbersIn}
+use Rattle.state_bytes.specs.Numbers.{numbersWritten, numbersIn}
 
 -- the mark, bytes 52 32 53 31; then the counts, whether a frame waits, whether the input has ended
 abbrev pub startOf : Candidate → Bool → List ℕ
 startOf c ended = 0x31533252 ∷ c .end ∷ c .held ∷ c .words ∷ c .at ∷ val (c .waits) ∷ val ended ∷ []
 
 -- the numbers of a reader: these seven and the forty cells
-unfoldable pub numbersOf : Reader → List ℕ
-numbersOf r = startOf (r .candidate) (r .ended) ++ r .cells
+unfoldable pub stateNumbers : Reader → List ℕ
+stateNumbers r = startOf (r .candidate) (r .ended) ++ r .cells
 
 -- the reader of such numbers
 unfoldable pub readerOf : List ℕ → Reader
@@ -40,9 +40,9 @@ stateIn bs = cond (holdsState bs) (readerOf (numbersIn 47 bs)) started
 
 -- PUT: the first 188 bytes become the reader's state, those past them stay; fewer bytes stay whole
 unfoldable pub statePut : Reader → List ℕ → List ℕ
-statePut r bs = cond (ltb (length bs) 188) bs (written (numbersOf r) ++ drop 188 bs)
+statePut r bs = cond (ltb (length bs) 188) bs (numbersWritten (stateNumbers r) ++ drop 188 bs)
 
 -- PUT THE START: the first 28 bytes become the mark, the counts and whether a frame waits and the input has ended, all others stay; fewer than
 -- 188 bytes stay whole
 unfoldable pub startPut : Candidate → Bool → List ℕ → List ℕ
-startPut c ended bs = cond (ltb (length bs) 188) bs (written (startOf c ended) ++ drop 28 bs)
+startPut c ended bs = cond (ltb (length bs) 188) bs (numbersWritten (startOf c ended) ++ drop 28 bs)

@@ -6,7 +6,7 @@ ghost use Prim.Native.Nat.{_≤_};
 ghost use lib.ListN.{length, drop};
 ghost use lib.Seq.{sets};
 ghost use Rattle.bits.specs.Bits.{val};
-ghost use Rattle.state_bytes.specs.Numbers.{written, numbersIn};
+ghost use Rattle.state_bytes.specs.Numbers.{numbersWritten, numbersIn};
 ghost use Rattle.state_bytes.specs.State.{startOf, holdsState, stateIn, startPut, statePut};
 use crate::number::number_at;
 use crate::number::put_number;
@@ -95,7 +95,7 @@ fn flag(yes: bool) -> usize
 // Puts the mark, the counts and whether a frame waits and the input has ended.
 fn put_counts(c: Candidate, ended: bool, bytes: &mut [u8])
     requires { ⌜ 188 ≤ length (now bytes) ⌝ }
-    ensures { λ _. ⌜ now (bytes .exit) ≡ sets (now (bytes .entry)) 0 (written (startOf c ended)) ⌝ }
+    ensures { λ _. ⌜ now (bytes .exit) ≡ sets (now (bytes .entry)) 0 (numbersWritten (startOf c ended)) ⌝ }
 {
     put_number(wide(MARK), 0, bytes);
     put_number(c.end, 4, bytes);
@@ -119,7 +119,7 @@ pub fn put_start(c: Candidate, ended: bool, bytes: &mut [u8])
 // Puts the forty cells.
 fn put_cells(cells: &[u32; 40], bytes: &mut [u8])
     requires { ⌜ (length (now cells) ≡ 40) × (188 ≤ length (now bytes)) ⌝ }
-    ensures { λ _. ⌜ now (bytes .exit) ≡ sets (now (bytes .entry)) 28 (written (now (cells .entry))) ⌝ }
+    ensures { λ _. ⌜ now (bytes .exit) ≡ sets (now (bytes .entry)) 28 (numbersWritten (now (cells .entry))) ⌝ }
 {
     let mut i = 0;
     let mut next = CELLS;

@@ -3,7 +3,7 @@ ghost use mathlib.Core.Path.{_≡_};
 ghost use Prim.Native.Nat.{_+_, _≤_, _<_};
 ghost use lib.ListN.{length, take, drop};
 ghost use lib.Seq.{sets};
-ghost use Rattle.state_bytes.specs.Numbers.{bytesOf, numberIn};
+ghost use Rattle.state_bytes.specs.Numbers.{lowBytes, numberIn};
 
 // A byte as a wider number.
 fn byte(x: u8) -> u32
@@ -32,7 +32,7 @@ pub(crate) fn number_at(at: usize, bytes: &[u8]) -> u32
 // Puts the four low bytes of a number from `at` on.
 pub(crate) fn put_number(n: usize, at: usize, bytes: &mut [u8])
     requires { ⌜ at + 4 ≤ length (now bytes) ⌝ }
-    ensures { λ _. ⌜ now (bytes .exit) ≡ sets (now (bytes .entry)) at (bytesOf 4 n) ⌝ }
+    ensures { λ _. ⌜ now (bytes .exit) ≡ sets (now (bytes .entry)) at (lowBytes 4 n) ⌝ }
 {
     bytes[at] = (n % 256) as u8;
     bytes[at + 1] = (n / 256 % 256) as u8;

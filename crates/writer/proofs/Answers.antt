@@ -18,7 +18,7 @@ use Rattle.frame.specs.declared.Frame.{Frame}
 use Rattle.frame.specs.declared.HeaderWords.the-variants as header
 use Rattle.frame.proofs.HeaderLaws.{words-answered}
 use Rattle.frame.proofs.FrameLaws.{header-within, n-within, below-words, length-words}
-use Rattle.writer.specs.Sending.{frameBits, bitsAfter, carriedOn, bytesFor, bytesOf, sentAfter, bytesAfter, pairAfter}
+use Rattle.writer.specs.Sending.{sentBits, bitsAfter, carriedOn, bytesFor, lineLength, sentAfter, bytesAfter, pairAfter}
 use Rattle.writer.specs.Answer.{over, lead, openChecks, openedBy, openedTo, writeChecks, writtenBy, writtenTo}
 use Rattle.writer.specs.declared.Carried.{Carried}
 use Rattle.writer.specs.declared.Opened.the-variants as opened
@@ -49,15 +49,15 @@ module _ (f : Frame) (c : Carried) (l : List ℕ) where
       (sym (order-refuses Refused _ (writeChecks f c l) n first), sym (order-refuses (λ k. l) _ (writeChecks f c l) n first))
 
   pub write-answers : NoneApplies (writeChecks f c l)
-      → (Done (bytesOf f) (carriedOn (bitsAfter c f)) ≡ writtenBy f c l) × (over (bytesFor (bytesOf f) (bitsAfter c f)) l ≡ writtenTo f c l)
+      → (Done (lineLength f) (carriedOn (bitsAfter c f)) ≡ writtenBy f c l) × (over (bytesFor (lineLength f) (bitsAfter c f)) l ≡ writtenTo f c l)
   write-answers none = (sym (order-answers Refused _ (writeChecks f c l) none), sym (order-answers (λ k. l) _ (writeChecks f c l) none))
 
   pub write-none : {k : ℕ} {c′ : Carried} → writtenBy f c l ≡ Done k c′ → NoneApplies (writeChecks f c l)
-  write-none e = order-told Refused (Done (bytesOf f) (carriedOn (bitsAfter c f))) _ (λ n r. refused-apart r) (writeChecks f c l) e .0
+  write-none e = order-told Refused (Done (lineLength f) (carriedOn (bitsAfter c f))) _ (λ n r. refused-apart r) (writeChecks f c l) e .0
 
   pub write-keeps : {n : ℕ} → writtenBy f c l ≡ Refused n → writtenTo f c l ≡ l
   write-keeps e =
-      order-keeps Refused (Done (bytesOf f) (carriedOn (bitsAfter c f))) (writeChecks f c l) l (over (bytesFor (bytesOf f) (bitsAfter c f)) l)
+      order-keeps Refused (Done (lineLength f) (carriedOn (bitsAfter c f))) (writeChecks f c l) l (over (bytesFor (lineLength f) (bitsAfter c f)) l)
       (λ r. refused-apart (sym r)) e
 
 -- ---- from the words that the code puts
@@ -87,23 +87,23 @@ header-refused f k e = go (outside f) refl
 
 -- the bits after a pair whose bits are 0 or 1 are those after its number
 pub bits-after : (c : Carried) (f : Frame) → c .d29 ≤ 1 → c .d30 ≤ 1 → bitsAfter c f ≡ sentAfter (c .d29 * 2 + c .d30) (wordsOf f)
-bits-after c f p q = ap₂ (λ a b. frameBits a b f) (pair-29 (c .d29) (c .d30) p q) (pair-30 (c .d29) (c .d30) p q)
+bits-after c f p q = ap₂ (λ a b. sentBits a b f) (pair-29 (c .d29) (c .d30) p q) (pair-30 (c .d29) (c .d30) p q)
 
 -- the code's answer: no check applied, and the words were put
 pub write-done : (f : Frame) (c : Carried) (l : List ℕ) → NoneApplies (writeChecks f c l) → length (f .words) ≡ 31
     → (first second : ℕ) → header.Words first second ≡ headerWords (f .header) (f .n) → {k : ℕ} {l′ : List ℕ}
     → (k ≡ pairAfter (c .d29 * 2 + c .d30) (first ∷ second ∷ take (f .n) (f .words)))
     × (l′ ≡ sets l 0 (bytesAfter (c .d29 * 2 + c .d30) (first ∷ second ∷ take (f .n) (f .words))))
-    → (Done (bytesOf f) (record { d29 = k / 2; d30 = k % 2 }) ≡ writtenBy f c l) × (l′ ≡ writtenTo f c l)
+    → (Done (lineLength f) (record { d29 = k / 2; d30 = k % 2 }) ≡ writtenBy f c l) × (l′ ≡ writtenTo f c l)
 write-done f c l none full first second told {k} {l′} (e, e′) = (
-  ap (Done (bytesOf f)) (sym carried) ∙ answered .0,
+  ap (Done (lineLength f)) (sym carried) ∙ answered .0,
   e′ ∙ ap (λ ws. sets l 0 (bytesAfter pair ws)) words ∙ bytes ∙ answered .1,
 )
   where
     pair : ℕ
     pair = c .d29 * 2 + c .d30
 
-    answered : (Done (bytesOf f) (carriedOn (bitsAfter c f)) ≡ writtenBy f c l) × (over (bytesFor (bytesOf f) (bitsAfter c f)) l ≡ writtenTo f c l)
+    answered : (Done (lineLength f) (carriedOn (bitsAfter c f)) ≡ writtenBy f c l) × (over (bytesFor (lineLength f) (bitsAfter c f)) l ≡ writtenTo f c l)
     answered = write-answers f c l none
 
     p : c .d29 ≤ 1
@@ -115,8 +115,8 @@ write-done f c l none full first second told {k} {l′} (e, e′) = (
     o : outside f ≡ false
     o = none .1 .1 .0
 
-    s : bytesOf f ≤ length l
-    s = ltb-false (length l) (bytesOf f) (none .1 .1 .1 .1 .0)
+    s : lineLength f ≤ length l
+    s = ltb-false (length l) (lineLength f) (none .1 .1 .1 .1 .0)
 
     words : first ∷ second ∷ take (f .n) (f .words) ≡ wordsOf f
     words = words-told f o first second told
@@ -127,10 +127,10 @@ write-done f c l none full first second told {k} {l′} (e, e′) = (
         ∙ carried-pair pair first (second ∷ take (f .n) (f .words))
         ∙ ap (λ n. record { d29 = n / 2; d30 = n % 2 }) (sym e)
 
-    many : 5 * length (wordsOf f) ≡ bytesOf f
+    many : 5 * length (wordsOf f) ≡ lineLength f
     many = omega (arith, length-words f o full)
 
-    bytes : sets l 0 (bytesAfter pair (wordsOf f)) ≡ over (bytesFor (bytesOf f) (bitsAfter c f)) l
+    bytes : sets l 0 (bytesAfter pair (wordsOf f)) ≡ over (bytesFor (lineLength f) (bitsAfter c f)) l
     bytes =
         ap₂ (λ n bs. sets l 0 (bytesFor n bs)) many (sym (bits-after c f p q))
-        ∙ sets-over (bytesFor (bytesOf f) (bitsAfter c f)) l (omega (arith, s, length-bytes (bytesOf f) (bitsAfter c f)))
+        ∙ sets-over (bytesFor (lineLength f) (bitsAfter c f)) l (omega (arith, s, length-bytes (lineLength f) (bitsAfter c f)))

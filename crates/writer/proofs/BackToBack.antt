@@ -20,7 +20,7 @@ use Rattle.stream.specs.Standing.{wordAt, Stands, frameAt, Placed, placed, scan
 use Rattle.stream.specs.Places.{StandsIn}
 use Rattle.stream.proofs.Words.{unlike, frame-n, right-first}
 use Rattle.stream.proofs.Scanning.{scan-miss, scan-hit, scan-short, only}
-use Rattle.writer.specs.Sending.{sentFrom, frameBits, bytesFor, sentAfter, bytesAfter, pairAfter}
+use Rattle.writer.specs.Sending.{sentFrom, sentBits, bytesFor, sentAfter, bytesAfter, pairAfter}
 use Rattle.writer.specs.Streams.{Writable, AllWritable, allWords, streamBits, placesFrom}
 use Rattle.writer.proofs.Bytes.{bytes-append}
 use Rattle.writer.proofs.Carrying.{length-sentAt, length-sentAfter, sent-next, carries-29, carries-30}
@@ -78,7 +78,7 @@ module _ (c : ℕ) (f : Frame) (g : Writable f) (vs : List ℕ) (rest : List Boo
   after : List Bool
   after = sentAfter (pairAfter c (wordsOf f)) vs ++ rest
 
-  split : d ≡ d29* (bits 2 c) ∷ d30* (bits 2 c) ∷ (frameBits (d29* (bits 2 c)) (d30* (bits 2 c)) f ++ after)
+  split : d ≡ d29* (bits 2 c) ∷ d30* (bits 2 c) ∷ (sentBits (d29* (bits 2 c)) (d30* (bits 2 c)) f ++ after)
   unfolding d after
   split =
       ap (λ bs. d29* (bits 2 c) ∷ d30* (bits 2 c) ∷ bs)

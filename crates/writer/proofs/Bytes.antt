@@ -3,7 +3,7 @@ use mathlib.Core.Path.{_≡_, refl, sym, ap, _∙_}
 use mathlib.Core.Bool.{Bool}
 use mathlib.Core.List.{List, [], _∷_, _++_, append-assoc}
 use Prim.Native.Nat.{ℕ, zero, suc, _+_, _*_, _/_, _^_, _≤_}
-use native.Mathlib.Nat.{add-zero, zero-add, add-suc, suc-add, div-one}
+use native.Mathlib.Nat.{zero-add, suc-add, div-one}
 use native.Mathlib.Omega.{arith}
 use lib.ListN.{length, take, drop, set, length-append, length-drop, take-append-drop}
 use lib.Seq.{sets, sets-eq, take-at, drop-at, drop-drop, length-take-le, take-append-le, drop-append-le}
@@ -59,10 +59,6 @@ word-bytes w =
     ∙ ap (λ n. byteOf (bits 6 n) ∷ []) (div-one w)))))
 
 -- ---- bytes in a buffer
-
-pub sets-append : (l : List ℕ) (i : ℕ) (xs ys : List ℕ) → sets l i (xs ++ ys) ≡ sets (sets l i xs) (i + length xs) ys
-sets-append l i [] ys = rw (add-zero i)
-sets-append l i (x ∷ xs) ys = rw (add-suc i (length xs), ← (suc-add i (length xs))) (sets-append (set l i x) (suc i) xs ys)
 
 -- a word's five bytes, stored one after the other
 pub put-five : (l : List ℕ) (i w : ℕ) {a b c d e : ℕ}

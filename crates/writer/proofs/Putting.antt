@@ -6,9 +6,10 @@ use native.Mathlib.Numerals.{add-one}
 use native.Mathlib.Omega.{arith}
 use lib.ListN.{length, take, drop, getD, length-take, drop-of-length-le}
 use lib.Seq.{sets, length-sets, drop-cons, getD-take}
+use Rattle.bits.proofs.Stores.{sets-append}
 use Rattle.word.specs.Answer.{sentAt}
 use Rattle.writer.specs.Sending.{bytesFor, bytesAfter, pairAfter}
-use Rattle.writer.proofs.Bytes.{length-bytes, sets-append}
+use Rattle.writer.proofs.Bytes.{length-bytes}
 use Rattle.writer.proofs.Carrying.{bytes-next, bytes-one, pair-lt}
 
 -- a word's five bytes, then the others after them
@@ -16,7 +17,7 @@ put-next : (l : List ℕ) (at c w : ℕ) (ws : List ℕ)
     → sets l at (bytesAfter c (w ∷ ws)) ≡ sets (sets l at (bytesAfter c (w ∷ []))) (at + 5) (bytesAfter (pairAfter c (w ∷ [])) ws)
 put-next l at c w ws =
     ap (sets l at) (bytes-next c w ws)
-    ∙ sets-append l at (bytesFor 5 (sentAt c w)) (bytesAfter (pairAfter c (w ∷ [])) ws)
+    ∙ sets-append (bytesFor 5 (sentAt c w)) (bytesAfter (pairAfter c (w ∷ [])) ws) l at
     ∙ ap₂ (λ bs n. sets (sets l at bs) (at + n) (bytesAfter (pairAfter c (w ∷ [])) ws)) (sym (bytes-one c w)) (length-bytes 5 (sentAt c w))
 
 -- ---- the loop over the first n words

@@ -14,7 +14,7 @@ use Rattle.stream.proofs.Words.{right-passes}
 use Rattle.stream.proofs.Stand.{stands-long}
 use Rattle.stream.proofs.Turning.{take-turned, drop-turned, n-turned}
 use Rattle.stream.proofs.Data.{word-later, data-later, words-standing}
-use Rattle.writer.specs.Sending.{sentFrom, frameBits}
+use Rattle.writer.specs.Sending.{sentFrom, sentBits}
 use Rattle.writer.specs.OneFrame.{itsBits}
 
 -- ---- words that pass are what their data are sent as
@@ -55,7 +55,7 @@ sent-again (suc m) x y r l p =
 
 -- ---- ITS OWN BITS
 
-pub rewritten : (d : List Bool) → Stands d → frameBits (d29* d) (d30* d) (frameAt d) ≡ itsBits d
+pub rewritten : (d : List Bool) → Stands d → sentBits (d29* d) (d30* d) (frameAt d) ≡ itsBits d
 rewritten [] s = absurd (omega (arith, stands-long [] s))
 rewritten (x ∷ []) s = absurd (omega (arith, stands-long (x ∷ []) s))
 rewritten (x ∷ y ∷ r) s =

@@ -19,7 +19,7 @@ use Rattle.frame.proofs.HeaderLaws.{length-first, length-second, n-words, first
 use Rattle.frame.proofs.FrameLaws.{below-at, header-within, n-within, length-data, below-words, frame-words}
 use Rattle.stream.specs.Standing.{wordAt, right, nAt, Stands, dataFrom, frameAt}
 use Rattle.stream.proofs.Data.{word-later}
-use Rattle.writer.specs.Sending.{sentFrom, frameBits}
+use Rattle.writer.specs.Sending.{sentFrom, sentBits}
 use Rattle.writer.proofs.Carrying.{length-sentFrom}
 
 -- ---- the words of what is sent
@@ -129,11 +129,11 @@ module _ (f : Frame) (o : outside f ≡ false) (full : length (f .words) ≡ 31)
   counts : nOf (bits 24 (number (secondWord (f .header) (f .n)))) ≡ length (dataWords f)
   counts = ap nOf second-is ∙ n-words (f .header) (f .n) (header-within f o) (n-within f o) ∙ sym (length-data f o full)
 
-  pub written-stands : Stands (a ∷ b ∷ (frameBits a b f ++ rest))
+  pub written-stands : Stands (a ∷ b ∷ (sentBits a b f ++ rest))
   unfolding wordsOf
   written-stands = stands-sent (number (firstWord (f .header))) (number (secondWord (f .header) (f .n))) (dataWords f) starts counts a b rest
 
-  pub written-is : frameAt (a ∷ b ∷ (frameBits a b f ++ rest)) ≡ f
+  pub written-is : frameAt (a ∷ b ∷ (sentBits a b f ++ rest)) ≡ f
   unfolding wordsOf
   written-is =
       frame-sent (number (firstWord (f .header))) (number (secondWord (f .header) (f .n))) (dataWords f) starts counts a b rest (below-words f o)

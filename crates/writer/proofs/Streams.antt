@@ -14,7 +14,7 @@ use Rattle.frame.specs.declared.Frame.{Frame}
 use Rattle.frame.proofs.FrameLaws.{length-words}
 use Rattle.stream.specs.Standing.{framesIn}
 use Rattle.stream.specs.Places.{StandsIn}
-use Rattle.writer.specs.Sending.{bitsAfter, carriedOn, bytesFor, bytesOf, sentAfter, bytesAfter, pairAfter}
+use Rattle.writer.specs.Sending.{bitsAfter, carriedOn, bytesFor, lineLength, sentAfter, bytesAfter, pairAfter}
 use Rattle.writer.specs.Answer.{over, lead, writeChecks, writtenTo}
 use Rattle.writer.specs.Streams.{Writable, AllWritable, allWords, streamBits, streamBytes, behind, writtenAll, streamTo, StreamWritten}
 use Rattle.writer.specs.declared.Carried.{Carried}
@@ -38,13 +38,13 @@ unfolding wordsOf
 carries c f = carried-pair c _ _
 
 module _ (c : Carried) (p : c .d29 ≤ 1) (q : c .d30 ≤ 1) (f : Frame) (g : Writable f) (l : List ℕ) (room : 5 * length (wordsOf f) ≤ length l) where
-  five : bytesOf f ≡ 5 * length (wordsOf f)
+  five : lineLength f ≡ 5 * length (wordsOf f)
   five = omega (arith, length-words f (g .within) (g .full))
 
   none : NoneApplies (writeChecks f c l)
   none = (
     le-ltb 1 (c .d29) p,
-    (le-ltb 1 (c .d30) q, (g .within, (g .in-time, (le-ltb (length l) (bytesOf f) (omega (arith, five)), tt)))),
+    (le-ltb 1 (c .d30) q, (g .within, (g .in-time, (le-ltb (length l) (lineLength f) (omega (arith, five)), tt)))),
   )
 
   on-is : on c f ≡ record { d29 = pairAfter (pairOf c) (wordsOf f) / 2; d30 = pairAfter (pairOf c) (wordsOf f) % 2 }

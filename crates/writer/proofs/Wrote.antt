@@ -21,7 +21,7 @@ use Rattle.stream.proofs.Words.{frame-n}
 use Rattle.stream.proofs.Stand.{stands-long}
 use Rattle.stream.proofs.Turning.{stands-turned, n-turned, frame-turned}
 use Rattle.stream.proofs.Data.{frame-within, frame-full}
-use Rattle.writer.specs.Sending.{frameBits, bitsAfter, carriedOn, bytesFor, bytesOf}
+use Rattle.writer.specs.Sending.{sentBits, bitsAfter, carriedOn, bytesFor, lineLength}
 use Rattle.writer.specs.Answer.{writeChecks, writtenBy, writtenTo}
 use Rattle.writer.specs.OneFrame.{lineAfter, Wrote, pairBefore, itsBits, WritesBack}
 use Rattle.writer.specs.declared.Carried.{Carried}
@@ -35,18 +35,18 @@ use Rattle.writer.proofs.Rewriting.{rewritten, bits-turned}
 -- ---- the bytes, where no check applies
 
 module _ (f : Frame) (full : length (f .words) ≡ 31) (c : Carried) (l : List ℕ) (none : NoneApplies (writeChecks f c l)) where
-  pub wrote-front : take (bytesOf f) (writtenTo f c l) ≡ bytesFor (bytesOf f) (bitsAfter c f)
+  pub wrote-front : take (lineLength f) (writtenTo f c l) ≡ bytesFor (lineLength f) (bitsAfter c f)
   wrote-front =
-      ap (take (bytesOf f)) (sym (write-answers f c l none .1))
-      ∙ take-over (bytesFor (bytesOf f) (bitsAfter c f)) l (bytesOf f) (length-bytes (bytesOf f) (bitsAfter c f))
+      ap (take (lineLength f)) (sym (write-answers f c l none .1))
+      ∙ take-over (bytesFor (lineLength f) (bitsAfter c f)) l (lineLength f) (length-bytes (lineLength f) (bitsAfter c f))
 
-  pub wrote-back : drop (bytesOf f) (writtenTo f c l) ≡ drop (bytesOf f) l
+  pub wrote-back : drop (lineLength f) (writtenTo f c l) ≡ drop (lineLength f) l
   wrote-back =
-      ap (drop (bytesOf f)) (sym (write-answers f c l none .1))
-      ∙ drop-over (bytesFor (bytesOf f) (bitsAfter c f)) l (bytesOf f) (length-bytes (bytesOf f) (bitsAfter c f))
+      ap (drop (lineLength f)) (sym (write-answers f c l none .1))
+      ∙ drop-over (bytesFor (lineLength f) (bitsAfter c f)) l (lineLength f) (length-bytes (lineLength f) (bitsAfter c f))
 
-  pub wrote-bits : lineBits (take (bytesOf f) (writtenTo f c l)) ≡ bitsAfter c f
-  wrote-bits = ap lineBits wrote-front ∙ line-bytes (bytesOf f) (bitsAfter c f) (omega (arith, long, length-words f (none .1 .1 .0) full))
+  pub wrote-bits : lineBits (take (lineLength f) (writtenTo f c l)) ≡ bitsAfter c f
+  wrote-bits = ap lineBits wrote-front ∙ line-bytes (lineLength f) (bitsAfter c f) (omega (arith, long, length-words f (none .1 .1 .0) full))
     where
       long : length (bitsAfter c f) ≡ 30 * length (wordsOf f)
       long = length-sentFrom (isNonzero (c .d29)) (isNonzero (c .d30)) (wordsOf f)
@@ -66,10 +66,10 @@ wrote f full c l k c′ e = record {
     none : NoneApplies (writeChecks f c l)
     none = write-none f c l e
 
-    same : Done k c′ ≡ Done (bytesOf f) (carriedOn (bitsAfter c f))
+    same : Done k c′ ≡ Done (lineLength f) (carriedOn (bitsAfter c f))
     same = sym e ∙ sym (write-answers f c l none .0)
 
-    count : k ≡ bytesOf f
+    count : k ≡ lineLength f
     count = cc same
 
     last : c′ ≡ carriedOn (bitsAfter c f)
@@ -93,16 +93,16 @@ writes-back d s z l room = record {
 }
   where
     own : bitsAfter (pairBefore d) (frameAt d) ≡ itsBits d
-    own = ap₂ (λ a b. frameBits a b (frameAt d)) (one-val (d29* d)) (one-val (d30* d)) ∙ rewritten d s
+    own = ap₂ (λ a b. sentBits a b (frameAt d)) (one-val (d29* d)) (one-val (d30* d)) ∙ rewritten d s
 
-    many : bytesOf (frameAt d) ≡ 5 * size d
+    many : lineLength (frameAt d) ≡ 5 * size d
     many = omega (arith, frame-n d)
 
     bit : (b : Bool) → ltb 1 (val b) ≡ false
     bit b = le-ltb 1 (val b) (omega (arith, val-lt b))
 
     none : NoneApplies (writeChecks (frameAt d) (pairBefore d) l)
-    none = (bit (d29* d), (bit (d30* d), (frame-within d, (z, (le-ltb (length l) (bytesOf (frameAt d)) (omega (arith, room, many)), tt)))))
+    none = (bit (d29* d), (bit (d30* d), (frame-within d, (z, (le-ltb (length l) (lineLength (frameAt d)) (omega (arith, room, many)), tt)))))
 
 -- in the other polarity too: it is the same frame there, and its bits are these turned over
 pub writes-back-turned : (d : List Bool) → Stands d → late (frameAt d .header .z) ≡ false → (l : List ℕ) → 5 * size d ≤ length l

@@ -6,7 +6,7 @@ use lib.ListN.{length, drop}
 use Rattle.answer.specs.Order.{Says, refuses, answers, Check, inOrder}
 use Rattle.frame.specs.Widths.{outside, late}
 use Rattle.frame.specs.declared.Frame.{Frame}
-use Rattle.writer.specs.Sending.{bitsAfter, carriedOn, bytesFor, bytesOf}
+use Rattle.writer.specs.Sending.{bitsAfter, carriedOn, bytesFor, lineLength}
 use Rattle.writer.specs.declared.Carried.{Carried}
 use Rattle.writer.specs.declared.Written.{Written}
 use Rattle.writer.specs.declared.Written.the-variants as written
@@ -41,15 +41,15 @@ abbrev pub writeChecks : Frame → Carried → List ℕ → List Check
 writeChecks f c buffer =
     (ltb 1 (c .d29), 5) ∷ (ltb 1 (c .d30), 5) ∷ (outside f, 5)
     ∷ (late (f .header .z), 7)
-    ∷ (ltb (length buffer) (bytesOf f), 13)
+    ∷ (ltb (length buffer) (lineLength f), 13)
     ∷ []
 
 abbrev pub writtenBy : Frame → Carried → List ℕ → Written
-writtenBy f c buffer = inOrder (writeChecks f c buffer) written.Refused (written.Done (bytesOf f) (carriedOn (bitsAfter c f)))
+writtenBy f c buffer = inOrder (writeChecks f c buffer) written.Refused (written.Done (lineLength f) (carriedOn (bitsAfter c f)))
 
 -- the buffer after it
 abbrev pub writtenTo : Frame → Carried → List ℕ → List ℕ
-writtenTo f c buffer = inOrder (writeChecks f c buffer) (λ n. buffer) (over (bytesFor (bytesOf f) (bitsAfter c f)) buffer)
+writtenTo f c buffer = inOrder (writeChecks f c buffer) (λ n. buffer) (over (bytesFor (lineLength f) (bitsAfter c f)) buffer)
 
 -- ---- in the table's terms
 

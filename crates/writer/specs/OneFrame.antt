@@ -9,7 +9,7 @@ use Rattle.line.specs.Line.{lineBits}
 use Rattle.word.specs.Word.{d29*, d30*}
 use Rattle.frame.specs.declared.Frame.{Frame}
 use Rattle.stream.specs.Standing.{size, Stands, frameAt}
-use Rattle.writer.specs.Sending.{carriedOn, bytesOf}
+use Rattle.writer.specs.Sending.{carriedOn, lineLength}
 use Rattle.writer.specs.Answer.{writtenBy, writtenTo}
 use Rattle.writer.specs.declared.Carried.{Carried}
 use Rattle.writer.specs.declared.Written.the-variants.{Done}
@@ -20,7 +20,7 @@ lineAfter c bytes rest = isNonzero (c .d29) ∷ isNonzero (c .d30) ∷ (lineBits
 
 -- WRITTEN: k bytes at the front of the buffer, after the carried pair c; c′ is the pair carried on
 pub record Wrote (f : Frame) (c : Carried) (buffer : List ℕ) (k : ℕ) (c′ : Carried) : Type 0 where
-  pub count : k ≡ bytesOf f
+  pub count : k ≡ lineLength f
   -- whatever follows, they stand after the two carried bits, and are that frame
   pub stands : (rest : List Bool) → Stands (lineAfter c (take k (writtenTo f c buffer)) rest)
   pub is : (rest : List Bool) → frameAt (lineAfter c (take k (writtenTo f c buffer)) rest) ≡ f

@@ -19,12 +19,12 @@ sentFrom a b (w ∷ ws) =
     word ++ sentFrom (nth word 29) (nth word 30) ws
 
 -- THE BITS OF A FRAME written after the carried bits a, b
-abbrev pub frameBits : Bool → Bool → Frame → List Bool
-frameBits a b f = sentFrom a b (wordsOf f)
+abbrev pub sentBits : Bool → Bool → Frame → List Bool
+sentBits a b f = sentFrom a b (wordsOf f)
 
 -- the same after a carried pair
 abbrev pub bitsAfter : Carried → Frame → List Bool
-bitsAfter c f = frameBits (isNonzero (c .d29)) (isNonzero (c .d30)) f
+bitsAfter c f = sentBits (isNonzero (c .d29)) (isNonzero (c .d30)) f
 
 -- the pair that bits carry on: their last two
 abbrev pub carriedOn : List Bool → Carried
@@ -36,8 +36,8 @@ bytesFor zero bs = []
 bytesFor (suc n) bs = byteOf (take 6 bs) ∷ bytesFor n (drop 6 bs)
 
 -- a frame is 5(N + 2) bytes
-abbrev pub bytesOf : Frame → ℕ
-bytesOf f = 5 * (f .n + 2)
+abbrev pub lineLength : Frame → ℕ
+lineLength f = 5 * (f .n + 2)
 
 -- ---- a carried pair as a number of two bits, D29* the higher
 

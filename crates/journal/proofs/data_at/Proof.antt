@@ -6,7 +6,7 @@ use native.Mathlib.Omega.{arith}
 use lib.ListN.{take, drop, set, replicate}
 use lib.Seq.{drop-drop}
 use denote.Ref.{now}
-use Rattle.journal.specs.Bytes.{wordIn, wordsIn}
+use Rattle.journal.specs.Bytes.{wordIn, wordsFrom}
 use Rattle.journal.proofs.TurnLaws.{word-filled}
 use Rattle.journal.proofs.data_at.Statement.{statement}
 use Rattle.journal.proofs.data_at.Tie as tie
@@ -14,13 +14,13 @@ use Rattle.journal.proofs.data_at.Tie as tie
 -- the first i words, and zeros
 abbrev Inv-loop : tie.InvT-loop
 Inv-loop n at bytes words₀ i₀ next₀ words i next =
-    (words ≡ wordsIn 3 i (drop at bytes) ++ replicate (31 - i) 0) × ((i ≤ n) × (next ≡ at + 3 * i))
+    (words ≡ wordsFrom 3 i (drop at bytes) ++ replicate (31 - i) 0) × ((i ≤ n) × (next ≡ at + 3 * i))
 
 abbrev μ-loop : tie.MeasureT-loop
 μ-loop n at bytes words₀ i₀ next₀ words i next = n - i
 
 loop-holds : tie.Need-loop-holds Inv-loop μ-loop
-unfolding wordsIn
+unfolding wordsFrom
 loop-holds c = (refl, (omega arith, omega arith))
 
 word-at-requires : tie.Need-word-at-requires Inv-loop μ-loop
@@ -43,7 +43,7 @@ returns c =
     let a = c .before .before .before .args in
     let v = c .before .loop in
     let all : v .i ≡ a .n = omega arith in
-    v .inv .0 ∙ ap (λ j. wordsIn 3 j (drop (a .at) (now (a .bytes))) ++ replicate (31 - j) 0) all
+    v .inv .0 ∙ ap (λ j. wordsFrom 3 j (drop (a .at) (now (a .bytes))) ++ replicate (31 - j) 0) all
 
 pub data-at-spec : {M : Type 1} → statement M
 data-at-spec =

@@ -5,7 +5,7 @@ use lib.ListN.{drop}
 use denote.Ref.{now}
 use borrow.Author.Needs.{needs}
 use borrow.Author.Tests.{not-true, not-false}
-use Rattle.journal.specs.Bytes.{wordsIn}
+use Rattle.journal.specs.Bytes.{wordsFrom}
 use Rattle.journal.specs.declared.Found.the-variants.{Record}
 use Rattle.journal.proofs.WordLaws.{length-words}
 use Rattle.journal.proofs.DataLaws.{n-unequal, preamble-wrong, both-right, frame-is}
@@ -34,7 +34,7 @@ returns-3 c =
     let p = c .before .before .before in
     let d = p .before .before in
     let a = d .before .before .before .before .args in
-    let ws = wordsIn 3 (a .n) (drop 9 (now (a .bytes))) in
+    let ws = wordsFrom 3 (a .n) (drop 9 (now (a .bytes))) in
     ap (λ f. record { answer = Record (3 * a .n + 9); frame = f })
     (ap₂ (λ h words. record { header = h; n = a .n; words = words }) (c .before .header-of .ensures) (c .data-at .ensures)
     ∙ frame-is (a .n) (d .before .before .word-at .result) (d .before .word-at2 .result) ws (length-words 3 (a .n) (drop 9 (now (a .bytes)))))

@@ -6,7 +6,7 @@ use lib.ListN.{length, drop, getD, drop-of-length-le}
 use lib.Seq.{sets, length-sets}
 use denote.Ref.{now}
 use borrow.Author.Needs.{needs}
-use Rattle.state_bytes.specs.Numbers.{bytesOf, written}
+use Rattle.state_bytes.specs.Numbers.{lowBytes, numbersWritten}
 use Rattle.state_bytes.proofs.StoreLaws.{store-next}
 use Rattle.state_bytes.proofs.put_cells.Statement.{statement}
 use Rattle.state_bytes.proofs.put_cells.Tie as tie
@@ -14,7 +14,7 @@ use Rattle.state_bytes.proofs.put_cells.Tie as tie
 -- storing the cells that are left from here on is storing all of them from byte 28 on
 abbrev Inv-loop : tie.InvT-loop
 Inv-loop cells bytes₀ i₀ next₀ bytes i next =
-    (sets bytes₀ 28 (written cells) ≡ sets bytes next (written (drop i cells))) × ((i ≤ 40) × ((next ≡ 28 + 4 * i) × (length bytes ≡ length bytes₀)))
+    (sets bytes₀ 28 (numbersWritten cells) ≡ sets bytes next (numbersWritten (drop i cells))) × ((i ≤ 40) × ((next ≡ 28 + 4 * i) × (length bytes ≡ length bytes₀)))
 
 abbrev μ-loop : tie.MeasureT-loop
 μ-loop cells bytes₀ i₀ next₀ bytes i next = 40 - i
@@ -29,19 +29,19 @@ loop-again c =
     let l = w .before .before .before in
     let a = l .before .before .args in
     let v = l .loop in
-    let e = p .put-number .ensures ∙ ap (λ n. sets (v .bytes) (v .next) (bytesOf 4 n)) (w .wide .ensures) in (
+    let e = p .put-number .ensures ∙ ap (λ n. sets (v .bytes) (v .next) (lowBytes 4 n)) (w .wide .ensures) in (
       v .inv .0 ∙ store-next (now (a .cells)) (v .bytes) (v .next) (v .i) (omega (arith, l .before .before .pre .0))
-          ∙ ap (λ b. sets b (v .next + 4) (written (drop (v .i + 1) (now (a .cells))))) (sym e),
-      (omega arith, (omega arith, ap length e ∙ length-sets (v .bytes) (v .next) (bytesOf 4 (getD (now (a .cells)) (v .i) 0)) ∙ v .inv .1 .1 .1)),
+          ∙ ap (λ b. sets b (v .next + 4) (numbersWritten (drop (v .i + 1) (now (a .cells))))) (sym e),
+      (omega arith, (omega arith, ap length e ∙ length-sets (v .bytes) (v .next) (lowBytes 4 (getD (now (a .cells)) (v .i) 0)) ∙ v .inv .1 .1 .1)),
     )
 
 returns : tie.Need-returns Inv-loop μ-loop
-unfolding written
+unfolding numbersWritten
 returns c =
     let a = c .before .before .before .args in
     let v = c .before .loop in
     let all : length (now (a .cells)) ≤ v .i = omega (arith, c .before .before .before .pre .0) in
-    sym (v .inv .0 ∙ ap (λ r. sets (v .bytes) (v .next) (written r)) (drop-of-length-le (now (a .cells)) all))
+    sym (v .inv .0 ∙ ap (λ r. sets (v .bytes) (v .next) (numbersWritten r)) (drop-of-length-le (now (a .cells)) all))
 
 pub put-cells-spec : {M : Type 1} → statement M
 put-cells-spec =

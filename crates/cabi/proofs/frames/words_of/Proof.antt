@@ -5,20 +5,20 @@ use Prim.Native.Nat.{_+_, _-_, _≤_}
 use native.Mathlib.Omega.{arith}
 use lib.ListN.{set, replicate}
 use denote.Ref.{now}
-use Rattle.journal.specs.Bytes.{wordsIn}
+use Rattle.journal.specs.Bytes.{wordsFrom}
 use Rattle.journal.proofs.TurnLaws.{word-filled}
 use Rattle.cabi.proofs.frames.words_of.Statement.{statement}
 use Rattle.cabi.proofs.frames.words_of.Tie as tie
 
 -- the first i words, and zeros
 abbrev Inv-loop : tie.InvT-loop
-Inv-loop n bytes words₀ i₀ words i = (words ≡ wordsIn 3 i bytes ++ replicate (31 - i) 0) × (i ≤ n)
+Inv-loop n bytes words₀ i₀ words i = (words ≡ wordsFrom 3 i bytes ++ replicate (31 - i) 0) × (i ≤ n)
 
 abbrev μ-loop : tie.MeasureT-loop
 μ-loop n bytes words₀ i₀ words i = n - i
 
 loop-holds : tie.Need-loop-holds Inv-loop μ-loop
-unfolding wordsIn
+unfolding wordsFrom
 loop-holds c = (refl, omega arith)
 
 loop-again : tie.Need-loop-again Inv-loop μ-loop
@@ -33,7 +33,7 @@ returns c =
     let a = c .before .before .before .args in
     let v = c .before .loop in
     let all : v .i ≡ a .n = omega arith in
-    v .inv .0 ∙ ap (λ j. wordsIn 3 j (now (a .bytes)) ++ replicate (31 - j) 0) all
+    v .inv .0 ∙ ap (λ j. wordsFrom 3 j (now (a .bytes)) ++ replicate (31 - j) 0) all
 
 pub words-of-spec : {M : Type 1} → statement M
 words-of-spec =

@@ -5,7 +5,7 @@ use borrow.Author.Needs.{needs}
 use Rattle.nulls.specs.Nulls.{saysNullRead}
 use Rattle.nulls.specs.declared.NullRead.{NullRead}
 use Rattle.cabi.specs.Answer.{numberOf}
-use Rattle.cabi.specs.Frames.{frameIn}
+use Rattle.cabi.specs.Frames.{frameSaid}
 use Rattle.cabi.specs.Nulls.{nullSaid}
 use Rattle.cabi.proofs.RecallLaws.{frame-told, frame-refused}
 use Rattle.cabi.proofs.null.rtcm2_read_null.Statement.{statement}
@@ -13,7 +13,7 @@ use Rattle.cabi.proofs.null.rtcm2_read_null.Tie as tie
 
 -- what was read of the frame, as the call's number
 read : (c : tie.After-read-null) {x : NullRead} → c .read-null .result ≡ x
-    → numberOf (saysNullRead x) ≡ numberOf (nullSaid (frameIn (now (c .before .before .before .before .before .args .frame))))
+    → numberOf (saysNullRead x) ≡ numberOf (nullSaid (frameSaid (now (c .before .before .before .before .before .args .frame))))
 read c e =
     let r = c .before .before .before in
     ap (λ y. numberOf (saysNullRead y)) (sym e ∙ c .read-null .ensures)

@@ -6,7 +6,7 @@ use mir.Val.{toZ, ofZ}
 use borrow.Author.Needs.{needs}
 use Rattle.positions.specs.Positions.{saysPositionRead}
 use Rattle.positions.specs.declared.PositionRead.{PositionRead}
-use Rattle.cabi.specs.Frames.{frameIn}
+use Rattle.cabi.specs.Frames.{frameSaid}
 use Rattle.cabi.specs.Positions.{positionSaid, xSaid, ySaid, zSaid}
 use Rattle.cabi.proofs.AnswerLaws.{number-as, left-as}
 use Rattle.cabi.proofs.RecallLaws.{frame-told, frame-refused}
@@ -15,7 +15,7 @@ use Rattle.cabi.proofs.position.rtcm2_read_position.Tie as tie
 
 -- what was read of the frame is what the call says
 read : (c : tie.After-read-position) {p : PositionRead} → c .read-position .result ≡ p
-    → saysPositionRead p ≡ positionSaid (frameIn (now (c .before .before .before .before .before .args .frame)))
+    → saysPositionRead p ≡ positionSaid (frameSaid (now (c .before .before .before .before .before .args .frame)))
 read c e =
     let r = c .before .before .before in
     ap saysPositionRead (sym e ∙ c .read-position .ensures)

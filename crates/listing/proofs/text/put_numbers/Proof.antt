@@ -40,11 +40,11 @@ loop-again c =
     let v = c .before .before .before .before .before .before .before .loop in
     let s = c .before .before .before .before .before .before .before .before .before in
     let ns = now (s .args .numbers) in (
-      v .inv .0 ∙ store-spaced (v .buffer) ns (v .next) (v .i) 6 (s .pre .0) (omega arith) _ (p .1) _ (p .0 .0) _ (c .mark-after .ensures),
+      v .inv .0 ∙ store-spaced (v .buffer) ns (v .next) (v .i) 6 (s .pre .0) (omega arith) _ (p .1) _ (p .0 .0) _ (c .after-number .ensures),
       omega (arith, v .inv .1, p .0 .0, length-spaced ns (v .i) 6 (s .pre .0) (omega arith)),
       omega arith,
       omega (arith, p .0 .1),
-      length-marked (v .buffer) (v .next) (decimal (getD ns (v .i) 0)) _ (p .1) (c .before .before .before .put-number .result) (c .mark-after .result) ∙ v .inv .4,
+      length-marked (v .buffer) (v .next) (decimal (getD ns (v .i) 0)) _ (p .1) (c .before .before .before .put-number .result) (c .after-number .result) ∙ v .inv .4,
     )
 
 returns : tie.Need-returns Inv-loop μ-loop
