@@ -1,7 +1,7 @@
 -- ROWS MADE, ROWS READ: from the bytes that a maker's call left, the calls that read give the count of the rows and every row's own bytes.
 -- Assumes nothing.
 use mathlib.Core.Path.{_≡_, refl, ap, subst, _∙_}
-use mathlib.Core.Bool.{Bool, _||_}
+use mathlib.Core.Bool.{Bool}
 use mathlib.Core.List.{List, [], _∷_, _++_}
 use Prim.Native.Nat.{ℕ, _+_, _*_, _/_, _≤_, _<_}
 use native.Mathlib.Omega.{arith}
@@ -26,7 +26,7 @@ use Rattle.journal.specs.Journal.{keptBy, saysKept}
 use Rattle.journal.proofs.RoundTrip.{recall-kept}
 use Rattle.pack.specs.Coding.{Coding, entryBits, frameWith}
 use Rattle.pack.proofs.Round.{Faithful, length-entries}
-use Rattle.stage.specs.Stages.{makeOrder, refusedMade, doneMade, saysMade, saysCount}
+use Rattle.stage.specs.Stages.{wrongCount, makeOrder, refusedMade, doneMade, saysMade, saysCount}
 use Rattle.stage.specs.Lists.{listMade}
 use Rattle.corrections.specs.Corrections as correction
 use Rattle.healths.specs.Healths as health
@@ -88,7 +88,7 @@ within : {A : Type 0} (asked : Layout) (k : Coding A) (pattern most : ℕ) (out 
 unfolding frameWith wordsIn
 within asked k pattern most out fit h es c f e =
     let t = order-told refusedMade (doneMade (frameWith pattern k h (take c es))) (doneMade f) (λ n. done-apart n f)
-    (makeOrder asked h ((eqb c 0 || ltb most c, 12) ∷ (anyOf out (take c es), 10) ∷ [])) e in
+    (makeOrder asked h ((wrongCount most c, 12) ∷ (anyOf out (take c es), 10) ∷ [])) e in
     let few : c ≤ most = ltb-false most c (both-false (eqb c 0) (ltb most c) (t .0 .1 .1 .1 .0) .1) in
     let bits = entryBits k (take c es) in
     let n = (length bits + 23) / 24 in

@@ -1,7 +1,7 @@
 -- The refusals of a call that makes or keeps a frame, in ONE order: 5, 6, 7, the layout's own, 13. A frame that was made is within its
 -- widths, so keeping it adds 13 alone. Assumes nothing.
 use mathlib.Core.Path.{_≡_, refl, ap, _∙_}
-use mathlib.Core.Bool.{Bool, true, false, not, _||_}
+use mathlib.Core.Bool.{Bool, true, false, not}
 use mathlib.Core.List.{List, [], _∷_}
 use Prim.Native.Nat.{ℕ, zero, suc, _+_, _*_, _/_, _%_, _≤_}
 use native.Mathlib.Omega.{arith}
@@ -26,8 +26,9 @@ use Rattle.journal.specs.declared.Kept.the-variants as kept
 use Rattle.journal.proofs.WordLaws.{length-words, fit-words}
 use Rattle.pack.specs.Coding.{Coding, frameWith}
 use Rattle.pack.proofs.Round.{made-inside}
-use Rattle.stage.specs.Stages.{makeOrder, refusedMade, doneMade, saysMade}
+use Rattle.stage.specs.Stages.{wrongCount, makeOrder, refusedMade, doneMade, saysMade}
 use Rattle.stage.specs.declared.Made.{Made}
+use Rattle.stage.proofs.ListCode.{told-some-few}
 use Rattle.corrections.specs.Corrections as correction
 use Rattle.healths.specs.Healths as health
 use Rattle.positions.specs.Positions as position
@@ -101,8 +102,8 @@ module _ (kind station z sequence code : ℕ) (buffer : List ℕ) where
     entries-order = make-order asked more (frameWith pattern k H es) make is (λ none. made-inside k pattern H es (none .0) (fits (none .1 .1 .1)))
 
   -- a list of at most so many entries
-  few : {A : Type 0} (es : List A) (c most : ℕ) → (eqb c 0 || ltb most c) ≡ false → length (take c es) ≤ most
-  few es c most e = omega (arith, ltb-false most c (both-false (eqb c 0) (ltb most c) e .1), length-take c es)
+  few : {A : Type 0} (es : List A) (c most : ℕ) → wrongCount most c ≡ false → length (take c es) ≤ most
+  few es c most e = omega (arith, told-some-few c most e .1, length-take c es)
 
   -- ---- the two lists: 5, 6, 7, 12, 10, 13
 

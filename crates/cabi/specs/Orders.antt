@@ -1,5 +1,5 @@
 -- The refusals of each call in the order that include/rtcm2.h gives: whether each applies, and its number. Assumes nothing.
-use mathlib.Core.Bool.{Bool, not, _||_}
+use mathlib.Core.Bool.{Bool, not}
 use mathlib.Core.List.{List, [], _∷_, _++_}
 use Prim.Native.Nat.{ℕ, _+_, _*_, _/_, _%_}
 use lib.Dec.{ltb, leb, eqb}
@@ -19,7 +19,7 @@ use Rattle.journal.specs.Forms.{wordsAfter}
 use Rattle.journal.specs.Journal.{recallOrder}
 use Rattle.writer.specs.Sending.{lineLength}
 use Rattle.pack.specs.Coding.{Coding, frameWith}
-use Rattle.stage.specs.Stages.{otherLayout, countIn, misfit, wrongSize, makeOrder}
+use Rattle.stage.specs.Stages.{wrongCount, otherLayout, countIn, misfit, wrongSize, makeOrder}
 use Rattle.corrections.specs.Corrections as correction
 use Rattle.healths.specs.Healths as health
 use Rattle.positions.specs.Positions as position
@@ -103,11 +103,11 @@ headerWith kind station z sequence code = record { kind = kind; station = statio
 
 -- a list's own: 12, 10
 abbrev pub listChecks : {A : Type 0} → ℕ → (A → Bool) → List A → ℕ → List Check
-listChecks most out es c = (eqb c 0 || ltb most c, 12) ∷ (anyOf out (take c es), 10) ∷ []
+listChecks most out es c = (wrongCount most c, 12) ∷ (anyOf out (take c es), 10) ∷ []
 
 -- a text's own: 12, 11
 abbrev pub textChecks : List ℕ → List Check
-textChecks t = (eqb (length t) 0 || ltb 90 (length t), 12) ∷ (anyOf text.forbidden t, 11) ∷ []
+textChecks t = (wrongCount 90 (length t), 12) ∷ (anyOf text.forbidden t, 11) ∷ []
 
 module _ (kind station z sequence code : ℕ) where
   abbrev H : Header

@@ -19,6 +19,7 @@ use stage::Count;
 use stage::Counted;
 use stage::Made;
 use stage::Making;
+use stage::Suited;
 
 // One satellite's correction: PRC and RRC as sent, the stop numbers too.
 pub struct Correction {
@@ -43,20 +44,7 @@ const FILL: u32 = 0xAAAAAA;
 pub fn count_corrections(frame: Frame) -> Count
     ensures { λ r. ⌜ r ≡ countCorrections frame ⌝ }
 {
-    let Widths::Within = frame::frame_widths(frame) else {
-        return Count::Refused(5);
-    };
-    let header = frame.header;
-    let Asked::Same = stage::asked_of(Layout::Correction, header.kind) else {
-        return Count::Refused(6);
-    };
-    let Clock::Hour = frame::clock_of(header.z) else {
-        return Count::Refused(7);
-    };
-    let Counted::Entries(count) = stage::entries_in(40, frame.n) else {
-        return Count::Refused(8);
-    };
-    Count::Of(count)
+    stage::count_in(Layout::Correction, 40, frame)
 }
 
 // The entry whose bits start at bit `at` of the data.
@@ -174,20 +162,9 @@ fn pack_entries(entries: [Correction; 18], count: usize) -> Packer
 pub fn make_corrections(header: Header, entries: [Correction; 18], count: usize) -> Made
     ensures { λ r. ⌜ r ≡ makeCorrections header entries count ⌝ }
 {
-    let Widths::Within = frame::header_widths(header) else {
-        return stage::refused(5);
-    };
-    let Asked::Same = stage::asked_of(Layout::Correction, header.kind) else {
-        return stage::refused(6);
-    };
-    let Clock::Hour = frame::clock_of(header.z) else {
-        return stage::refused(7);
-    };
-    if count == 0 {
-        return stage::refused(12);
-    }
-    if count > 18 {
-        return stage::refused(12);
+    let suited = stage::suits_with(Layout::Correction, header, count, 18);
+    if let Suited::Refused(n) = suited {
+        return stage::refused(n);
     }
     if any_out(entries, count) {
         return stage::refused(10);

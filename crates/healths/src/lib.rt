@@ -22,6 +22,7 @@ use stage::Count;
 use stage::Counted;
 use stage::Made;
 use stage::Making;
+use stage::Suited;
 
 // One satellite's health: the codes as sent, reserved bits too.
 pub struct SatelliteHealth {
@@ -47,20 +48,7 @@ pub enum HealthRead {
 pub fn count_healths(frame: Frame) -> Count
     ensures { λ r. ⌜ r ≡ countHealths frame ⌝ }
 {
-    let Widths::Within = frame::frame_widths(frame) else {
-        return Count::Refused(5);
-    };
-    let header = frame.header;
-    let Asked::Same = stage::asked_of(Layout::Health, header.kind) else {
-        return Count::Refused(6);
-    };
-    let Clock::Hour = frame::clock_of(header.z) else {
-        return Count::Refused(7);
-    };
-    let Counted::Entries(count) = stage::entries_in(24, frame.n) else {
-        return Count::Refused(8);
-    };
-    Count::Of(count)
+    stage::count_in(Layout::Health, 24, frame)
 }
 
 // The entry whose bits start at bit `at` of the data.
@@ -186,20 +174,9 @@ fn pack_entries(entries: [SatelliteHealth; 31], count: usize) -> Packer
 pub fn make_healths(header: Header, entries: [SatelliteHealth; 31], count: usize) -> Made
     ensures { λ r. ⌜ r ≡ makeHealths header entries count ⌝ }
 {
-    let Widths::Within = frame::header_widths(header) else {
-        return stage::refused(5);
-    };
-    let Asked::Same = stage::asked_of(Layout::Health, header.kind) else {
-        return stage::refused(6);
-    };
-    let Clock::Hour = frame::clock_of(header.z) else {
-        return stage::refused(7);
-    };
-    if count == 0 {
-        return stage::refused(12);
-    }
-    if count > 31 {
-        return stage::refused(12);
+    let suited = stage::suits_with(Layout::Health, header, count, 31);
+    if let Suited::Refused(n) = suited {
+        return stage::refused(n);
     }
     if any_out(entries, count) {
         return stage::refused(10);

@@ -10,6 +10,7 @@ use stage::Asked;
 use stage::Made;
 use stage::Making;
 use stage::Size;
+use stage::Suited;
 
 // A null frame, or the refusal's number.
 pub enum NullRead {
@@ -41,15 +42,10 @@ pub fn read_null(frame: Frame) -> NullRead
 pub fn make_null(header: Header) -> Made
     ensures { λ r. ⌜ r ≡ makeNull header ⌝ }
 {
-    let Widths::Within = frame::header_widths(header) else {
-        return stage::refused(5);
-    };
-    let Asked::Same = stage::asked_of(Layout::Null, header.kind) else {
-        return stage::refused(6);
-    };
-    let Clock::Hour = frame::clock_of(header.z) else {
-        return stage::refused(7);
-    };
+    let suited = stage::suits(Layout::Null, header);
+    if let Suited::Refused(n) = suited {
+        return stage::refused(n);
+    }
     Made {
         answer: Making::Done,
         frame: Frame {

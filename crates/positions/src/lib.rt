@@ -16,6 +16,7 @@ use stage::Asked;
 use stage::Made;
 use stage::Making;
 use stage::Size;
+use stage::Suited;
 
 // The station's antenna, in centimetres.
 pub struct Position {
@@ -103,15 +104,10 @@ fn pack_position(position: Position) -> Packer
 pub fn make_position(header: Header, position: Position) -> Made
     ensures { λ r. ⌜ r ≡ makePosition header position ⌝ }
 {
-    let Widths::Within = frame::header_widths(header) else {
-        return stage::refused(5);
-    };
-    let Asked::Same = stage::asked_of(Layout::Position, header.kind) else {
-        return stage::refused(6);
-    };
-    let Clock::Hour = frame::clock_of(header.z) else {
-        return stage::refused(7);
-    };
+    let suited = stage::suits(Layout::Position, header);
+    if let Suited::Refused(n) = suited {
+        return stage::refused(n);
+    }
     if out_of_range(position) {
         return stage::refused(10);
     }

@@ -1,14 +1,12 @@
 -- A record that is written reads back equal; a frame that stands, whose record is read, made anew and written after the same two bits, gives its own
 -- bits. Assumes nothing.
 use mathlib.Core.Path.{_≡_, refl, sym, ap, _∙_}
-use mathlib.Core.Bool.{Bool, true, false, cond, _||_}
+use mathlib.Core.Bool.{Bool, true, false, cond}
 use mathlib.Core.List.{List, [], _∷_, _++_}
-use Prim.Native.Nat.{ℕ, zero, suc, _+_, _*_, _≤_}
+use Prim.Native.Nat.{ℕ, zero, suc, _+_, _*_}
 use native.Mathlib.Omega.{arith}
-use lib.Dec.{ltb, eqb}
 use lib.ListN.{length, take, drop}
 use lib.Seq.{take-at}
-use borrow.Author.Tests.{ltb-false}
 use Rattle.answer.specs.Order.{answers, NoneApplies}
 use Rattle.answer.proofs.OrderLaws.{order-answers}
 use Rattle.line.specs.Line.{lineBits}
@@ -16,7 +14,6 @@ use Rattle.frame.specs.Widths.{headerOutside, late}
 use Rattle.frame.specs.declared.Frame.{Frame}
 use Rattle.frame.specs.declared.Layout.{Layout}
 use Rattle.frame.specs.declared.Layout.the-variants as layout
-use Rattle.frame.proofs.WidthLaws.{both-false}
 use Rattle.stream.specs.Standing.{size, frameAt}
 use Rattle.stream.proofs.Data.{frame-full}
 use Rattle.pack.specs.Coding.{Each}
@@ -30,6 +27,7 @@ use Rattle.stage.specs.declared.Making.{Making}
 use Rattle.stage.specs.declared.Making.the-variants as making
 use Rattle.stage.specs.declared.Made.{Made}
 use Rattle.stage.proofs.StageLaws.{done-apart}
+use Rattle.stage.proofs.ListCode.{told-some-few}
 use Rattle.record_laws.proofs.CorrectionTrips.{corrections-made-read, corrections-read-made}
 use Rattle.record_laws.proofs.HealthTrips.{healths-made-read, healths-read-made}
 use Rattle.record_laws.proofs.PositionTrips.{position-made-read, position-read-made}
@@ -56,10 +54,6 @@ made-told m f e = go (m .answer) (m .frame) e
     go : (a : Making) (g : Frame) → saysMade (record { answer = a; frame = g }) ≡ answers f → record { answer = a; frame = g } ≡ doneMade f
     go making.Done g h = unfold doneMade in ap (λ x. record { answer = making.Done; frame = x }) (says-inj h)
     go (making.Refused n) g h = let z : _≡_ {A = ℕ} 0 1 = cc in absurd (omega arith)
-
--- a count that is not refused with 12 is at most the most
-few : (c most : ℕ) → eqb c 0 || ltb most c ≡ false → c ≤ most
-few c most e = ltb-false most c (both-false (eqb c 0) (ltb most c) e .1)
 
 each-take : {A : Type 0} (P : A → Type 0) (n : ℕ) (es : List A) → Each P es → Each P (take n es)
 each-take P zero es h = tt
@@ -88,7 +82,7 @@ recall-front f buffer rest k full e = (
 pub reads-back-equal : ReadsBackEqual
 reads-back-equal = record {
   corrections = λ h es c d f many typed e.
-      let at-most = few c 18 (none-told (carries-its-number .make-corrections h es c) f e .1 .1 .1 .0) in
+      let at-most = told-some-few c 18 (none-told (carries-its-number .make-corrections h es c) f e .1 .1 .1 .0) .1 in
       let made = corrections-made-read h es c d f (omega (arith, at-most, many)) (each-take Typed c es typed) (made-told (makeCorrections h es c) f e) in (
         made,
         record {
@@ -97,7 +91,7 @@ reads-back-equal = record {
         },
       );
   healths = λ h es c d f many e.
-      let at-most = few c 31 (none-told (carries-its-number .make-healths h es c) f e .1 .1 .1 .0) in
+      let at-most = told-some-few c 31 (none-told (carries-its-number .make-healths h es c) f e .1 .1 .1 .0) .1 in
       let made = healths-made-read h es c d f (omega (arith, at-most, many)) (made-told (makeHealths h es c) f e) in (
         made,
         record {

@@ -35,7 +35,10 @@ use Rattle.pack.proofs.code32.Met as code32
 use Rattle.pack.proofs.satellite_of.Met as satellite-of
 use Rattle.stage.proofs.asked_of.Met as asked-of
 use Rattle.stage.proofs.entries_in.Met as entries-in
+use Rattle.stage.proofs.count_in.Met as count-in
 use Rattle.stage.proofs.size_of.Met as size-of
+use Rattle.stage.proofs.suits.Met as suits
+use Rattle.stage.proofs.suits_with.Met as suits-with
 use Rattle.stage.proofs.refused.Met as stage-refused
 use Rattle.corrections.proofs.count_corrections.Met as count-corrections
 use Rattle.corrections.proofs.correction_at.Met as correction-at
@@ -101,7 +104,10 @@ every-call-ends = record {
   satellite-of = satellite-of.met;
   asked-of = asked-of.met;
   entries-in = entries-in.met;
+  count-in = count-in.met;
   size-of = size-of.met;
+  suits = suits.met;
+  suits-with = suits-with.met;
   stage-refused = stage-refused.met;
   count-corrections = count-corrections.met;
   correction-at = correction-at.met;

@@ -1,10 +1,9 @@
 -- Every record that can be sent is made, written, and reads back from the line: one lemma for every layout. Assumes nothing.
 use mathlib.Core.Path.{_≡_, sym, ap, subst, _∙_}
-use mathlib.Core.Bool.{false, _||_}
+use mathlib.Core.Bool.{false}
 use mathlib.Core.List.{List, [], _∷_}
 use Prim.Native.Nat.{ℕ, _≤_, _<_}
 use native.Mathlib.Omega.{arith}
-use lib.Dec.{ltb, eqb}
 use lib.ListN.{length, take}
 use borrow.Author.Tests.{le-ltb, lt-leb}
 use Rattle.answer.specs.Order.{Check, inOrder, NoneApplies}
@@ -18,7 +17,7 @@ use Rattle.frame.specs.declared.Layout.{Layout}
 use Rattle.frame.specs.declared.Layout.the-variants as layout
 use Rattle.frame.proofs.FrameLaws.{n-within, length-framed}
 use Rattle.pack.specs.Coding.{entryBits, frameWith}
-use Rattle.stage.specs.Stages.{makeOrder, refusedMade, doneMade, HeaderFor, Sent}
+use Rattle.stage.specs.Stages.{wrongCount, makeOrder, refusedMade, doneMade, HeaderFor, Sent}
 use Rattle.corrections.specs.Corrections as corrections
 use Rattle.healths.specs.Healths as healths
 use Rattle.positions.specs.Positions as positions
@@ -88,13 +87,13 @@ what-can-be-sent = record {
   corrections = λ h es c d typed s.
       let sent = corrections-sent h es c d typed s in
       sent-reads-back layout.Correction h
-      (makeOrder layout.Correction h ((eqb c 0 || ltb 18 c, 12) ∷ (anyOf corrections.outOfRange (take c es), 10) ∷ []))
+      (makeOrder layout.Correction h ((wrongCount 18 c, 12) ∷ (anyOf corrections.outOfRange (take c es), 10) ∷ []))
       (wordsIn corrections.fill (entryBits corrections.coding (take c es)))
       (corrections.CorrectionsMade h es c d) sent (s .header) (sent .reads .header) (sent .reads .inside);
   healths = λ h es c d s.
       let sent = healths-sent h es c d s in
       sent-reads-back layout.Health h
-      (makeOrder layout.Health h ((eqb c 0 || ltb 31 c, 12) ∷ (anyOf healths.outOfRange (take c es), 10) ∷ []))
+      (makeOrder layout.Health h ((wrongCount 31 c, 12) ∷ (anyOf healths.outOfRange (take c es), 10) ∷ []))
       (wordsIn healths.fill (entryBits healths.coding (take c es)))
       (healths.HealthsMade h es c d) sent (s .header) (sent .reads .header) (sent .reads .inside);
   position = λ h p typed s.
@@ -108,7 +107,7 @@ what-can-be-sent = record {
   text = λ h t s.
       let sent = text-sent h t s in
       sent-reads-back layout.Text h
-      (makeOrder layout.Text h ((eqb (length t) 0 || ltb 90 (length t), 12) ∷ (anyOf texts.forbidden t, 11) ∷ []))
+      (makeOrder layout.Text h ((wrongCount 90 (length t), 12) ∷ (anyOf texts.forbidden t, 11) ∷ []))
       (wordsIn texts.fill (entryBits texts.coding t))
       (texts.TextMade h t) sent (s .header) (sent .reads .header) (sent .reads .inside);
 }

@@ -5,7 +5,7 @@ use mathlib.Core.Bool.{false, not, _||_}
 use mathlib.Core.List.{List, [], _∷_, _++_, map}
 use Prim.Native.Nat.{ℕ, _^_}
 use lib.IntN.{ℤ}
-use lib.Dec.{ltb, leb, eqb}
+use lib.Dec.{ltb, leb}
 use lib.ListN.{length, take}
 use Rattle.answer.specs.Order.{Says, refuses, answers, Check, NoneApplies, FirstIs}
 use Rattle.line.specs.Line.{isData}
@@ -23,7 +23,7 @@ use Rattle.reader.specs.declared.Reader.{Reader}
 use Rattle.writer.specs.Answer.{openChecks, openedBy, writeChecks, writtenBy, saysOpened, saysWritten}
 use Rattle.writer.specs.declared.Carried.{Carried}
 use Rattle.journal.specs.Journal.{keepOrder, keptBy, recallOrder, recalledBy, saysKept, saysRecalled}
-use Rattle.stage.specs.Stages.{otherLayout, countIn, misfit, wrongSize, askedOf, entriesIn, sizeOf, readOrder, makeOrder, saysAsked, saysCounted, saysSize, saysCount, saysMade}
+use Rattle.stage.specs.Stages.{wrongCount, otherLayout, countIn, misfit, wrongSize, askedOf, entriesIn, countBy, sizeOf, suitedBy, suitedWith, readOrder, makeOrder, saysAsked, saysCounted, saysSize, saysCount, saysSuited, saysMade}
 use Rattle.corrections.specs.Corrections as corrections
 use Rattle.healths.specs.Healths as healths
 use Rattle.positions.specs.Positions as positions
@@ -78,18 +78,18 @@ pub record CarriesItsNumber : Type 0 where
   -- making a frame: 5, 6, 7, 12, then 10 or 11
   pub make-corrections : (h : Header) (es : List Correction) (c : ℕ)
       → Ordered (5 ∷ 6 ∷ 7 ∷ 12 ∷ 10 ∷ [])
-      (makeOrder layout.Correction h ((eqb c 0 || ltb 18 c, 12) ∷ (anyOf corrections.outOfRange (take c es), 10) ∷ []))
+      (makeOrder layout.Correction h ((wrongCount 18 c, 12) ∷ (anyOf corrections.outOfRange (take c es), 10) ∷ []))
       (saysMade (corrections.makeCorrections h es c))
   pub make-healths : (h : Header) (es : List SatelliteHealth) (c : ℕ)
       → Ordered (5 ∷ 6 ∷ 7 ∷ 12 ∷ 10 ∷ [])
-      (makeOrder layout.Health h ((eqb c 0 || ltb 31 c, 12) ∷ (anyOf healths.outOfRange (take c es), 10) ∷ []))
+      (makeOrder layout.Health h ((wrongCount 31 c, 12) ∷ (anyOf healths.outOfRange (take c es), 10) ∷ []))
       (saysMade (healths.makeHealths h es c))
   pub make-position : (h : Header) (p : Position)
       → Ordered (5 ∷ 6 ∷ 7 ∷ 10 ∷ []) (makeOrder layout.Position h ((positions.outOfRange p, 10) ∷ [])) (saysMade (positions.makePosition h p))
   pub make-null : (h : Header) → Ordered (5 ∷ 6 ∷ 7 ∷ []) (makeOrder layout.Null h []) (saysMade (nulls.makeNull h))
   pub make-text : (h : Header) (t : List ℕ)
       → Ordered (5 ∷ 6 ∷ 7 ∷ 12 ∷ 11 ∷ [])
-      (makeOrder layout.Text h ((eqb (length t) 0 || ltb 90 (length t), 12) ∷ (anyOf texts.forbidden t, 11) ∷ [])) (saysMade (texts.makeText h t))
+      (makeOrder layout.Text h ((wrongCount 90 (length t), 12) ∷ (anyOf texts.forbidden t, 11) ∷ [])) (saysMade (texts.makeText h t))
   -- writing a frame: 5, 7, 13; bad carried bits are 5 too; opening a stream: 13
   pub write : (f : Frame) (c : Carried) (buffer : List ℕ)
       → Ordered (5 ∷ 5 ∷ 5 ∷ 7 ∷ 13 ∷ []) (writeChecks f c buffer) (saysWritten (writtenBy f c buffer))
@@ -97,7 +97,7 @@ pub record CarriesItsNumber : Type 0 where
   -- writing to the journal: 5, 13; reading from it: 14; 15 if the N byte is missing; 16 for N over 31; 15 for the rest; 16
   pub keep : (f : Frame) (buffer : List ℕ) → Ordered (5 ∷ 13 ∷ []) (keepOrder f buffer) (saysKept (keptBy f buffer))
   pub recall : (bs : List ℕ) → Ordered (14 ∷ 15 ∷ 16 ∷ 15 ∷ 16 ∷ 16 ∷ []) (recallOrder bs) (saysRecalled (recalledBy bs))
-  -- the parts: a byte, a word, a header, a frame, a layout asked for, an N
+  -- the parts: a byte, a word, a header, a frame, a layout asked for, an N, a header to make a frame under
   pub six-of : (b : ℕ) → Ordered (1 ∷ []) ((not (isData b), 1) ∷ []) (saysSix (sixOf b))
   pub word-of : (c d : ℕ) → Ordered (5 ∷ 5 ∷ []) ((leb 4 c, 5) ∷ (leb (2 ^ 24) d, 5) ∷ []) (saysSent (wordOf c d))
   pub health-of : (s : State) → Ordered (5 ∷ []) ((stateOutside s, 5) ∷ []) (saysHealth (healthOf s))
@@ -107,7 +107,11 @@ pub record CarriesItsNumber : Type 0 where
   pub clock-of : (z : ℕ) → Ordered (7 ∷ []) ((late z, 7) ∷ []) (saysClock (clockOf z))
   pub asked-of : (l : Layout) (kind : ℕ) → Ordered (6 ∷ []) ((otherLayout l kind, 6) ∷ []) (saysAsked (askedOf l kind))
   pub entries-in : (w n : ℕ) → Ordered (8 ∷ []) ((misfit w n, 8) ∷ []) (saysCounted (entriesIn w n))
+  pub count-in : (l : Layout) (w : ℕ) (f : Frame) → Ordered (5 ∷ 6 ∷ 7 ∷ 8 ∷ []) (readOrder l f (misfit w (f .n)) []) (saysCount (countBy l w f))
   pub size-of : (wanted n : ℕ) → Ordered (8 ∷ []) ((wrongSize wanted n, 8) ∷ []) (saysSize (sizeOf wanted n))
+  pub suits : (l : Layout) (h : Header) → Ordered (5 ∷ 6 ∷ 7 ∷ []) (makeOrder l h []) (saysSuited (suitedBy l h))
+  pub suits-with : (l : Layout) (h : Header) (most c : ℕ)
+      → Ordered (5 ∷ 6 ∷ 7 ∷ 12 ∷ []) (makeOrder l h ((wrongCount most c, 12) ∷ [])) (saysSuited (suitedWith l h most c))
   -- the values of a record's numbers
   pub prc-mm : (scale : ℕ) (prc : ℤ) → Ordered (10 ∷ []) ((ltb 1 scale, 10) ∷ []) (saysDistance (prcMm scale prc))
   pub rrc-mm-s : (scale : ℕ) (rrc : ℤ) → Ordered (10 ∷ []) ((ltb 1 scale, 10) ∷ []) (saysRate (rrcMmS scale rrc))

@@ -39,7 +39,10 @@ use Rattle.pack.proofs.code32.Reads as code32
 use Rattle.pack.proofs.satellite_of.Reads as satellite-of
 use Rattle.stage.proofs.asked_of.Reads as asked-of
 use Rattle.stage.proofs.entries_in.Reads as entries-in
+use Rattle.stage.proofs.count_in.Reads as count-in
 use Rattle.stage.proofs.size_of.Reads as size-of
+use Rattle.stage.proofs.suits.Reads as suits
+use Rattle.stage.proofs.suits_with.Reads as suits-with
 use Rattle.stage.proofs.refused.Reads as stage-refused
 use Rattle.corrections.proofs.count_corrections.Reads as count-corrections
 use Rattle.corrections.proofs.correction_at.Reads as correction-at
@@ -121,7 +124,10 @@ pub record DefinedAnswer : Type 0 where
   -- what records share, and the records
   pub asked-of : OneAnswer asked-of.Learnt
   pub entries-in : OneAnswer entries-in.Learnt
+  pub count-in : OneAnswer count-in.Learnt
   pub size-of : OneAnswer size-of.Learnt
+  pub suits : OneAnswer suits.Learnt
+  pub suits-with : OneAnswer suits-with.Learnt
   pub stage-refused : OneAnswer stage-refused.Learnt
   pub count-corrections : OneAnswer count-corrections.Learnt
   pub correction-at : OneAnswer correction-at.Learnt
@@ -192,7 +198,10 @@ pub record TrustsNoCaller : Type 0 where
   pub satellite-of : AsksNothing satellite-of.Asked
   pub asked-of : AsksNothing asked-of.Asked
   pub entries-in : AsksNothing entries-in.Asked
+  pub count-in : AsksNothing count-in.Asked
   pub size-of : AsksNothing size-of.Asked
+  pub suits : AsksNothing suits.Asked
+  pub suits-with : AsksNothing suits-with.Asked
   pub stage-refused : AsksNothing stage-refused.Asked
   pub count-corrections : AsksNothing count-corrections.Asked
   pub correction-at : AsksNothing correction-at.Asked

@@ -36,7 +36,10 @@ use Rattle.pack.proofs.code32.Statement as code32
 use Rattle.pack.proofs.satellite_of.Statement as satellite-of
 use Rattle.stage.proofs.asked_of.Statement as asked-of
 use Rattle.stage.proofs.entries_in.Statement as entries-in
+use Rattle.stage.proofs.count_in.Statement as count-in
 use Rattle.stage.proofs.size_of.Statement as size-of
+use Rattle.stage.proofs.suits.Statement as suits
+use Rattle.stage.proofs.suits_with.Statement as suits-with
 use Rattle.stage.proofs.refused.Statement as stage-refused
 use Rattle.corrections.proofs.count_corrections.Statement as count-corrections
 use Rattle.corrections.proofs.correction_at.Statement as correction-at
@@ -100,7 +103,10 @@ pub record EveryCallEnds : Type 2 where
   pub satellite-of : {M : Type 1} → satellite-of.statement M
   pub asked-of : {M : Type 1} → asked-of.statement M
   pub entries-in : {M : Type 1} → entries-in.statement M
+  pub count-in : {M : Type 1} → count-in.statement M
   pub size-of : {M : Type 1} → size-of.statement M
+  pub suits : {M : Type 1} → suits.statement M
+  pub suits-with : {M : Type 1} → suits-with.statement M
   pub stage-refused : {M : Type 1} → stage-refused.statement M
   pub count-corrections : {M : Type 1} → count-corrections.statement M
   pub correction-at : {M : Type 1} → correction-at.statement M

@@ -1,11 +1,11 @@
 -- Made then read, and read then made, for every list layout. A layout owes: three laws on its codes, what its range check says of an
 -- entry, and two facts on sizes. Assumes nothing.
 use mathlib.Core.Path.{_≡_, refl, sym, ap, subst, _∙_}
-use mathlib.Core.Bool.{Bool, false, _||_}
+use mathlib.Core.Bool.{Bool, false}
 use mathlib.Core.List.{List, [], _∷_, map}
 use Prim.Native.Nat.{ℕ, _+_, _*_, _/_, _≤_, _<_}
 use native.Mathlib.Omega.{arith}
-use lib.Dec.{ltb, leb, eqb}
+use lib.Dec.{leb}
 use lib.ListN.{length, take, drop, getD, length-take, drop-of-length-le}
 use lib.Seq.{getD-take}
 use borrow.Author.Tests.{leb-false}
@@ -26,11 +26,11 @@ use Rattle.frame.proofs.WidthLaws.{both-false}
 use Rattle.pack.specs.Coding.{Coding, frameBits, entryIn, frameWith, Each}
 use Rattle.pack.proofs.Round.{Faithful, made-n, made-inside, made-fill, made-entry, entries-read, made-again, none-read}
 use Rattle.stage.specs.declared.Count.the-variants as count
-use Rattle.stage.specs.Stages.{otherLayout, countIn, misfit, readOrder, makeOrder, refusedMade, doneMade}
+use Rattle.stage.specs.Stages.{wrongCount, otherLayout, countIn, misfit, readOrder, makeOrder, refusedMade, doneMade}
 use Rattle.stage.specs.Lists.{listCount, listEntry, listMade, MadeReads, Sendable, Holding, ListRead}
-use Rattle.stage.proofs.ListCode.{fitting}
+use Rattle.stage.proofs.ListCode.{fitting, some-few}
 use Rattle.stage.proofs.StageLaws.{done-frame, of-apart, of-inj}
-use Rattle.record_laws.proofs.SentLaws.{told-layout, frame-for, some-few, none-taken, list-made, list-told, list-read}
+use Rattle.record_laws.proofs.SentLaws.{told-layout, frame-for, none-taken, list-made, list-told, list-read}
 
 -- what every value has, each entry has
 pub each-any : {A : Type 0} (P : A → Type 0) → ((e : A) → P e) → (es : List A) → Each P es
@@ -168,7 +168,7 @@ module _ {A B : Type 0} (asked : Layout) (k : Coding A) (pattern most : ℕ) (ou
         → FillAfter pattern (c * span (k .widths)) (frameBits f)
         → listMade asked k pattern most out (f .header) es c ≡ doneMade f
     read-then-made f es c d full long n e fill =
-        order-answers refusedMade _ (makeOrder asked (f .header) ((eqb c 0 || ltb most c, 12) ∷ (anyOf out (take c es), 10) ∷ [])) (
+        order-answers refusedMade _ (makeOrder asked (f .header) ((wrongCount most c, 12) ∷ (anyOf out (take c es), 10) ∷ [])) (
           header-within f (r .inside),
           (
             r .same,
@@ -187,7 +187,7 @@ module _ {A B : Type 0} (asked : Layout) (k : Coding A) (pattern most : ℕ) (ou
         r : CountRead asked k f c
         r = count-read asked k f c n
 
-        count-fits : eqb c 0 || ltb most c ≡ false
+        count-fits : wrongCount most c ≡ false
         count-fits = some-few c most (r .some) (subst (λ m. m ≤ most) (r .held) (bounded (f .n) (n-within f (r .inside))))
 
         at : (i : ℕ) → i < c → getD (take c es) i d ≡ entryIn k i (frameBits f)

@@ -5,10 +5,10 @@ use mathlib.Core.Bool.{Bool, false, _||_, cond}
 use mathlib.Core.List.{List, [], _∷_}
 use Prim.Native.Nat.{ℕ, zero, suc, _+_, _*_, _/_, _≤_, _<_}
 use native.Mathlib.Omega.{arith}
-use lib.Dec.{ltb, leb, eqb}
+use lib.Dec.{leb, eqb}
 use lib.ListN.{length, take, getD, length-take}
 use lib.Seq.{getD-take}
-use borrow.Author.Tests.{leb-false, ltb-false, eqb-true, eqb-false, lt-leb, le-ltb, eq-eqb, ne-eqb, not-false}
+use borrow.Author.Tests.{leb-false, eqb-true, lt-leb, eq-eqb, not-false}
 use Rattle.answer.specs.Order.{Check, NoneApplies}
 use Rattle.answer.proofs.OrderLaws.{order-answers, order-told}
 use Rattle.bits.specs.Fields.{span}
@@ -22,9 +22,9 @@ use Rattle.frame.proofs.WidthLaws.{both-false}
 use Rattle.frame.proofs.FrameLaws.{n-within}
 use Rattle.pack.specs.Coding.{Coding, frameBits, entryIn, frameWith}
 use Rattle.stage.specs.declared.Count.the-variants as count
-use Rattle.stage.specs.Stages.{layoutNumber, otherLayout, countIn, misfit, wrongSize, readOrder, makeOrder, refusedMade, doneMade, HeaderFor, FrameFor}
+use Rattle.stage.specs.Stages.{wrongCount, layoutNumber, otherLayout, countIn, misfit, wrongSize, readOrder, makeOrder, refusedMade, doneMade, HeaderFor, FrameFor}
 use Rattle.stage.specs.Lists.{listMade, listCount, listEntry, Sendable, Holding, ListRead}
-use Rattle.stage.proofs.ListCode.{count-right}
+use Rattle.stage.proofs.ListCode.{count-right, some-few, told-some-few}
 use Rattle.stage.proofs.StageLaws.{done-apart}
 
 -- ---- the layout asked for
@@ -94,18 +94,6 @@ right-size wanted n e = rw (eq-eqb n wanted e)
 pub told-size : (wanted n : ℕ) → wrongSize wanted n ≡ false → n ≡ wanted
 told-size wanted n e = eqb-true n wanted (not-false (eqb n wanted) e)
 
--- ---- 12: 1 to `most` entries
-
-pub some-few : (c most : ℕ) → 1 ≤ c → c ≤ most → eqb c 0 || ltb most c ≡ false
-some-few c most l h = rw (ne-eqb c 0 (λ z. omega arith), le-ltb most c h)
-
-pub told-some-few : (c most : ℕ) → eqb c 0 || ltb most c ≡ false → (1 ≤ c) × (c ≤ most)
-told-some-few c most e = let s = both-false (eqb c 0) (ltb most c) e in (positive c (eqb-false c 0 (s .0)), ltb-false most c (s .1))
-  where
-    positive : (m : ℕ) → (m ≡ 0 → ⊥) → 1 ≤ m
-    positive zero z = absurd (z refl)
-    positive (suc m) z = omega arith
-
 -- ---- 10 and 11: no entry has a property when none has it, by number
 
 pub none-entry : {A : Type 0} (p : A → Bool) (es : List A) (d : A) → ((i : ℕ) → i < length es → p (getD es i d) ≡ false) → anyOf p es ≡ false
@@ -140,25 +128,25 @@ module _ {A : Type 0} (asked : Layout) (k : Coding A) (pattern most : ℕ) (out 
       → listMade asked k pattern most out h es c ≡ doneMade (frameWith pattern k h (take c es))
   list-made right h es c d s =
       order-answers refusedMade (doneMade (frameWith pattern k h (take c es)))
-      (makeOrder asked h ((eqb c 0 || ltb most c, 12) ∷ (anyOf out (take c es), 10) ∷ []))
-      (make-passes asked h ((eqb c 0 || ltb most c, 12) ∷ (anyOf out (take c es), 10) ∷ []) (s .header)
+      (makeOrder asked h ((wrongCount most c, 12) ∷ (anyOf out (take c es), 10) ∷ []))
+      (make-passes asked h ((wrongCount most c, 12) ∷ (anyOf out (take c es), 10) ∷ []) (s .header)
       (some-few c most (s .some) (s .few), (none-taken out es c d (λ i l. right (getD es i d) (s .ranges i l)), tt)))
 
   -- and what is not refused could be sent
   pub list-told : ((e : A) → out e ≡ false → InRange e) → (h : Header) (es : List A) (c : ℕ) (d : A) (f : Frame) → c ≤ length es
       → listMade asked k pattern most out h es c ≡ doneMade f → Sendable asked most InRange h es c d
   list-told told h es c d f there e = record {
-    header = make-passed asked h ((eqb c 0 || ltb most c, 12) ∷ (anyOf out (take c es), 10) ∷ []) (t .0);
+    header = make-passed asked h ((wrongCount most c, 12) ∷ (anyOf out (take c es), 10) ∷ []) (t .0);
     some = told-some-few c most (t .0 .1 .1 .1 .0) .0;
     few = told-some-few c most (t .0 .1 .1 .1 .0) .1;
     there = there;
     ranges = λ i l. told (getD es i d) (at i l);
   }
     where
-      t : NoneApplies (makeOrder asked h ((eqb c 0 || ltb most c, 12) ∷ (anyOf out (take c es), 10) ∷ []))
+      t : NoneApplies (makeOrder asked h ((wrongCount most c, 12) ∷ (anyOf out (take c es), 10) ∷ []))
           × (doneMade (frameWith pattern k h (take c es)) ≡ doneMade f)
       t = order-told refusedMade (doneMade (frameWith pattern k h (take c es))) (doneMade f) (λ n. done-apart n f)
-          (makeOrder asked h ((eqb c 0 || ltb most c, 12) ∷ (anyOf out (take c es), 10) ∷ [])) e
+          (makeOrder asked h ((wrongCount most c, 12) ∷ (anyOf out (take c es), 10) ∷ [])) e
 
       at : (i : ℕ) → i < c → out (getD es i d) ≡ false
       at i l = ap out (sym (getD-take c es i d l)) ∙ told-entry out (take c es) d i (t .0 .1 .1 .1 .1 .0) (omega (arith, length-take c es))

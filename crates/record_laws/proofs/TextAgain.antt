@@ -1,10 +1,9 @@
 -- Read then made, for type 16. Assumes nothing.
 use mathlib.Core.Path.{_≡_, refl, sym, ap, ap₂, _∙_}
-use mathlib.Core.Bool.{Bool, false, _||_}
+use mathlib.Core.Bool.{Bool, false}
 use mathlib.Core.List.{List, [], _∷_, _++_}
 use Prim.Native.Nat.{ℕ, zero, suc, _+_, _*_, _≤_, _<_}
 use native.Mathlib.Omega.{arith}
-use lib.Dec.{ltb, eqb}
 use lib.ListN.{length, take, drop, replicate, length-drop}
 use lib.Seq.{take-all, take-at}
 use borrow.Author.Tests.{le-ltb, ne-eqb}
@@ -22,7 +21,7 @@ use Rattle.frame.proofs.FrameLaws.{header-within, length-data as length-data-wo
 use Rattle.pack.specs.Coding.{frameBits, entryIn, rowsOf, frameWith}
 use Rattle.pack.proofs.Round.{made-again}
 use Rattle.stage.specs.declared.Count.the-variants as count
-use Rattle.stage.specs.Stages.{makeOrder, refusedMade, doneMade}
+use Rattle.stage.specs.Stages.{wrongCount, makeOrder, refusedMade, doneMade}
 use Rattle.stage.proofs.StageLaws.{of-apart, of-inj}
 use Rattle.texts.specs.Texts.{widths, coding, fill, characters, lengthIn, textIn, forbidden, textOrder, readText, bufferAfter, makeText}
 use Rattle.texts.proofs.TextCode.{length-characters, length-le, some-words}
@@ -82,7 +81,7 @@ unfolding makeText readText bufferAfter
 text-read-made f buffer c full e =
     ap (makeText (f .header)) text-is
     ∙ order-answers refusedMade (doneMade (frameWith fill coding (f .header) (textIn f)))
-    (makeOrder layout.Text (f .header) ((eqb (length (textIn f)) 0 || ltb 90 (length (textIn f)), 12) ∷ (anyOf forbidden (textIn f), 11) ∷ []))
+    (makeOrder layout.Text (f .header) ((wrongCount 90 (length (textIn f)), 12) ∷ (anyOf forbidden (textIn f), 11) ∷ []))
     (header-within f (o .0 .0), (o .0 .1 .0, (o .0 .1 .1 .0, (sizes, (o .0 .1 .1 .1 .1 .0, tt)))))
     ∙ ap doneMade (text-again f full (o .0 .0) n)
   where
@@ -100,7 +99,7 @@ text-read-made f buffer c full e =
         ap₂ take (sym (of-inj (lengthIn f) c (o .1))) (order-answers (λ k. buffer) (textIn f ++ drop (lengthIn f) buffer) (textOrder f buffer) (o .0))
         ∙ take-at (textIn f) (drop (lengthIn f) buffer) (lengthIn f) l
 
-    sizes : eqb (length (textIn f)) 0 || ltb 90 (length (textIn f)) ≡ false
+    sizes : wrongCount 90 (length (textIn f)) ≡ false
     sizes =
         rw (
           ne-eqb (length (textIn f)) 0 (λ z. omega (arith, l, z, n, length-le (3 * f .n) (frameBits f))),

@@ -18,9 +18,10 @@ use Rattle.frame.specs.declared.Layout.the-variants as layout
 use Rattle.pack.specs.Coding.{frameBits, entryIn}
 use Rattle.stage.specs.declared.Count.the-variants as count
 use Rattle.stage.proofs.StageLaws.{of-apart, of-inj}
+use Rattle.stage.proofs.ListCode.{some-few, told-some-few}
 use Rattle.texts.specs.Texts.{coding, characters, textLength, lengthIn, textIn, wrongWords, forbidden, textOrder, readText, bufferAfter, Allowed, HoldsText, ReadsText}
 use Rattle.texts.proofs.TextCode.{length-characters, character-at, length-all, length-less, length-least, Ends, none, one, two, ends}
-use Rattle.record_laws.proofs.SentLaws.{read-passes, read-passed, some-few, told-some-few, none-entry, told-entry, any-entry}
+use Rattle.record_laws.proofs.SentLaws.{read-passes, read-passed, none-entry, told-entry, any-entry}
 use Rattle.record_laws.proofs.TextLaws.{allowed, not-zero}
 
 -- ---- what refusal 11 says of a text, both ways

@@ -1,10 +1,9 @@
 -- Type 16: what can be sent is made, and made then read. Assumes nothing.
 use mathlib.Core.Path.{_≡_, refl, sym, ap, subst, _∙_}
-use mathlib.Core.Bool.{false, _||_}
+use mathlib.Core.Bool.{false}
 use mathlib.Core.List.{List, [], _∷_, _++_, append-nil}
 use Prim.Native.Nat.{ℕ, _+_, _*_, _-_, _/_, _%_, _≤_, _<_}
 use native.Mathlib.Omega.{arith}
-use lib.Dec.{ltb, eqb}
 use lib.ListN.{length, getD, replicate, length-map, length-replicate}
 use Rattle.answer.specs.Order.{Check, NoneApplies}
 use Rattle.answer.proofs.OrderLaws.{order-answers, order-told}
@@ -18,10 +17,11 @@ use Rattle.frame.specs.declared.Frame.{Frame}
 use Rattle.frame.specs.declared.Layout.the-variants as layout
 use Rattle.pack.specs.Coding.{frameBits, entryIn, rowsOf, entryBits, frameWith}
 use Rattle.pack.proofs.Round.{fill-left, length-entries, made-bits, made-n, made-inside, made-fill, made-entry}
-use Rattle.stage.specs.Stages.{makeOrder, refusedMade, doneMade, Sent}
+use Rattle.stage.specs.Stages.{wrongCount, makeOrder, refusedMade, doneMade, Sent}
 use Rattle.stage.proofs.StageLaws.{done-apart, done-frame}
+use Rattle.stage.proofs.ListCode.{some-few, told-some-few}
 use Rattle.texts.specs.Texts.{widths, meant, codes, coding, fill, characters, forbidden, makeText, TextMade, SendableText, HoldsText}
-use Rattle.record_laws.proofs.SentLaws.{make-passes, make-passed, frame-for, some-few, told-some-few}
+use Rattle.record_laws.proofs.SentLaws.{make-passes, make-passed, frame-for}
 use Rattle.record_laws.proofs.TextHeld.{allowed-fine, allowed-told, characters-are, characters-zeros, text-read}
 use Rattle.record_laws.proofs.TextLaws.{Good, faithful, all-good, zeros-fit, zeros-at, zeros-fill}
 
@@ -31,7 +31,7 @@ made h t = frameWith fill coding h t
 module _ (h : Header) (t : List ℕ) where
   -- the checks of making after 7
   abbrev checks : List Check
-  checks = (eqb (length t) 0 || ltb 90 (length t), 12) ∷ (anyOf forbidden t, 11) ∷ []
+  checks = (wrongCount 90 (length t), 12) ∷ (anyOf forbidden t, 11) ∷ []
 
   told : (f : Frame) → makeText h t ≡ doneMade f → NoneApplies (makeOrder layout.Text h checks) × (doneMade (made h t) ≡ doneMade f)
   unfolding makeText

@@ -1,16 +1,21 @@
 -- Facts that the proofs of the list layouts' functions cite: the entries that N words hold, and the last checks of the orders.
 -- Assumes nothing.
-use mathlib.Core.Path.{_≡_, refl, ap, _∙_}
-use mathlib.Core.Bool.{Bool, true, false, not, _||_}
+use mathlib.Core.Path.{_≡_, refl, sym, ap, _∙_}
+use mathlib.Core.Bool.{true, false, not, _||_}
 use mathlib.Core.List.{[], _∷_}
 use Prim.Native.Nat.{ℕ, zero, suc, _+_, _*_, _/_, _≤_, _<_}
 use native.Mathlib.Nat.{div-zero, div-mul-le-self}
 use native.Mathlib.Omega.{arith}
 use lib.Dec.{ltb, leb, eqb}
-use borrow.Author.Tests.{lt-ltb, le-ltb, le-leb, lt-leb, eq-eqb, ne-eqb, eqb-true, eqb-false, not-false}
+use borrow.Author.Tests.{lt-ltb, le-ltb, le-leb, lt-leb, eq-eqb, ne-eqb, eqb-true, eqb-false, ltb-false, not-false}
 use Rattle.answer.specs.Order.{inOrder}
+use Rattle.answer.proofs.OrderLaws.{order-told}
 use Rattle.frame.proofs.WidthLaws.{both-false}
-use Rattle.stage.specs.Stages.{countIn, misfit}
+use Rattle.frame.specs.declared.Header.{Header}
+use Rattle.frame.specs.declared.Layout.{Layout}
+use Rattle.stage.specs.declared.Suited.{Suited}
+use Rattle.stage.specs.declared.Suited.the-variants as suited
+use Rattle.stage.specs.Stages.{countIn, misfit, wrongCount, makeOrder, suitedWith}
 
 -- ---- the entries that N words hold
 
@@ -37,6 +42,10 @@ pub count-right : (w n : ℕ) → n ≤ 31 → (countIn w n ≡ 0 → ⊥) → (
 unfolding misfit
 count-right w n h a b = rw (le-ltb 31 n h, ne-eqb (countIn w n) 0 a, eq-eqb ((countIn w n * w + 23) / 24) n b)
 
+positive : (m : ℕ) → (m ≡ 0 → ⊥) → 0 < m
+positive zero h = absurd (h refl)
+positive (suc m) h = omega arith
+
 -- what it means that N fits
 pub record Fitting (w n : ℕ) : Type 0 where
   pub some : 0 < countIn w n
@@ -51,10 +60,6 @@ fitting w n e =
       up = eqb-true _ n
           (not-false (eqb ((countIn w n * w + 23) / 24) n) (s .1));
     }
-  where
-    positive : (m : ℕ) → (m ≡ 0 → ⊥) → 0 < m
-    positive zero h = absurd (h refl)
-    positive (suc m) h = omega arith
 
 -- ---- the last checks
 
@@ -66,19 +71,32 @@ module _ {A : Type 0} (refuse : ℕ → A) (answer : A) where
   pub read-entry : (n i : ℕ) → i < n → answer ≡ inOrder ((leb n i, 9) ∷ []) refuse answer
   read-entry n i h = rw (lt-leb n i h)
 
-  -- 12, 10
-  module _ (c most : ℕ) (wrong : Bool) where
-    abbrev checks : A
-    checks = inOrder ((eqb c 0 || ltb most c, 12) ∷ (wrong, 10) ∷ []) refuse answer
+-- 12
+module _ {A : Type 0} (refuse : ℕ → A) (answer : A) (most c : ℕ) where
+  abbrev countChecked : A
+  countChecked = inOrder ((wrongCount most c, 12) ∷ []) refuse answer
 
-    pub make-none : c ≡ 0 → refuse 12 ≡ checks
-    make-none e = rw (eq-eqb c 0 e)
+  pub count-zero : c ≡ 0 → refuse 12 ≡ countChecked
+  count-zero e = rw (eq-eqb c 0 e)
 
-    pub make-many : (c ≡ 0 → ⊥) → most < c → refuse 12 ≡ checks
-    make-many e h = rw (ne-eqb c 0 e, lt-ltb most c h)
+  pub count-many : (c ≡ 0 → ⊥) → most < c → refuse 12 ≡ countChecked
+  count-many e h = rw (ne-eqb c 0 e, lt-ltb most c h)
 
-    pub make-wrong : (c ≡ 0 → ⊥) → c ≤ most → wrong ≡ true → refuse 10 ≡ checks
-    make-wrong e h w = rw (ne-eqb c 0 e, le-ltb most c h, w)
+  pub count-fine : (c ≡ 0 → ⊥) → c ≤ most → answer ≡ countChecked
+  count-fine e h = rw (ne-eqb c 0 e, le-ltb most c h)
 
-    pub make-done : (c ≡ 0 → ⊥) → c ≤ most → wrong ≡ false → answer ≡ checks
-    make-done e h w = rw (ne-eqb c 0 e, le-ltb most c h, w)
+-- 1 to the most
+pub some-few : (c most : ℕ) → 1 ≤ c → c ≤ most → wrongCount most c ≡ false
+some-few c most l h = rw (ne-eqb c 0 (λ z. omega arith), le-ltb most c h)
+
+pub told-some-few : (c most : ℕ) → wrongCount most c ≡ false → (1 ≤ c) × (c ≤ most)
+told-some-few c most e = let s = both-false (eqb c 0) (ltb most c) e in (positive c (eqb-false c 0 (s .0)), ltb-false most c (s .1))
+
+-- where a number of entries suits it is at most the most
+pub suited-few : (l : Layout) (h : Header) (most c : ℕ) (s : Suited) → s ≡ suitedWith l h most c → s ≡ suited.Yes → c ≤ most
+suited-few l h most c s is e =
+    let t = order-told suited.Refused suited.Yes suited.Yes apart (makeOrder l h ((wrongCount most c, 12) ∷ [])) (sym is ∙ e) in
+    told-some-few c most (t .0 .1 .1 .1 .0) .1
+  where
+    apart : (n : ℕ) → suited.Refused n ≡ suited.Yes → ⊥
+    apart n q = let z : _≡_ {A = ℕ} 0 1 = cc in omega arith

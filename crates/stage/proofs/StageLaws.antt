@@ -2,11 +2,12 @@
 -- Assumes nothing.
 use mathlib.Core.Path.{_≡_, refl, sym, ap, _∙_}
 use mathlib.Core.Bool.{Bool, true, false, cond}
-use mathlib.Core.List.{List, [], _∷_}
+use mathlib.Core.List.{List, [], _∷_, _++_}
 use Prim.Native.Nat.{ℕ}
 use native.Mathlib.Omega.{arith}
 use borrow.Author.Tests.{eq-eqb, ne-eqb}
 use Rattle.answer.specs.Order.{Check, inOrder}
+use Rattle.answer.proofs.OrderLaws.{order-map, order-append}
 use Rattle.frame.specs.Layout.{layoutOf}
 use Rattle.frame.specs.Widths.{headerOutside, outside, late}
 use Rattle.frame.specs.Answer.{headerWidths, frameWidths, clockOf}
@@ -19,6 +20,8 @@ use Rattle.frame.specs.declared.Clock.the-variants.{Hour, Late}
 use Rattle.stage.specs.declared.Asked.the-variants.{Same, Other}
 use Rattle.stage.specs.declared.Counted.the-variants.{Entries, Misfit}
 use Rattle.stage.specs.declared.Size.the-variants.{Right, Wrong}
+use Rattle.stage.specs.declared.Suited.{Suited}
+use Rattle.stage.specs.declared.Suited.the-variants as suited
 use Rattle.stage.specs.declared.Count.the-variants as count
 use Rattle.stage.specs.Stages.{layoutNumber, otherLayout, askedOf, readOrder, makeOrder, refusedMade, doneMade}
 
@@ -105,14 +108,32 @@ module _ {A : Type 0} (l : Layout) (h : Header) (more : List Check) (refuse : �
       pub make-on : Hour ≡ clockOf (h .z) → inOrder more refuse answer ≡ makes
       make-on z = rw (told-within (headerOutside h) w, told-same (otherLayout l (h .kind)) a, told-hour (late (h .z)) z)
 
--- ---- one last check, 10
+-- ---- a stage that answers with its number, and what comes after it
 
-module _ {A : Type 0} (refuse : ℕ → A) (answer : A) (wrong : Bool) where
-  pub read10 : wrong ≡ true → refuse 10 ≡ inOrder ((wrong, 10) ∷ []) refuse answer
-  read10 e = rw e
+abbrev onSuited : {A : Type 0} → (ℕ → A) → A → Suited → A
+onSuited refuse done suited.Yes = done
+onSuited refuse done (suited.Refused n) = refuse n
 
-  pub read-fine : wrong ≡ false → answer ≡ inOrder ((wrong, 10) ∷ []) refuse answer
-  read-fine e = rw e
+module _ {A : Type 0} (cs more : List Check) (refuse : ℕ → A) (answer : A) (s : Suited) (is : s ≡ inOrder cs suited.Refused suited.Yes) where
+  after-suited : inOrder (cs ++ more) refuse answer ≡ onSuited refuse (inOrder more refuse answer) s
+  after-suited =
+      order-append cs more refuse answer ∙ sym (order-map (onSuited refuse (inOrder more refuse answer)) cs suited.Refused suited.Yes)
+      ∙ ap (onSuited refuse (inOrder more refuse answer)) (sym is)
+
+  pub unsuited : (n : ℕ) → s ≡ suited.Refused n → refuse n ≡ inOrder (cs ++ more) refuse answer
+  unsuited n e = sym (after-suited ∙ ap (onSuited refuse (inOrder more refuse answer)) e)
+
+  pub suited-on : s ≡ suited.Yes → inOrder more refuse answer ≡ inOrder (cs ++ more) refuse answer
+  suited-on e = sym (after-suited ∙ ap (onSuited refuse (inOrder more refuse answer)) e)
+
+-- ---- one last check
+
+module _ {A : Type 0} (refuse : ℕ → A) (answer : A) (wrong : Bool) (number : ℕ) where
+  pub last-wrong : wrong ≡ true → refuse number ≡ inOrder ((wrong, number) ∷ []) refuse answer
+  last-wrong e = rw e
+
+  pub last-fine : wrong ≡ false → answer ≡ inOrder ((wrong, number) ∷ []) refuse answer
+  last-fine e = rw e
 
 -- ---- an answer that no refusal is
 

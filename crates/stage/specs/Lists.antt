@@ -1,10 +1,10 @@
 -- A list layout, over the layout: its count, its entry by number, and a frame made of its entries, each in its order; which lists can be
 -- sent, and which frames can be read. Assumes nothing.
 use mathlib.Core.Path.{_≡_}
-use mathlib.Core.Bool.{Bool, false, _||_}
+use mathlib.Core.Bool.{Bool, false}
 use mathlib.Core.List.{List, [], _∷_}
 use Prim.Native.Nat.{ℕ, _+_, _*_, _/_, _≤_, _<_}
-use lib.Dec.{ltb, leb, eqb}
+use lib.Dec.{leb}
 use lib.ListN.{length, take, getD}
 use Rattle.answer.specs.Order.{inOrder}
 use Rattle.bits.specs.Fields.{span}
@@ -17,12 +17,12 @@ use Rattle.pack.specs.Coding.{Coding, frameBits, entryIn, frameWith}
 use Rattle.stage.specs.declared.Count.{Count}
 use Rattle.stage.specs.declared.Count.the-variants as count
 use Rattle.stage.specs.declared.Made.{Made}
-use Rattle.stage.specs.Stages.{countIn, misfit, readOrder, makeOrder, refusedMade, doneMade, HeaderFor, FrameFor}
+use Rattle.stage.specs.Stages.{countIn, misfit, wrongCount, countBy, readOrder, makeOrder, refusedMade, doneMade, HeaderFor, FrameFor}
 
 module _ {A : Type 0} (asked : Layout) (k : Coding A) where
   -- COUNT: 5, 6, 7, 8
   abbrev pub listCount : Frame → Count
-  listCount f = inOrder (readOrder asked f (misfit (span (k .widths)) (f .n)) []) count.Refused (count.Of (countIn (span (k .widths)) (f .n)))
+  listCount f = countBy asked (span (k .widths)) f
 
   -- ENTRY: 5, 6, 7, 8, 9
   abbrev pub listEntry : {B : Type 0} → (ℕ → B) → (A → B) → Frame → ℕ → B
@@ -33,7 +33,7 @@ module _ {A : Type 0} (asked : Layout) (k : Coding A) where
   -- MAKING: 5, 6, 7, 12, 10; the entries past the count are not looked at
   abbrev pub listMade : (pattern most : ℕ) → (A → Bool) → Header → List A → ℕ → Made
   listMade pattern most out h es c =
-      inOrder (makeOrder asked h ((eqb c 0 || ltb most c, 12) ∷ (anyOf out (take c es), 10) ∷ [])) refusedMade
+      inOrder (makeOrder asked h ((wrongCount most c, 12) ∷ (anyOf out (take c es), 10) ∷ [])) refusedMade
       (doneMade (frameWith pattern k h (take c es)))
 
 -- A made frame f reads back: its header, its count, every entry; it is within its widths, N is worked out, its fill is standard

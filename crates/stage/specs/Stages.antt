@@ -2,10 +2,10 @@
 -- Assumes nothing.
 use mathlib.Core.Path.{_≡_}
 use mathlib.Core.Bool.{Bool, false, not, _||_, cond}
-use mathlib.Core.List.{List, _∷_}
+use mathlib.Core.List.{List, [], _∷_}
 use Prim.Native.Nat.{ℕ, _+_, _*_, _/_, _<_}
 use lib.Dec.{ltb, eqb}
-use Rattle.answer.specs.Order.{Says, refuses, answers, Check}
+use Rattle.answer.specs.Order.{Says, refuses, answers, Check, inOrder}
 use Rattle.frame.specs.Frames.{blank}
 use Rattle.frame.specs.Layout.{layoutOf}
 use Rattle.frame.specs.Widths.{headerOutside, outside, late}
@@ -21,6 +21,8 @@ use Rattle.stage.specs.declared.Size.{Size}
 use Rattle.stage.specs.declared.Size.the-variants.{Right, Wrong}
 use Rattle.stage.specs.declared.Count.{Count}
 use Rattle.stage.specs.declared.Count.the-variants as count
+use Rattle.stage.specs.declared.Suited.{Suited}
+use Rattle.stage.specs.declared.Suited.the-variants as suited
 use Rattle.stage.specs.declared.Making.{Making}
 use Rattle.stage.specs.declared.Making.the-variants as making
 use Rattle.stage.specs.declared.Made.{Made}
@@ -66,9 +68,24 @@ sizeOf wanted n = cond (wrongSize wanted n) Wrong Right
 abbrev pub readOrder : Layout → Frame → Bool → List Check → List Check
 readOrder asked f wrongN more = (outside f, 5) ∷ (otherLayout asked (f .header .kind), 6) ∷ (late (f .header .z), 7) ∷ (wrongN, 8) ∷ more
 
+-- how many entries of w bits a frame of a layout has: 5, 6, 7, 8
+abbrev pub countBy : Layout → ℕ → Frame → Count
+countBy asked w f = inOrder (readOrder asked f (misfit w (f .n)) []) count.Refused (count.Of (countIn w (f .n)))
+
 -- MAKING: 5, 6, 7, then the layout's own
 abbrev pub makeOrder : Layout → Header → List Check → List Check
 makeOrder asked h more = (headerOutside h, 5) ∷ (otherLayout asked (h .kind), 6) ∷ (late (h .z), 7) ∷ more
+
+-- a number is not 1 to the most
+abbrev pub wrongCount : ℕ → ℕ → Bool
+wrongCount most c = eqb c 0 || ltb most c
+
+-- a header suits a layout: 5, 6, 7; and a number of entries does: 12
+abbrev pub suitedBy : Layout → Header → Suited
+suitedBy asked h = inOrder (makeOrder asked h []) suited.Refused suited.Yes
+
+abbrev pub suitedWith : Layout → Header → ℕ → ℕ → Suited
+suitedWith asked h most c = inOrder (makeOrder asked h ((wrongCount most c, 12) ∷ [])) suited.Refused suited.Yes
 
 -- a refusal to make, with the blank frame
 unfoldable pub refusedMade : ℕ → Made
@@ -114,6 +131,10 @@ saysSize Wrong = refuses 8
 abbrev pub saysCount : Count → Says ℕ
 saysCount (count.Of c) = answers c
 saysCount (count.Refused n) = refuses n
+
+abbrev pub saysSuited : Suited → Says (Unit {0})
+saysSuited suited.Yes = answers tt
+saysSuited (suited.Refused n) = refuses n
 
 -- a made frame, or the number alone
 abbrev pub saysMade : Made → Says Frame

@@ -1,8 +1,12 @@
-// The stages that reading and making share, and their answers: the layout asked for, the entries that N words hold, a made frame.
+// The stages that reading and making share, and their answers: the layout asked for, the entries that N words hold, a header to make a frame under,
+// a made frame.
 ghost use mathlib.Core.Path.{_≡_};
-ghost use Rattle.stage.specs.Stages.{layoutNumber, askedOf, entriesIn, sizeOf, refusedMade};
+ghost use Rattle.stage.specs.Stages.{layoutNumber, askedOf, entriesIn, countBy, sizeOf, suitedBy, suitedWith, refusedMade};
+use frame::Clock;
 use frame::Frame;
+use frame::Header;
 use frame::Layout;
+use frame::Widths;
 
 // Whether a type number has the layout that is asked for; another one is refusal 6.
 pub enum Asked {
@@ -25,6 +29,12 @@ pub enum Size {
 // A number of entries or characters, or the refusal's number.
 pub enum Count {
     Of(usize),
+    Refused(u8),
+}
+
+// Whether a frame may be made, or the refusal's number.
+pub enum Suited {
+    Yes,
     Refused(u8),
 }
 
@@ -85,6 +95,26 @@ pub fn entries_in(width: usize, n: usize) -> Counted
     Counted::Entries(count)
 }
 
+// How many entries of `width` bits a frame of a layout has: 5, 6, 7, 8.
+pub fn count_in(layout: Layout, width: usize, frame: Frame) -> Count
+    ensures { λ r. ⌜ r ≡ countBy layout width frame ⌝ }
+{
+    let Widths::Within = frame::frame_widths(frame) else {
+        return Count::Refused(5);
+    };
+    let header = frame.header;
+    let Asked::Same = asked_of(layout, header.kind) else {
+        return Count::Refused(6);
+    };
+    let Clock::Hour = frame::clock_of(header.z) else {
+        return Count::Refused(7);
+    };
+    let Counted::Entries(count) = entries_in(width, frame.n) else {
+        return Count::Refused(8);
+    };
+    Count::Of(count)
+}
+
 // Whether N is the one that the type has.
 pub fn size_of(wanted: usize, n: usize) -> Size
     ensures { λ r. ⌜ r ≡ sizeOf wanted n ⌝ }
@@ -93,6 +123,39 @@ pub fn size_of(wanted: usize, n: usize) -> Size
         return Size::Right;
     }
     Size::Wrong
+}
+
+// Whether a header suits a layout, so that frames of it may be made: 5, 6, 7.
+pub fn suits(layout: Layout, header: Header) -> Suited
+    ensures { λ r. ⌜ r ≡ suitedBy layout header ⌝ }
+{
+    let Widths::Within = frame::header_widths(header) else {
+        return Suited::Refused(5);
+    };
+    let Asked::Same = asked_of(layout, header.kind) else {
+        return Suited::Refused(6);
+    };
+    let Clock::Hour = frame::clock_of(header.z) else {
+        return Suited::Refused(7);
+    };
+    Suited::Yes
+}
+
+// Whether a header suits a layout, and a number of entries is 1 to the most that a frame of it has: 5, 6, 7, 12.
+pub fn suits_with(layout: Layout, header: Header, entries: usize, most: usize) -> Suited
+    ensures { λ r. ⌜ r ≡ suitedWith layout header most entries ⌝ }
+{
+    let suited = suits(layout, header);
+    if let Suited::Refused(n) = suited {
+        return Suited::Refused(n);
+    }
+    if entries == 0 {
+        return Suited::Refused(12);
+    }
+    if entries > most {
+        return Suited::Refused(12);
+    }
+    Suited::Yes
 }
 
 // A refusal, with the blank frame.

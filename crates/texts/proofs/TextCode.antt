@@ -1,7 +1,7 @@
 -- Facts that the proofs of the text functions cite: characters and their number, the loops over them, and the answers of reading.
 -- Assumes nothing.
 use mathlib.Core.Path.{_≡_, refl, sym, ap, ap₂, _∙_}
-use mathlib.Core.Bool.{Bool, true, false, _||_, cond}
+use mathlib.Core.Bool.{Bool, true, false, cond}
 use mathlib.Core.List.{List, [], _∷_, _++_, map, append-assoc}
 use Prim.Native.Nat.{ℕ, zero, suc, _+_, _*_, _-_, _≤_, _<_}
 use native.Mathlib.Nat.{zero-add}
@@ -17,7 +17,6 @@ use Rattle.bits.specs.Rows.{dataBits, rowsAt}
 use Rattle.bits.proofs.RowLaws.{length-rows-at, rows-at}
 use Rattle.frame.specs.Widths.{anyOf, outside}
 use Rattle.frame.specs.Answer.{frameWidths, clockOf}
-use Rattle.frame.specs.declared.Header.{Header}
 use Rattle.frame.specs.declared.Frame.{Frame}
 use Rattle.frame.specs.declared.Widths.the-variants.{Within, Outside}
 use Rattle.frame.specs.declared.Clock.the-variants.{Hour, Late}
@@ -25,15 +24,14 @@ use Rattle.frame.specs.declared.Layout.the-variants as layout
 use Rattle.frame.proofs.WidthLaws.{both-false}
 use Rattle.pack.specs.declared.Packer.{Packer}
 use Rattle.pack.specs.Packing.{pushed, pushedRows}
-use Rattle.pack.specs.Coding.{frameBits, entryIn, rowsOf, frameWith}
+use Rattle.pack.specs.Coding.{frameBits, entryIn, rowsOf}
 use Rattle.pack.proofs.Making.{fields-frame, rows-frame}
 use Rattle.stage.specs.declared.Asked.the-variants.{Same, Other}
 use Rattle.stage.specs.declared.Count.{Count}
 use Rattle.stage.specs.declared.Count.the-variants as count
-use Rattle.stage.specs.declared.Made.{Made}
-use Rattle.stage.specs.Stages.{askedOf, refusedMade, doneMade}
+use Rattle.stage.specs.Stages.{askedOf}
 use Rattle.stage.proofs.StageLaws.{read5, read6, read7, read8, read-on}
-use Rattle.texts.specs.Texts.{widths, meant, coding, fill, characters, textLength, lengthIn, textIn, wrongWords, forbidden, textOrder, readText, bufferAfter}
+use Rattle.texts.specs.Texts.{widths, meant, coding, characters, textLength, lengthIn, textIn, wrongWords, forbidden, textOrder, readText, bufferAfter}
 
 -- ---- characters of bits
 
@@ -137,23 +135,6 @@ some-words n e = let s = both-false (eqb n 0) (ltb 30 n) e in (positive n (eqb-f
     positive (suc m) z = omega arith
 
 -- ---- the last checks of making, 12 and 11
-
-module _ (h : Header) (t : List ℕ) where
-  abbrev pub checks : Made
-  checks =
-      inOrder ((eqb (length t) 0 || ltb 90 (length t), 12) ∷ (anyOf forbidden t, 11) ∷ []) refusedMade (doneMade (frameWith fill coding h t))
-
-  pub make-none : length t ≡ 0 → refusedMade 12 ≡ checks
-  make-none e = rw (eq-eqb (length t) 0 e)
-
-  pub make-many : (length t ≡ 0 → ⊥) → 90 < length t → refusedMade 12 ≡ checks
-  make-many e l = rw (ne-eqb (length t) 0 e, lt-ltb 90 (length t) l)
-
-  pub make-wrong : (length t ≡ 0 → ⊥) → length t ≤ 90 → anyOf forbidden t ≡ true → refusedMade 11 ≡ checks
-  make-wrong e l w = rw (ne-eqb (length t) 0 e, le-ltb 90 (length t) l, w)
-
-  pub make-done : (length t ≡ 0 → ⊥) → length t ≤ 90 → anyOf forbidden t ≡ false → doneMade (frameWith fill coding h t) ≡ checks
-  make-done e l w = rw (ne-eqb (length t) 0 e, le-ltb 90 (length t) l, w)
 
 -- ---- the answers of reading, with the buffer
 

@@ -17,7 +17,7 @@ use Rattle.stage.specs.declared.Size.the-variants.{Right, Wrong}
 use Rattle.stage.specs.declared.Count.{Count}
 use Rattle.stage.specs.declared.Count.the-variants as count
 use Rattle.stage.specs.declared.Made.{Made}
-use Rattle.stage.specs.Stages.{readOrder, makeOrder, refusedMade, doneMade, HeaderFor, FrameFor}
+use Rattle.stage.specs.Stages.{wrongCount, readOrder, makeOrder, refusedMade, doneMade, HeaderFor, FrameFor}
 
 -- THE LAYOUT: a character is 8 bits, three a word
 abbrev pub widths : List ℕ
@@ -52,7 +52,7 @@ textIn f = characters (lengthIn f) (frameBits f)
 
 -- REFUSAL 8: N not 1 to 30
 abbrev pub wrongWords : ℕ → Bool
-wrongWords n = eqb n 0 || ltb 30 n
+wrongWords n = wrongCount 30 n
 
 abbrev pub wordsSize : ℕ → Size
 wordsSize n = cond (wrongWords n) Wrong Right
@@ -79,7 +79,7 @@ bufferAfter f buffer = inOrder (textOrder f buffer) (λ n. buffer) (textIn f ++ 
 -- MAKING: 5, 6, 7, 12, 11; at most 90 characters
 unfoldable pub makeText : Header → List ℕ → Made
 makeText h text =
-    inOrder (makeOrder layout.Text h ((eqb (length text) 0 || ltb 90 (length text), 12) ∷ (anyOf forbidden text, 11) ∷ [])) refusedMade
+    inOrder (makeOrder layout.Text h ((wrongCount 90 (length text), 12) ∷ (anyOf forbidden text, 11) ∷ [])) refusedMade
     (doneMade (frameWith fill coding h text))
 
 -- ---- what the round trip says

@@ -19,6 +19,7 @@ use stage::Count;
 use stage::Made;
 use stage::Making;
 use stage::Size;
+use stage::Suited;
 
 // A character is not 1 to 127.
 fn is_forbidden(character: u32) -> bool
@@ -153,21 +154,9 @@ fn pack_text(text: &[u8]) -> Packer
 pub fn make_text(header: Header, text: &[u8]) -> Made
     ensures { λ r. ⌜ r ≡ makeText header (now (text .entry)) ⌝ }
 {
-    let Widths::Within = frame::header_widths(header) else {
-        return stage::refused(5);
-    };
-    let Asked::Same = stage::asked_of(Layout::Text, header.kind) else {
-        return stage::refused(6);
-    };
-    let Clock::Hour = frame::clock_of(header.z) else {
-        return stage::refused(7);
-    };
-    let count = text.len();
-    if count == 0 {
-        return stage::refused(12);
-    }
-    if count > 90 {
-        return stage::refused(12);
+    let suited = stage::suits_with(Layout::Text, header, text.len(), 90);
+    if let Suited::Refused(n) = suited {
+        return stage::refused(n);
     }
     if text_forbidden(text) {
         return stage::refused(11);

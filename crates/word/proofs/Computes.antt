@@ -19,7 +19,7 @@ use Rattle.word.specs.Word.{d29*, d30*, turnedBy, parity, dataOf, receiv
 use Rattle.word.specs.Answer.{sentAt, wordOf}
 use Rattle.word.specs.declared.Sent.the-variants.{Word, Refused}
 use Rattle.word.proofs.Linearity.{zeros, remainder-xor}
-use Rattle.word.proofs.Sending.{parity-left, passes-sent, data-sent}
+use Rattle.word.proofs.Sending.{parity-left}
 
 -- one bit of the remainder
 abbrev remainderAt : ℕ → List Bool → Bool
@@ -122,19 +122,6 @@ sent-law c d h =
 
     padded : number t * 64 ≡ number (t ++ zeros)
     padded = omega (arith, number-append t zeros)
-
--- the window that the encoder's word makes with its carried bits: it passes, and gives the data back
-made : (c d : ℕ) → c < 4 → bits 32 (c * 2 ^ 30 + number (sentAt c d)) ≡ d29* (bits 2 c) ∷ d30* (bits 2 c) ∷ sentAt c d
-unfolding bits sent
-made c d h = bits-cat 2 30 c (sentAt c d) refl h
-
-pub round-trip : (c d : ℕ) → c < 4 → d < 2 ^ 24
-    → (passes (bits 32 (c * 2 ^ 30 + number (sentAt c d))) ≡ true) × (number (dataOf (bits 32 (c * 2 ^ 30 + number (sentAt c d)))) ≡ d)
-round-trip c d hc hd =
-    rw (made c d hc) (
-      passes-sent (d29* (bits 2 c)) (d30* (bits 2 c)) (bits 24 d) (length-bits 24 d),
-      ap number (data-sent (d29* (bits 2 c)) (d30* (bits 2 c)) (bits 24 d) (length-bits 24 d)) ∙ number-bits 24 d ∙ mod-eq-of-lt hd,
-    )
 
 -- within its widths no word is refused
 pub word-answers : (c d : ℕ) → c < 4 → d < 2 ^ 24 → wordOf c d ≡ Word (number (sentAt c d))

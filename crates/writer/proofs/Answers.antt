@@ -1,7 +1,7 @@
 -- Each answer of the writer from the tests that lead to it, with the buffer after it. Assumes nothing.
 use mathlib.Core.Path.{_≡_, refl, sym, ap, ap₂, subst, _∙_}
 use mathlib.Core.Bool.{Bool, true, false}
-use mathlib.Core.List.{List, [], _∷_}
+use mathlib.Core.List.{List, _∷_}
 use Prim.Native.Nat.{ℕ, _+_, _*_, _/_, _%_, _≤_, _<_}
 use native.Mathlib.Omega.{arith}
 use lib.ListN.{length, take, getD}
@@ -19,22 +19,11 @@ use Rattle.frame.specs.declared.HeaderWords.the-variants as header
 use Rattle.frame.proofs.HeaderLaws.{words-answered}
 use Rattle.frame.proofs.FrameLaws.{header-within, n-within, below-words, length-words}
 use Rattle.writer.specs.Sending.{sentBits, bitsAfter, carriedOn, bytesFor, lineLength, sentAfter, bytesAfter, pairAfter}
-use Rattle.writer.specs.Answer.{over, lead, openChecks, openedBy, openedTo, writeChecks, writtenBy, writtenTo}
+use Rattle.writer.specs.Answer.{over, writeChecks, writtenBy, writtenTo}
 use Rattle.writer.specs.declared.Carried.{Carried}
-use Rattle.writer.specs.declared.Opened.the-variants as opened
 use Rattle.writer.specs.declared.Written.the-variants.{Done, Refused}
 use Rattle.writer.proofs.Bytes.{length-bytes, sets-over}
 use Rattle.writer.proofs.Carrying.{pair-29, pair-30, carried-pair}
-
--- ---- opening
-
-done-apart : {n : ℕ} → opened.Done ≡ opened.Refused n → ⊥
-done-apart e = let never : _≡_ {A = ℕ} 0 1 = cc in omega arith
-
-pub open-keeps : (l : List ℕ) {n : ℕ} → openedBy l ≡ opened.Refused n → openedTo l ≡ l
-open-keeps l e = order-keeps opened.Refused opened.Done (openChecks l) l (over (lead ∷ []) l) done-apart e
-
--- ---- writing
 
 refused-apart : {n k : ℕ} {c : Carried} → Refused n ≡ Done k c → ⊥
 refused-apart e = let never : _≡_ {A = ℕ} 0 1 = cc in omega arith

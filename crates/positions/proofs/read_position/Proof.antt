@@ -16,7 +16,7 @@ use Rattle.frame.proofs.WidthLaws.{told-within}
 use Rattle.pack.proofs.Making.{fields-frame}
 use Rattle.stage.specs.declared.Asked.the-variants.{Same}
 use Rattle.stage.specs.Stages.{askedOf, wrongSize}
-use Rattle.stage.proofs.StageLaws.{read5, read6, read7, read8, read-on, told-wrong, told-right, read10, read-fine}
+use Rattle.stage.proofs.StageLaws.{read5, read6, read7, read8, read-on, told-wrong, told-right, last-wrong, last-fine}
 use Rattle.positions.specs.Positions.{widths, meant, outOfRange, positionIn, readPosition}
 use Rattle.positions.specs.declared.PositionRead.the-variants as read
 use Rattle.positions.proofs.read_position.Statement.{statement}
@@ -100,7 +100,7 @@ returns-5 c =
     let c14 = c10 .before .before .before .before in
     let c17 = c14 .before .before .before in
     let f = c17 .args .frame in
-    read10 read.Refused (read.At (positionIn f)) (outOfRange (positionIn f))
+    last-wrong read.Refused (read.At (positionIn f)) (outOfRange (positionIn f)) 10
     (ap outOfRange (sym (found (c .before .before))) ∙ sym (c .before .out-of-range .ensures) ∙ c .if1 .taken)
     ∙ read-on layout.Position f (wrongSize 4 (f .n)) ((outOfRange (positionIn f), 10) ∷ []) read.Refused (read.At (positionIn f))
     (within c14) (same c10) (hour c7) (right c4)
@@ -115,7 +115,7 @@ returns-6 c =
     let c17 = c14 .before .before .before in
     let f = c17 .args .frame in
     ap read.At (found (c .before .before))
-    ∙ read-fine read.Refused (read.At (positionIn f)) (outOfRange (positionIn f))
+    ∙ last-fine read.Refused (read.At (positionIn f)) (outOfRange (positionIn f)) 10
     (ap outOfRange (sym (found (c .before .before))) ∙ sym (c .before .out-of-range .ensures) ∙ c .if1 .left)
     ∙ read-on layout.Position f (wrongSize 4 (f .n)) ((outOfRange (positionIn f), 10) ∷ []) read.Refused (read.At (positionIn f))
     (within c14) (same c10) (hour c7) (right c4)
