@@ -17,7 +17,7 @@ use Rattle.frame.specs.declared.Layout.{Layout}
 use Rattle.frame.specs.declared.Layout.the-variants as layout
 use Rattle.frame.proofs.FrameLaws.{n-within, length-framed}
 use Rattle.pack.specs.Coding.{entryBits, frameWith}
-use Rattle.stage.specs.Stages.{wrongCount, makeOrder, refusedMade, doneMade, HeaderFor, Sent}
+use Rattle.stage.specs.Stages.{wrongCount, makeOrder, refusedMade, doneMade, HeaderFor, IsMade}
 use Rattle.corrections.specs.Corrections as corrections
 use Rattle.healths.specs.Healths as healths
 use Rattle.positions.specs.Positions as positions
@@ -51,7 +51,7 @@ made-full cs h ws f e within = ap (λ g. length (g .words)) (sym same) ∙ lengt
 
 -- WHAT IS SENT under a header for its layout IS WRITTEN AND READS BACK: no check of the writer applies
 sent-reads-back : (asked : Layout) (h : Header) (cs : List Check) (ws : List ℕ) (Reads : Frame → Type 0)
-    (s : Sent (inOrder cs refusedMade (doneMade (framed h ws))) Reads)
+    (s : IsMade (inOrder cs refusedMade (doneMade (framed h ws))) Reads)
     → HeaderFor asked h → s .frame .header ≡ h → outside (s .frame) ≡ false → ReadsBack (inOrder cs refusedMade (doneMade (framed h ws))) Reads
 sent-reads-back asked h cs ws Reads s for header within c buffer p q room = record {
   made = s;

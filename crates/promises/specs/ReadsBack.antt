@@ -14,7 +14,7 @@ use Rattle.stage.specs.declared.Made.{Made}
 use Rattle.corrections.specs.declared.Correction.{Correction}
 use Rattle.healths.specs.declared.SatelliteHealth.{SatelliteHealth}
 use Rattle.positions.specs.declared.Position.{Position}
-use Rattle.stage.specs.Stages.{Sent}
+use Rattle.stage.specs.Stages.{IsMade}
 use Rattle.corrections.specs.Corrections.{makeCorrections, Typed, CorrectionsMade, SendableCorrections}
 use Rattle.healths.specs.Healths.{makeHealths, HealthsMade, SendableHealths}
 use Rattle.positions.specs.Positions.{makePosition, PositionMade, SendablePosition}
@@ -28,7 +28,7 @@ use Rattle.writer.specs.declared.Carried.{Carried}
 -- MADE, WRITTEN AND READ: m is the answer to making, c the carried pair; `Reads` says of a frame that it reads back as the record
 pub record WrittenAndRead (m : Made) (Reads : Frame → Type 0) (c : Carried) (buffer : List ℕ) : Type 0 where
   -- a frame is made, not refused
-  pub made : Sent m Reads
+  pub made : IsMade m Reads
   -- it is written, not refused: so many bytes, and the pair carried on
   pub count : ℕ
   pub on : Carried

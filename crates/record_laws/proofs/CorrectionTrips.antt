@@ -20,7 +20,7 @@ use Rattle.pack.proofs.Round.{Faithful}
 use Rattle.pack.specs.Satellites.{satelliteOf}
 use Rattle.pack.proofs.SatelliteLaws.{satellite-back, code-back, satellite-some, satellite-few}
 use Rattle.stage.specs.declared.Count.the-variants as count
-use Rattle.stage.specs.Stages.{countIn, doneMade, Sent}
+use Rattle.stage.specs.Stages.{countIn, doneMade, IsMade}
 use Rattle.corrections.specs.declared.Correction.{Correction}
 use Rattle.corrections.specs.declared.CorrectionRead.the-variants as read
 use Rattle.corrections.specs.Corrections.{widths, meant, codes, coding, fill, StandardFill, numbersOut, outOfRange, countCorrections, correctionAt, makeCorrections, Typed, CorrectionsMade, InRange, SendableCorrections, HoldsCorrections, ReadsCorrections}
@@ -139,7 +139,7 @@ corrections-read-made =
 
 -- SENT: what can be sent is made, not refused, and reads back
 pub corrections-sent : (h : Header) (es : List Correction) (c : ℕ) (d : Correction) → Each Typed (take c es) → SendableCorrections h es c d
-    → Sent (makeCorrections h es c) (CorrectionsMade h es c d)
+    → IsMade (makeCorrections h es c) (CorrectionsMade h es c d)
 unfolding makeCorrections
 corrections-sent h es c d typed s =
     let done = list-made layout.Correction coding fill 18 outOfRange InRange range-fine h es c d s in

@@ -17,7 +17,7 @@ use Rattle.pack.proofs.Round.{Faithful}
 use Rattle.pack.specs.Satellites.{satelliteOf}
 use Rattle.pack.proofs.SatelliteLaws.{satellite-back, code-back, satellite-some, satellite-few}
 use Rattle.stage.specs.declared.Count.the-variants as count
-use Rattle.stage.specs.Stages.{countIn, doneMade, Sent}
+use Rattle.stage.specs.Stages.{countIn, doneMade, IsMade}
 use Rattle.healths.specs.declared.SatelliteHealth.{SatelliteHealth}
 use Rattle.healths.specs.declared.HealthRead.the-variants as read
 use Rattle.healths.specs.Healths.{widths, meant, codes, coding, fill, flagsOut, codesOut, outOfRange, countHealths, healthAt, makeHealths, HealthsMade, InRange, SendableHealths, HoldsHealths, ReadsHealths}
@@ -172,7 +172,7 @@ healths-read-made f es c d full l n e =
 
 -- SENT: what can be sent is made, not refused, and reads back
 pub healths-sent : (h : Header) (es : List SatelliteHealth) (c : ℕ) (d : SatelliteHealth) → SendableHealths h es c d
-    → Sent (makeHealths h es c) (HealthsMade h es c d)
+    → IsMade (makeHealths h es c) (HealthsMade h es c d)
 unfolding makeHealths
 healths-sent h es c d s =
     let done = list-made layout.Health coding fill 31 outOfRange InRange range-fine h es c d s in

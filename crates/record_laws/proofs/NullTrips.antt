@@ -13,7 +13,7 @@ use Rattle.frame.specs.declared.Header.{Header}
 use Rattle.frame.specs.declared.Frame.{Frame}
 use Rattle.frame.specs.declared.Layout.the-variants as layout
 use Rattle.frame.proofs.FrameLaws.{header-within, framed-inside, framed-again}
-use Rattle.stage.specs.Stages.{wrongSize, readOrder, makeOrder, refusedMade, doneMade, Sent}
+use Rattle.stage.specs.Stages.{wrongSize, readOrder, makeOrder, refusedMade, doneMade, IsMade}
 use Rattle.stage.proofs.StageLaws.{done-apart, done-frame}
 use Rattle.nulls.specs.declared.NullRead.the-variants as read
 use Rattle.nulls.specs.Nulls.{readNull, makeNull, NullMade, SendableNull, HoldsNull}
@@ -53,7 +53,7 @@ module _ (h : Header) where
   told f e = order-told refusedMade (doneMade (framed h [])) (doneMade f) (λ n. done-apart n f) (makeOrder layout.Null h []) e
 
   -- SENT: what can be sent is made, not refused, and reads back
-  pub null-sent : SendableNull h → Sent (makeNull h) (NullMade h)
+  pub null-sent : SendableNull h → IsMade (makeNull h) (NullMade h)
   unfolding makeNull
   null-sent s = record {
     frame = framed h [];

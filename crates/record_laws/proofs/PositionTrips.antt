@@ -27,7 +27,7 @@ use Rattle.frame.proofs.FrameLaws.{header-within, length-data as length-data-wo
 use Rattle.frame.proofs.WidthLaws.{both-false}
 use Rattle.pack.specs.Coding.{frameBits, frameWith}
 use Rattle.pack.proofs.Round.{Faithful, made-n, made-inside, made-entry, made-again}
-use Rattle.stage.specs.Stages.{wrongSize, readOrder, makeOrder, refusedMade, doneMade, Sent}
+use Rattle.stage.specs.Stages.{wrongSize, readOrder, makeOrder, refusedMade, doneMade, IsMade}
 use Rattle.stage.proofs.StageLaws.{done-apart, done-frame}
 use Rattle.positions.specs.declared.Position.{Position}
 use Rattle.positions.specs.declared.PositionRead.the-variants as read
@@ -156,7 +156,7 @@ module _ (h : Header) (p : Position) where
     made-reads = record { header = header-is; inside = within; reads = position-read (made h p) holds ∙ ap read.At position-is; n = n-is }
 
     -- SENT: what can be sent is made, not refused, and reads back
-    pub position-sent : Sent (makePosition h p) (PositionMade h p)
+    pub position-sent : IsMade (makePosition h p) (PositionMade h p)
     unfolding makePosition
     position-sent = record {
       frame = made h p;

@@ -17,7 +17,7 @@ use Rattle.frame.specs.declared.Frame.{Frame}
 use Rattle.frame.specs.declared.Layout.the-variants as layout
 use Rattle.pack.specs.Coding.{frameBits, entryIn, rowsOf, entryBits, frameWith}
 use Rattle.pack.proofs.Round.{fill-left, length-entries, made-bits, made-n, made-inside, made-fill, made-entry}
-use Rattle.stage.specs.Stages.{wrongCount, makeOrder, refusedMade, doneMade, Sent}
+use Rattle.stage.specs.Stages.{wrongCount, makeOrder, refusedMade, doneMade, IsMade}
 use Rattle.stage.proofs.StageLaws.{done-apart, done-frame}
 use Rattle.stage.proofs.ListCode.{some-few, told-some-few}
 use Rattle.texts.specs.Texts.{widths, meant, codes, coding, fill, characters, forbidden, makeText, TextMade, SendableText, HoldsText}
@@ -121,7 +121,7 @@ module _ (h : Header) (t : List ℕ) (s : SendableText h t) where
   }
 
   -- SENT: what can be sent is made, not refused, and reads back
-  pub text-sent : Sent (makeText h t) (TextMade h t)
+  pub text-sent : IsMade (makeText h t) (TextMade h t)
   unfolding makeText
   text-sent = record {
     frame = made h t;

@@ -109,7 +109,7 @@ pub record FrameFor (asked : Layout) (f : Frame) : Type 0 where
   pub hour : f .header .z < 6000
 
 -- the answer to making is a frame, not a refusal, and this is said of it
-pub record Sent (m : Made) (Reads : Frame → Type 0) : Type 0 where
+pub record IsMade (m : Made) (Reads : Frame → Type 0) : Type 0 where
   pub frame : Frame
   pub done : m ≡ doneMade frame
   pub reads : Reads frame

@@ -22,8 +22,7 @@ loop-holds c = (omega arith, refl)
 returns : tie.Need-returns Inv-loop μ-loop
 returns c =
     let c4 = c .before .before .before .before in
-    let c5 = c4 .before in
-    let s = c5 in
+    let s = c4 .before in
     let l : length (s .args .t1) ≡ 18 = search needs in
     let i = c4 .loop .i in
     sym (c4 .loop .inv .1
@@ -32,8 +31,7 @@ returns c =
 loop-again : tie.Need-loop-again Inv-loop μ-loop
 loop-again c =
     let c4 = c .before .before .before .before in
-    let c5 = c4 .before in
-    let s = c5 in
+    let s = c4 .before in
     let l : length (s .args .t1) ≡ 18 = search needs in
     let i = c4 .loop .i in (
       omega arith,

@@ -15,8 +15,7 @@ returns c =
     let c8 = c7 .before in
     let c9 = c8 .before in
     let c10 = c9 .before in
-    let c11 = c10 .before in
-    let s = c11 in
+    let s = c10 .before in
     entry-law (s .args .words) (s .args .at)
     (c10 .field .result) (c9 .field2 .result) (c8 .satellite-of .result) (c7 .field3 .result) (c6 .field4 .result) (c5 .field5 .result)
     (c4 .field6 .result) (c .before .before .before .field7 .result) (c .before .before .field8 .result) (c .before .field9 .result)

@@ -1,3 +1,4 @@
+-- `end` meets its contract: 5, 3, 2, then the hunt in which nothing more may come. Assumes nothing.
 use borrow.Author.Needs.{needs}
 use mathlib.Core.Path.{_≡_}
 use native.Mathlib.Omega.{arith}

@@ -1,3 +1,4 @@
+-- `feed` meets its contract: 5, 3, 2, 1, then one step. Assumes nothing.
 use borrow.Author.Needs.{needs}
 use mathlib.Core.Path.{_≡_, sym, ap, _∙_}
 use native.Mathlib.Omega.{arith}

@@ -1,3 +1,4 @@
+-- `feed_all` meets its contract: 5, 3, 2, then the run over the bytes. Assumes nothing.
 use borrow.Author.Needs.{needs}
 use denote.Ref.{now}
 use mathlib.Core.Path.{_≡_}

@@ -1,3 +1,4 @@
+-- `new` meets its contract: no bit held, at position 2. Assumes nothing.
 use mathlib.Core.Path.{refl}
 use Rattle.reader.specs.Reading.{started}
 use Rattle.reader.proofs.new.Statement.{statement}

@@ -1,3 +1,4 @@
+-- `take` meets its contract: 5, 4, then the frame, and the hunt from the bit after it. Assumes nothing.
 use borrow.Author.Needs.{needs}
 use borrow.Author.Tests.{not-true, not-false}
 use mathlib.Core.Path.{_≡_, sym, _∙_}

@@ -1,3 +1,4 @@
+-- `remainder` meets its contract: six masks, by the law of the rows. Assumes nothing.
 use borrow.Author.Needs.{needs}
 use Rattle.word.proofs.Computes.{remainder-law}
 use Rattle.word.proofs.remainder.Statement.{statement}

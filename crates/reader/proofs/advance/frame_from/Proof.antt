@@ -1,3 +1,4 @@
+-- `frame_from` meets its contract: the header of two words, then by a loop word after word. Assumes nothing.
 use borrow.Author.Needs.{needs}
 use denote.Ref.{now}
 use mathlib.Core.Path.{_≡_, ap, ap₂, _∙_}

@@ -1,3 +1,4 @@
+-- `hold` meets its contract: no word has come to its end, so the hunt stays where it is. Assumes nothing.
 use denote.Ref.{now}
 use mathlib.Core.Path.{sym, ap, _∙_}
 use Prim.Native.Nat.{_+_}

@@ -1,3 +1,4 @@
+-- `moved` meets its contract: the position goes on by the bits that are gone. Assumes nothing.
 use borrow.Author.Needs.{needs}
 use Rattle.reader.specs.Reading.{movedTo}
 use Rattle.reader.proofs.advance.moved.Statement.{statement}

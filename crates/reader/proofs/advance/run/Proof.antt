@@ -1,3 +1,4 @@
+-- `run` meets its contract: by a loop over the bytes; the run from the start is what was used and the run from here. Assumes nothing.
 use borrow.Author.Needs.{needs}
 use denote.Ref.{now}
 use mathlib.Core.Path.{_≡_, sym, ap, subst₂, _∙_}

@@ -1,3 +1,4 @@
+-- `step` meets its contract: the six bits pushed, then the hunt, from where seeking stops. Assumes nothing.
 use denote.Ref.{now}
 use mathlib.Core.Path.{sym, ap, _∙_}
 use mathlib.Core.Bool.{false}

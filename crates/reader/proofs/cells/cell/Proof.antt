@@ -1,3 +1,4 @@
+-- `cell` meets its contract: a cell, or 0 past the last. Assumes nothing.
 use borrow.Author.Needs.{needs}
 use denote.Ref.{now}
 use mathlib.Core.Path.{sym, ap}

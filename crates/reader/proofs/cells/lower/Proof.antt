@@ -1,3 +1,4 @@
+-- `lower` meets its contract: by a loop, cell after cell from the front. Assumes nothing.
 use borrow.Author.Needs.{needs}
 use denote.Ref.{now}
 use mathlib.Core.Path.{_≡_, refl}

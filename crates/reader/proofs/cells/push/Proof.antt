@@ -1,3 +1,4 @@
+-- `push` meets its contract: with room the six bits are put in, else after the cells have moved down. Assumes nothing.
 use borrow.Author.Needs.{needs}
 use denote.Ref.{now}
 use mathlib.Core.Path.{ap, _∙_}

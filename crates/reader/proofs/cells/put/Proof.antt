@@ -1,3 +1,4 @@
+-- `put` meets its contract: the two cells as one number, the six bits after those kept. Assumes nothing.
 use borrow.Author.Needs.{needs}
 use mathlib.Core.Path.{_≡_, _∙_}
 use Prim.Native.Nat.{_-_, _%_, _^_}

@@ -1,3 +1,4 @@
+-- `window` meets its contract: the pair of cells cut at the bit. Assumes nothing.
 use borrow.Author.Needs.{needs}
 use denote.Ref.{now}
 use Rattle.reader.proofs.Buffer.{number-window}

@@ -1,3 +1,4 @@
+-- `past` meets its contract: the tests in the order of the definition. Assumes nothing.
 use borrow.Author.Needs.{needs}
 use borrow.Author.Tests.{lt-ltb, le-ltb, not-true, not-false}
 use denote.Ref.{now}

@@ -1,3 +1,4 @@
+-- `readiness` meets its contract: 5, 3, 2 in their order. Assumes nothing.
 use borrow.Author.Needs.{needs}
 use mathlib.Core.Path.{sym, _∙_}
 use Rattle.reader.proofs.checks.readiness.Statement.{statement}

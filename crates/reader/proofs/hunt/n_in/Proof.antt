@@ -1,3 +1,4 @@
+-- `n_in` meets its contract: N of the window's data. Assumes nothing.
 use borrow.Author.Needs.{needs}
 use mathlib.Core.Path.{ap, _∙_}
 use Rattle.frame.specs.Header.{nOf}

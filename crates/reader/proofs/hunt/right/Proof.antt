@@ -1,3 +1,4 @@
+-- `right` meets its contract: the preamble of the first word, then its parity. Assumes nothing.
 use borrow.Author.Needs.{needs}
 use borrow.Author.Tests.{not-true, not-false}
 use mathlib.Core.Path.{sym, ap, _∙_}

@@ -1,3 +1,4 @@
+-- `seek` meets its contract: a position that nine bits rule out is passed over, and the hunt stays the same. Assumes nothing.
 use borrow.Author.Needs.{needs}
 use denote.Ref.{now}
 use mathlib.Core.Path.{_≡_, refl, ap, _∙_}
