@@ -43,7 +43,8 @@ otherLayout asked kind = not (eqb (layoutNumber (layoutOf kind)) (layoutNumber a
 abbrev pub askedOf : Layout → ℕ → Asked
 askedOf asked kind = cond (otherLayout asked kind) Other Same
 
--- ---- refusal 8 of a list: N words, at most 31, hold c entries of w bits exactly when these bits take N words of 24, rounded up
+-- ---- refusal 8 of a list: N words, at most 31, hold c entries of w bits, one or more, exactly when these bits take N words
+-- of 24, rounded up
 
 abbrev pub countIn : ℕ → ℕ → ℕ
 countIn w n = 24 * n / w
