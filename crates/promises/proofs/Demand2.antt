@@ -5,46 +5,93 @@ use mathlib.Core.Bool.{Bool, true, false, cond}
 use mathlib.Core.List.{List, [], _∷_, _++_}
 use Prim.Native.Nat.{ℕ, zero, suc, _+_, _*_}
 use native.Mathlib.Omega.{arith}
-use lib.ListN.{length, take, drop}
+use lib.ListN.{length, take, drop, getD}
 use lib.Seq.{take-at}
 use Rattle.answer.specs.Order.{answers, NoneApplies}
-use Rattle.answer.proofs.OrderLaws.{order-answers}
-use Rattle.line.specs.Line.{lineBits}
+use Rattle.answer.proofs.OrderLaws.{order-answers, refuses-apart}
 use Rattle.frame.specs.Widths.{headerOutside, late}
 use Rattle.frame.specs.declared.Frame.{Frame}
 use Rattle.frame.specs.declared.Layout.{Layout}
 use Rattle.frame.specs.declared.Layout.the-variants as layout
-use Rattle.stream.specs.Standing.{size, frameAt}
+use Rattle.stream.specs.Standing.{frameAt}
 use Rattle.stream.proofs.Data.{frame-full}
 use Rattle.pack.specs.Coding.{Each}
 use Rattle.stage.specs.Stages.{otherLayout, refusedMade, doneMade, saysCount, saysMade}
 use Rattle.corrections.specs.Corrections.{countCorrections, correctionAt, makeCorrections, saysCorrectionRead, Typed}
 use Rattle.healths.specs.Healths.{countHealths, healthAt, makeHealths, saysHealthRead}
-use Rattle.positions.specs.Positions.{makePosition}
-use Rattle.nulls.specs.Nulls.{makeNull}
-use Rattle.texts.specs.Texts.{makeText}
+use Rattle.positions.specs.Positions.{readPosition, makePosition, saysPositionRead}
+use Rattle.nulls.specs.Nulls.{readNull, makeNull, saysNullRead}
+use Rattle.texts.specs.Texts.{readText, makeText}
+use Rattle.corrections.specs.declared.Correction.{Correction}
+use Rattle.corrections.specs.declared.CorrectionRead.{CorrectionRead}
+use Rattle.corrections.specs.declared.CorrectionRead.the-variants as correction
+use Rattle.healths.specs.declared.SatelliteHealth.{SatelliteHealth}
+use Rattle.healths.specs.declared.HealthRead.{HealthRead}
+use Rattle.healths.specs.declared.HealthRead.the-variants as health
+use Rattle.positions.specs.declared.Position.{Position}
+use Rattle.positions.specs.declared.PositionRead.{PositionRead}
+use Rattle.positions.specs.declared.PositionRead.the-variants as position
+use Rattle.nulls.specs.declared.NullRead.{NullRead}
+use Rattle.nulls.specs.declared.NullRead.the-variants as null
 use Rattle.stage.specs.declared.Making.{Making}
 use Rattle.stage.specs.declared.Making.the-variants as making
 use Rattle.stage.specs.declared.Made.{Made}
 use Rattle.stage.proofs.StageLaws.{done-apart}
 use Rattle.stage.proofs.ListCode.{told-some-few}
-use Rattle.record_laws.proofs.CorrectionTrips.{corrections-made-read, corrections-read-made}
-use Rattle.record_laws.proofs.HealthTrips.{healths-made-read, healths-read-made}
-use Rattle.record_laws.proofs.PositionTrips.{position-made-read, position-read-made}
-use Rattle.record_laws.proofs.NullTrips.{null-made-read, null-read-made}
+use Rattle.record_laws.proofs.CorrectionTrips.{corrections-made-read, corrections-read-made, corrections-read, corrections-held}
+use Rattle.record_laws.proofs.HealthTrips.{healths-made-read, healths-read-made, healths-read, healths-held}
+use Rattle.record_laws.proofs.PositionTrips.{position-made-read, position-read-made, position-read, position-held}
+use Rattle.record_laws.proofs.NullTrips.{null-made-read, null-read-made, null-read, null-held}
 use Rattle.record_laws.proofs.TextTrips.{text-made-read}
+use Rattle.record_laws.proofs.TextHeld.{text-read, text-held}
 use Rattle.record_laws.proofs.TextAgain.{text-read-made}
 use Rattle.journal.specs.Journal.{recordOf, keepOrder, keptBy, heldBy, recalledBy, saysKept, saysRecalled}
 use Rattle.journal.specs.declared.Kept.the-variants as kept
 use Rattle.journal.proofs.KeepLaws.{length-record}
 use Rattle.journal.proofs.RoundTrip.{recall-record, keep-recalled}
-use Rattle.writer.specs.Answer.{writtenBy, writtenTo}
-use Rattle.writer.specs.OneFrame.{pairBefore, WritesBack}
+use Rattle.writer.specs.OneFrame.{WritesBack}
 use Rattle.writer.proofs.Wrote.{writes-back}
-use Rattle.promises.specs.Demand2.{Remade, ofCorrections, ofHealths, ofPosition, ofNull, ofText, ReadsBackEqual, MadeAnew, ItsOwnBits, Demand2}
+use Rattle.promises.specs.Demand2.{Remade, ofCorrections, ofHealths, ofPosition, ofNull, ofText, WhatIsRead, ReadsBackEqual, MadeAnew, ItsOwnBits, Demand2}
 use Rattle.promises.proofs.CarriesItsNumber.{carries-its-number, says-inj, none-told}
-use Rattle.promises.proofs.ThoseOfRtcm.{gps-parity-rule, frames-of-rtcm, records-of-rtcm}
-use Rattle.promises.proofs.ReadsBack.{what-can-be-sent}
+use Rattle.promises.proofs.ThoseOfRtcm.{count-told, gps-parity-rule, frames-of-rtcm, records-of-rtcm}
+use Rattle.promises.proofs.ReadsBack.{corrections-back, healths-back, position-back, null-back, text-back, what-can-be-sent}
+
+-- ---- what a reader says, and its answer
+
+correction-told : (x : CorrectionRead) (e : Correction) → saysCorrectionRead x ≡ answers e → x ≡ correction.Entry e
+correction-told (correction.Entry a) e h = ap correction.Entry (says-inj h)
+correction-told (correction.Refused n) e h = absurd (refuses-apart n e h)
+
+health-told : (x : HealthRead) (e : SatelliteHealth) → saysHealthRead x ≡ answers e → x ≡ health.Entry e
+health-told (health.Entry a) e h = ap health.Entry (says-inj h)
+health-told (health.Refused n) e h = absurd (refuses-apart n e h)
+
+position-told : (x : PositionRead) (p : Position) → saysPositionRead x ≡ answers p → x ≡ position.At p
+position-told (position.At a) p h = ap position.At (says-inj h)
+position-told (position.Refused n) p h = absurd (refuses-apart n p h)
+
+null-told : (x : NullRead) → saysNullRead x ≡ answers tt → x ≡ null.Null
+null-told null.Null h = refl
+null-told (null.Refused n) h = absurd (refuses-apart n tt h)
+
+-- ---- which frames are read
+
+pub what-is-read : WhatIsRead
+what-is-read = record {
+  corrections = λ f c. (λ e. corrections-held f c (count-told (countCorrections f) c e), λ h. ap saysCount (corrections-read f c h .counts));
+  correction = λ f c i h l. ap saysCorrectionRead (corrections-read f c h .entries i l);
+  healths = λ f c. (λ e. healths-held f c (count-told (countHealths f) c e), λ h. ap saysCount (healths-read f c h .counts));
+  health = λ f c i h l. ap saysHealthRead (healths-read f c h .entries i l);
+  position = λ f p. (
+    λ e.
+        let h = position-held f p (position-told (readPosition f) p e) in
+        (h, says-inj (sym (ap saysPositionRead (position-read f h)) ∙ e)),
+    λ h. ap saysPositionRead (position-read f (h .0)) ∙ ap answers (h .1),
+  );
+  null = λ f. (λ e. null-held f (null-told (readNull f) e), λ h. ap saysNullRead (null-read f h));
+  text = λ f t k buffer h l. (ap saysCount (text-read f t k h .reads buffer l), text-read f t k h .writes buffer l);
+  no-other = λ f buffer c e. text-held f buffer c (count-told (readText f buffer) c e);
+}
 
 -- ---- "A record we write reads back equal"
 
@@ -83,25 +130,14 @@ pub reads-back-equal : ReadsBackEqual
 reads-back-equal = record {
   corrections = λ h es c d f many typed e.
       let at-most = told-some-few c 18 (none-told (carries-its-number .make-corrections h es c) f e .1 .1 .1 .0) .1 in
-      let made = corrections-made-read h es c d f (omega (arith, at-most, many)) (each-take Typed c es typed) (made-told (makeCorrections h es c) f e) in (
-        made,
-        record {
-          counted = unfold countCorrections in ap saysCount (made .counts);
-          each = λ i l. unfold correctionAt in ap saysCorrectionRead (made .entries i l);
-        },
-      );
+      corrections-back h es c d f
+      (corrections-made-read h es c d f (omega (arith, at-most, many)) (each-take Typed c es typed) (made-told (makeCorrections h es c) f e));
   healths = λ h es c d f many e.
       let at-most = told-some-few c 31 (none-told (carries-its-number .make-healths h es c) f e .1 .1 .1 .0) .1 in
-      let made = healths-made-read h es c d f (omega (arith, at-most, many)) (made-told (makeHealths h es c) f e) in (
-        made,
-        record {
-          counted = unfold countHealths in ap saysCount (made .counts);
-          each = λ i l. unfold healthAt in ap saysHealthRead (made .entries i l);
-        },
-      );
-  position = λ h p f typed e. position-made-read h p f typed (made-told (makePosition h p) f e);
-  null = λ h f e. null-made-read h f (made-told (makeNull h) f e);
-  text = λ h t f e. text-made-read h t f (made-told (makeText h t) f e);
+      healths-back h es c d f (healths-made-read h es c d f (omega (arith, at-most, many)) (made-told (makeHealths h es c) f e));
+  position = λ h p f typed e. position-back h p f (position-made-read h p f typed (made-told (makePosition h p) f e));
+  null = λ h f e. null-back h f (null-made-read h f (made-told (makeNull h) f e));
+  text = λ h t f e. text-back h t f (text-made-read h t f (made-told (makeText h t) f e));
   recalled = recall-front;
   kept-again = λ bs f k buffer fits e room. keep-recalled bs fits f k e buffer room;
 }
@@ -123,31 +159,21 @@ in-time asked f rest = go (headerOutside (f .header)) (otherLayout asked (f .hea
 -- every record made anew is the frame that was read, and its Z count can be sent
 again : (f : Frame) (m : Made) → length (f .words) ≡ 31 → Remade f m → (m ≡ doneMade f) × (late (f .header .z) ≡ false)
 unfolding makeCorrections makeHealths makePosition makeNull makeText
-again f m full (ofCorrections es c d l n e s q) = let made = corrections-read-made f es c d full l n e s in (q ∙ made, in-time layout.Correction f _ made)
-again f m full (ofHealths es c d l n e q) = let made = healths-read-made f es c d full l n e in (q ∙ made, in-time layout.Health f _ made)
-again f m full (ofPosition p e q) = let made = position-read-made f p full e in (q ∙ made, in-time layout.Position f _ made)
-again f m full (ofNull e q) = let made = null-read-made f full e in (q ∙ made, in-time layout.Null f _ made)
-again f m full (ofText buffer c e q) = let made = text-read-made f buffer c full e in (q ∙ made, in-time layout.Text f _ made)
+again f m full (ofCorrections es c d l n e s q) = let made = corrections-read-made f es c d full l (count-told (countCorrections f) c n) (λ i h. correction-told (correctionAt f i) (getD es i d) (e i h)) s in (q ∙ made, in-time layout.Correction f _ made)
+again f m full (ofHealths es c d l n e q) = let made = healths-read-made f es c d full l (count-told (countHealths f) c n) (λ i h. health-told (healthAt f i) (getD es i d) (e i h)) in (q ∙ made, in-time layout.Health f _ made)
+again f m full (ofPosition p e q) = let made = position-read-made f p full (position-told (readPosition f) p e) in (q ∙ made, in-time layout.Position f _ made)
+again f m full (ofNull e q) = let made = null-read-made f full (null-told (readNull f) e) in (q ∙ made, in-time layout.Null f _ made)
+again f m full (ofText buffer c e q) = let made = text-read-made f buffer c full (count-told (readText f buffer) c e) in (q ∙ made, in-time layout.Text f _ made)
 
 pub made-anew : MadeAnew
 made-anew f m full r = unfold doneMade in ap saysMade (again f m full r .0)
 
 -- ITS OWN BITS, if the buffer has room for them
 pub its-own-bits : ItsOwnBits
-its-own-bits d s m r buffer room = record {
-  made = unfold doneMade in ap (λ x. x .answer) same;
-  answer = ap (λ f. writtenBy f (pairBefore d) buffer) is ∙ back .answer;
-  bits = ap (λ f. lineBits (take (5 * size d) (writtenTo f (pairBefore d) buffer))) is ∙ back .bits;
-}
+its-own-bits d s m r buffer room = record { frame = frameAt d; made = unfold doneMade in ap saysMade (anew .0); answer = back .answer; bits = back .bits }
   where
     anew : (m ≡ doneMade (frameAt d)) × (late (frameAt d .header .z) ≡ false)
     anew = again (frameAt d) m (frame-full d) r
-
-    same : m ≡ doneMade (frameAt d)
-    same = anew .0
-
-    is : m .frame ≡ frameAt d
-    is = unfold doneMade in ap (λ x. x .frame) same
 
     back : WritesBack d buffer
     back = writes-back d s (anew .1) buffer room
@@ -157,6 +183,7 @@ demand-2 = record {
   parity = gps-parity-rule;
   frames = frames-of-rtcm;
   records = records-of-rtcm;
+  read = what-is-read;
   sent = what-can-be-sent;
   reads-back = reads-back-equal;
   made-anew = made-anew;

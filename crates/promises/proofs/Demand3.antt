@@ -1,10 +1,10 @@
 -- DEMAND 3 holds: only frames that stand, as soon as they do, each once and none lost, never 5, and nothing where a damaged frame began.
 -- Assumes nothing.
 use mathlib.Core.Path.{_≡_, refl, sym, ap, ap₂, subst, _∙_}
-use mathlib.Core.Bool.{Bool, true, false, cond}
+use mathlib.Core.Bool.{Bool, true, false, cond, false≢true}
 use mathlib.Core.List.{List, [], _∷_, _++_, map, append-nil, List·Memᴰ, List·Memᴰ·not-nil, List·Memᴰ·cases-cons, Memᴰ·append-left}
 use mathlib.Core.Logic.{_⊎_, inl, inr}
-use Prim.Native.Nat.{ℕ, _+_}
+use Prim.Native.Nat.{ℕ, _+_, _≤_}
 use native.Mathlib.Omega.{arith}
 use lib.ListN.{length, take, drop, length-map}
 use lib.Seq.{take-at}
@@ -14,7 +14,7 @@ use Rattle.frame.specs.Widths.{outside}
 use Rattle.frame.specs.declared.Frame.{Frame}
 use Rattle.stream.specs.Standing.{Stands, Placed, placed, scan, framesIn, endOf}
 use Rattle.stream.specs.Verdict.{decided}
-use Rattle.stream.specs.Places.{StandsIn, Apart}
+use Rattle.stream.specs.Places.{StandsIn, FoundOrCovered, Apart}
 use Rattle.stream.proofs.Verdicts.{verdict-undecided}
 use Rattle.stream.proofs.Scanning.{only, complete, apart}
 use Rattle.stream.proofs.Data.{frame-within}
@@ -29,7 +29,7 @@ use Rattle.reader.specs.declared.Next.{Next}
 use Rattle.reader.specs.declared.FedAll.{FedAll}
 use Rattle.reader.specs.declared.Taken.{Taken}
 use Rattle.promises.specs.Calls.{Call, feeds, feedsAll, ends, takes, Reply, replied, used, took, answerOf, replyTo, after, bitsGiven, afterAll, replies, bitsTaken, handedOut, reported, takesAll, served}
-use Rattle.promises.specs.Demand3.{found, OnlyFrames, AsSoonAs, NothingLost, HandedOut, NeverFive, DamageBeginsNothing}
+use Rattle.promises.specs.Demand3.{found, OnlyFrames, AsSoonAs, NothingLost, HandedOut, OneByOne, NeverFive, DamageBeginsNothing}
 use Rattle.promises.proofs.Kept.{Kept, kept-started}
 use Rattle.promises.proofs.Runs.{given, fed-by, all-by, ended-by, taken-by, never-past, kept-call, kept}
 use Rattle.promises.proofs.Serving.{after-append, bits-append, takes-no-bit, takes-ended, none-waits, byte-held, Served, serves}
@@ -116,6 +116,31 @@ module _ (cs : List Call) where
 
 -- ---- every waiting frame taken at once
 
+module _ (cs : List Call) where
+  then-none : afterAll started (cs ++ takesAll) .candidate .waits ≡ false
+  then-none = ap (λ (t : Reader). t .candidate .waits) (after-append cs takesAll started) ∙ none-waits _ _ (afterAll started cs) (kept cs)
+
+  then-ended : afterAll started (cs ++ takesAll) .ended ≡ afterAll started cs .ended
+  then-ended = ap (λ (t : Reader). t .ended) (after-append cs takesAll started) ∙ takes-ended 16 (afterAll started cs)
+
+  then-bits : bitsTaken started (cs ++ takesAll) ≡ bitsTaken started cs
+  then-bits = bits-append cs takesAll started ∙ ap (λ l. bitsTaken started cs ++ l) (takes-no-bit 16 (afterAll started cs)) ∙ append-nil (bitsTaken started cs)
+
+  pub handed-out : HandedOut cs
+  handed-out = record { none = then-none; bits = then-bits; out = only-frames (cs ++ takesAll) .given; in-time = λ q s t. go q s (afterAll started cs .ended) refl t; once = only-frames (cs ++ takesAll) .once }
+    where
+      s₀ : List Bool
+      s₀ = bitsTaken started cs
+
+      all : (e : Bool) → afterAll started cs .ended ≡ e → found (cs ++ takesAll) ≡ cond e (framesIn s₀) (decided 0 2 s₀)
+      all e x = nothing-lost (cs ++ takesAll) then-none ∙ ap₂ (λ t l. cond t (framesIn l) (decided 0 2 l)) (then-ended ∙ x) then-bits
+
+      go : (q : ℕ) → Stands (drop q s₀) → (e : Bool) → afterAll started cs .ended ≡ e → (q + 992 ≤ length s₀) ⊎ (afterAll started cs .ended ≡ true)
+          → FoundOrCovered (placed (2 + q) (drop q s₀)) (found (cs ++ takesAll))
+      go q s true x t = subst (FoundOrCovered (placed (2 + q) (drop q s₀))) (sym (all true x)) (complete 0 2 q s₀ (omega arith) s)
+      go q s false x (inl t) = subst (FoundOrCovered (placed (2 + q) (drop q s₀))) (sym (all false x)) (stream.in-time 0 2 q s₀ (omega arith) s t)
+      go q s false x (inr t) = absurd (false≢true (sym x ∙ t))
+
 module _ (bs : List ℕ) where
   v : Served started bs
   v = serves bs [] [] started kept-started (unfold started in refl) (unfold started in refl)
@@ -151,19 +176,11 @@ module _ (bs : List ℕ) where
       none : bitsTaken (afterAll started (served bs)) (ends ∷ takesAll) ≡ []
       none = unfold bitsTaken bitsGiven in takes-no-bit 16 (after (afterAll started (served bs)) ends)
 
-  so-far : Apart 2 (decided 0 2 (lineBits bs))
-  so-far = let b = decided-begins 0 2 (lineBits bs) [] in front (decided 0 2 (lineBits bs)) 2 (b .more) (subst (Apart 2) (b .is) (apart 0 2 (lineBits bs ++ [])))
-
-  pub handed-out : HandedOut bs
-  handed-out = record {
+  pub one-by-one : OneByOne bs
+  one-by-one = record {
     bits = v .bits;
-    none = v .none;
     out = out-is (served bs) false (v .goes) (v .none) (lineBits bs) (v .bits);
-    in-time = λ q s t. stream.in-time 0 2 q (lineBits bs) (omega arith) s t;
-    once-so-far = so-far;
     ended = out-is all true last-ended last-none (lineBits bs) last-bits;
-    at-end = λ q s. complete 0 2 q (lineBits bs) (omega arith) s;
-    once = apart 0 2 (lineBits bs);
   }
 
 -- ---- "No call on such a reader is ever refused with 5"

@@ -3,7 +3,8 @@ use Rattle.promises.specs.Demand3.{Demand3}
 use Rattle.promises.specs.Demands.{Demands}
 use Rattle.promises.proofs.Demand1.{demand-1}
 use Rattle.promises.proofs.Demand2.{demand-2}
-use Rattle.promises.proofs.Demand3.{handed-out, damage-begins-nothing, only-frames, nothing-lost, as-soon-as, never-five}
+use Rattle.promises.proofs.Demand3.{handed-out, one-by-one, damage-begins-nothing, only-frames, nothing-lost, as-soon-as, never-five}
+use Rattle.promises.proofs.Slices.{in-slices}
 use Rattle.promises.proofs.Turned.{turned-is-same}
 use Rattle.promises.proofs.EveryReader.{feed-all-is-feed}
 use Rattle.promises.proofs.Whole.{text-is-whole}
@@ -13,6 +14,8 @@ use Rattle.promises.proofs.Worked.{worked}
 pub demand-3 : Demand3
 demand-3 = record {
   out = handed-out;
+  each = one-by-one;
+  slices = in-slices;
   turned = turned-is-same;
   damage = damage-begins-nothing;
   only = only-frames;

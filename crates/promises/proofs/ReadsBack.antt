@@ -17,7 +17,10 @@ use Rattle.frame.specs.declared.Layout.{Layout}
 use Rattle.frame.specs.declared.Layout.the-variants as layout
 use Rattle.frame.proofs.FrameLaws.{n-within, length-framed}
 use Rattle.pack.specs.Coding.{entryBits, frameWith}
-use Rattle.stage.specs.Stages.{wrongCount, makeOrder, refusedMade, doneMade, HeaderFor, IsMade}
+use Rattle.stage.specs.Stages.{wrongCount, makeOrder, refusedMade, doneMade, HeaderFor, IsMade, saysCount, saysMade}
+use Rattle.corrections.specs.declared.Correction.{Correction}
+use Rattle.healths.specs.declared.SatelliteHealth.{SatelliteHealth}
+use Rattle.positions.specs.declared.Position.{Position}
 use Rattle.corrections.specs.Corrections as corrections
 use Rattle.healths.specs.Healths as healths
 use Rattle.positions.specs.Positions as positions
@@ -35,7 +38,47 @@ use Rattle.writer.specs.OneFrame.{Wrote}
 use Rattle.writer.specs.declared.Written.the-variants.{Done}
 use Rattle.writer.proofs.Answers.{write-answers}
 use Rattle.writer.proofs.Wrote.{wrote}
-use Rattle.promises.specs.ReadsBack.{ReadsBack, WhatCanBeSent}
+use Rattle.promises.specs.ReadsBack.{CorrectionsBack, HealthsBack, PositionBack, NullBack, TextBack, ReadsBack, WhatCanBeSent}
+
+-- ---- what was made reads back, in the table's terms
+
+pub corrections-back : (h : Header) (es : List Correction) (c : ℕ) (d : Correction) (f : Frame) → corrections.CorrectionsMade h es c d f → CorrectionsBack h es c d f
+unfolding corrections.countCorrections corrections.correctionAt
+corrections-back h es c d f m = record {
+  header = m .header;
+  inside = m .inside;
+  counted = ap saysCount (m .counts);
+  each = λ i l. ap corrections.saysCorrectionRead (m .entries i l);
+  n = m .n;
+  fill = m .fill;
+}
+
+pub healths-back : (h : Header) (es : List SatelliteHealth) (c : ℕ) (d : SatelliteHealth) (f : Frame) → healths.HealthsMade h es c d f → HealthsBack h es c d f
+unfolding healths.countHealths healths.healthAt
+healths-back h es c d f m = record {
+  header = m .header;
+  inside = m .inside;
+  counted = ap saysCount (m .counts);
+  each = λ i l. ap healths.saysHealthRead (m .entries i l);
+  n = m .n;
+  fill = m .fill;
+}
+
+pub position-back : (h : Header) (p : Position) (f : Frame) → positions.PositionMade h p f → PositionBack h p f
+position-back h p f m = record { header = m .header; inside = m .inside; reads = ap positions.saysPositionRead (m .reads); n = m .n }
+
+pub null-back : (h : Header) (f : Frame) → nulls.NullMade h f → NullBack h f
+null-back h f m = record { header = m .header; inside = m .inside; reads = ap nulls.saysNullRead (m .reads); n = m .n }
+
+pub text-back : (h : Header) (t : List ℕ) (f : Frame) → texts.TextMade h t f → TextBack h t f
+text-back h t f m = record {
+  header = m .header;
+  inside = m .inside;
+  reads = λ buffer l. ap saysCount (m .reads buffer l);
+  writes = m .writes;
+  n = m .n;
+  fill = m .fills;
+}
 
 -- a frame that is made within its widths has 31 words
 made-full : (cs : List Check) (h : Header) (ws : List ℕ) (f : Frame) → inOrder cs refusedMade (doneMade (framed h ws)) ≡ doneMade f
@@ -50,16 +93,18 @@ made-full cs h ws f e within = ap (λ g. length (g .words)) (sym same) ∙ lengt
     few = subst (λ g. g .n ≤ 31) (sym same) (n-within f within)
 
 -- WHAT IS SENT under a header for its layout IS WRITTEN AND READS BACK: no check of the writer applies
-sent-reads-back : (asked : Layout) (h : Header) (cs : List Check) (ws : List ℕ) (Reads : Frame → Type 0)
+sent-reads-back : (asked : Layout) (h : Header) (cs : List Check) (ws : List ℕ) (Reads Back : Frame → Type 0) (to : (f : Frame) → Reads f → Back f)
     (s : IsMade (inOrder cs refusedMade (doneMade (framed h ws))) Reads)
-    → HeaderFor asked h → s .frame .header ≡ h → outside (s .frame) ≡ false → ReadsBack (inOrder cs refusedMade (doneMade (framed h ws))) Reads
-sent-reads-back asked h cs ws Reads s for header within c buffer p q room = record {
-  made = s;
+    → HeaderFor asked h → s .frame .header ≡ h → outside (s .frame) ≡ false → ReadsBack (inOrder cs refusedMade (doneMade (framed h ws))) Back
+sent-reads-back asked h cs ws Reads Back to s for header within c buffer p q room = record {
+  frame = f;
+  made = unfold doneMade in ap saysMade (s .done);
+  reads = to f (s .reads);
   count = lineLength f;
   on = carriedOn (bitsAfter c f);
   answer = ap saysWritten done;
   wrote = written;
-  back = λ rest. subst Reads (sym (written .is rest)) (s .reads);
+  back = λ rest. subst Back (sym (written .is rest)) (to f (s .reads));
 }
   where
     f : Frame
@@ -89,25 +134,25 @@ what-can-be-sent = record {
       sent-reads-back layout.Correction h
       (makeOrder layout.Correction h ((wrongCount 18 c, 12) ∷ (anyOf corrections.outOfRange (take c es), 10) ∷ []))
       (wordsIn corrections.fill (entryBits corrections.coding (take c es)))
-      (corrections.CorrectionsMade h es c d) sent (s .header) (sent .reads .header) (sent .reads .inside);
+      (corrections.CorrectionsMade h es c d) (CorrectionsBack h es c d) (corrections-back h es c d) sent (s .header) (sent .reads .header) (sent .reads .inside);
   healths = λ h es c d s.
       let sent = healths-sent h es c d s in
       sent-reads-back layout.Health h
       (makeOrder layout.Health h ((wrongCount 31 c, 12) ∷ (anyOf healths.outOfRange (take c es), 10) ∷ []))
       (wordsIn healths.fill (entryBits healths.coding (take c es)))
-      (healths.HealthsMade h es c d) sent (s .header) (sent .reads .header) (sent .reads .inside);
+      (healths.HealthsMade h es c d) (HealthsBack h es c d) (healths-back h es c d) sent (s .header) (sent .reads .header) (sent .reads .inside);
   position = λ h p typed s.
       let sent = position-sent h p typed s in
       sent-reads-back layout.Position h (makeOrder layout.Position h ((positions.outOfRange p, 10) ∷ []))
       (wordsIn positions.fill (entryBits positions.coding (p ∷ [])))
-      (positions.PositionMade h p) sent (s .header) (sent .reads .header) (sent .reads .inside);
+      (positions.PositionMade h p) (PositionBack h p) (position-back h p) sent (s .header) (sent .reads .header) (sent .reads .inside);
   null = λ h s.
       let sent = null-sent h s in
-      sent-reads-back layout.Null h (makeOrder layout.Null h []) [] (nulls.NullMade h) sent s (sent .reads .header) (sent .reads .inside);
+      sent-reads-back layout.Null h (makeOrder layout.Null h []) [] (nulls.NullMade h) (NullBack h) (null-back h) sent s (sent .reads .header) (sent .reads .inside);
   text = λ h t s.
       let sent = text-sent h t s in
       sent-reads-back layout.Text h
       (makeOrder layout.Text h ((wrongCount 90 (length t), 12) ∷ (anyOf texts.forbidden t, 11) ∷ []))
       (wordsIn texts.fill (entryBits texts.coding t))
-      (texts.TextMade h t) sent (s .header) (sent .reads .header) (sent .reads .inside);
+      (texts.TextMade h t) (TextBack h t) (text-back h t) sent (s .header) (sent .reads .header) (sent .reads .inside);
 }

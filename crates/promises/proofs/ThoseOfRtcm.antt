@@ -3,15 +3,17 @@ use mathlib.Core.Path.{_≡_, refl, sym, ap, ap₂, subst, _∙_}
 use mathlib.Core.Bool.{Bool, true, false, cond}
 use mathlib.Core.Logic.{_↔_, _⊎_, inl, inr}
 use mathlib.Core.List.{List, [], _∷_, _++_, map, head-eq-of-cons-eq, tail-eq-of-cons-eq, List·Memᴰ, List·Memᴰ·head, List·Memᴰ·tail, List·Memᴰ·not-nil, List·Memᴰ·cases-cons}
-use Prim.Native.Nat.{ℕ, _+_, _*_, _/_, _^_, _≤_, _<_}
+use Prim.Native.Nat.{ℕ, zero, suc, _+_, _-_, _*_, _/_, _^_, _≤_, _<_}
+use native.Mathlib.Nat.{not-suc-le-zero}
 use native.Mathlib.Omega.{arith}
 use lib.Dec.{ltb, eqb}
-use lib.IntN.{ℤ, pos, negℤ}
+use lib.IntN.{ℤ, pos, negsuc, negℤ, _-ℤ_}
 use lib.ListN.{length, take, drop, getD}
-use borrow.Author.Tests.{ltb-false, leb-false, not-false, le-ltb, eqb-true}
+use borrow.Author.Tests.{ltb-false, leb-false, not-false, lt-ltb, le-ltb, lt-leb, ne-eqb, eqb-true}
 use Rattle.answer.specs.Order.{Says, refuses, answers, Check, inOrder, NoneApplies}
 use Rattle.answer.proofs.OrderLaws.{order-answers, order-told, refuses-apart}
 use Rattle.bits.specs.Bits.{bits, number}
+use Rattle.bits.specs.Signed.{signed}
 use Rattle.bits.proofs.Numbers.{bits-number, number-lt, length-bits}
 use Rattle.bits.proofs.SignedLaws.{signed-code, code-signed}
 use Rattle.line.specs.Line.{isData, byteOf}
@@ -22,8 +24,8 @@ use Rattle.word.specs.Answer.{sentAt, wordOf, saysSent}
 use Rattle.word.proofs.Linearity.{passes-equal, passes-turned, data-turned}
 use Rattle.word.proofs.Sending.{data-number, length-sent, length-dataOf, data-sent, passes-sent, only-sent}
 use Rattle.word.proofs.Computes.{word-answers}
-use Rattle.frame.specs.Header.{preambled, nOf, headerOf, firstWord, secondWord}
-use Rattle.frame.specs.Widths.{stateOutside, headerOutside}
+use Rattle.frame.specs.Header.{factors, stateOf, preambled, nOf, headerOf, firstWord, secondWord}
+use Rattle.frame.specs.Widths.{stateOutside, headerOutside, late}
 use Rattle.frame.specs.Answer.{headerWords, saysWords}
 use Rattle.frame.specs.declared.State.{State}
 use Rattle.frame.specs.declared.Header.{Header}
@@ -42,18 +44,18 @@ use Rattle.healths.specs.Healths.{countHealths}
 use Rattle.texts.specs.Texts.{lengthIn, textOrder, readText}
 use Rattle.stage.specs.declared.Count.{Count}
 use Rattle.stage.specs.declared.Count.the-variants as count
-use Rattle.value.specs.Values.{Reading, upTo, noLimit, signedValue, hundredthsOf, limits, udreValue}
-use Rattle.value.specs.Answer.{prcMm, rrcMmS, udreLimit, saysDistance, saysRate, saysLimit}
+use Rattle.value.specs.Values.{Reading, upTo, noLimit, dbHz, notTracked, signedValue, hundredthsOf, limits, udreValue, cn0Value}
+use Rattle.value.specs.Answer.{prcMm, rrcMmS, cn0DbHz, saysDistance, saysRate, saysStrength}
 use Rattle.value.proofs.Readings.{lowest-stops, only-lowest-stops, exact-value}
 use Rattle.value.proofs.LimitLaws.{limit-whole}
-use Rattle.value.proofs.AnswerLaws.{prc-says, rrc-says, udre-says}
+use Rattle.value.proofs.AnswerLaws.{prc-says, rrc-says, udre-says, cn0-says, minutes-says, z-says}
 use Rattle.writer.specs.Answer.{saysWritten}
 use Rattle.writer.specs.declared.Carried.{Carried}
 use Rattle.writer.specs.declared.Written.{Written}
 use Rattle.writer.specs.declared.Written.the-variants.{Done, Refused}
 use Rattle.writer.proofs.Wrote.{wrote, writes-back, writes-back-turned}
 use Rattle.writer.proofs.Streams.{stream-written}
-use Rattle.promises.specs.ThoseOfRtcm.{GpsParityRule, FramesOfRtcm, SaysExactly, RecordsOfRtcm}
+use Rattle.promises.specs.ThoseOfRtcm.{GpsParityRule, FramesOfRtcm, SaysExactly, LimitIs, RecordsOfRtcm}
 use Rattle.promises.proofs.CarriesItsNumber.{says-inj, none-told, carries-its-number}
 
 -- ---- the parity rule
@@ -182,16 +184,41 @@ says-exactly h small large says is = record {
   exact = λ scale z v l e. exact-value h small large scale z v l (value-told ((ltb 1 scale, 10) ∷ []) _ _ (is scale z) e);
 }
 
-udre-exact : (s : State) (code mm : ℕ) → saysLimit (udreLimit s code) ≡ answers (upTo mm) → mm * 100 ≡ getD limits code 0 * hundredthsOf s
-unfolding udreValue
-udre-exact s code mm e =
-    go (eqb code 3) (value-told ((stateOutside s, 5) ∷ (ltb 3 code, 10) ∷ []) (udreValue s code) (upTo mm) (udre-says s code) e)
-  where
-    go : (t : Bool) → cond t noLimit (upTo (getD limits code 0 * hundredthsOf s / 100)) ≡ upTo mm → mm * 100 ≡ getD limits code 0 * hundredthsOf s
-    go true q = let z : _≡_ {A = ℕ} 0 1 = cc in absurd (omega arith)
-    go false q = let same : getD limits code 0 * hundredthsOf s / 100 ≡ mm = cc in ap (λ n. n * 100) (sym same) ∙ limit-whole code (hundredthsOf s)
+-- what an order says where nothing of it applies
+said-value : {A : Type 0} {s : Says A} (cs : List Check) (value : A) → s ≡ inOrder cs refuses (answers value) → NoneApplies cs → s ≡ answers value
+said-value cs value is none = is ∙ order-answers refuses (answers value) cs none
 
-count-told : (x : Count) (c : ℕ) → saysCount x ≡ answers c → x ≡ count.Of c
+udre-is : (code limit : ℕ) → eqb code 3 ≡ false → ltb 3 code ≡ false → getD limits code 0 ≡ limit → LimitIs code limit
+unfolding udreValue
+udre-is code limit not3 few is s inside = (
+  getD limits code 0 * hundredthsOf s / 100,
+  (
+    said-value ((stateOutside s, 5) ∷ (ltb 3 code, 10) ∷ []) (udreValue s code) (udre-says s code) (inside, (few, tt))
+        ∙ ap (λ t. answers (cond t noLimit (upTo (getD limits code 0 * hundredthsOf s / 100)))) not3,
+    limit-whole code (hundredthsOf s) ∙ ap (λ n. n * hundredthsOf s) is,
+  ),
+)
+
+cn0-is : (code : ℕ) → 1 ≤ code → code ≤ 31 → saysStrength (cn0DbHz code) ≡ answers (dbHz (24 + code))
+cn0-is code some few =
+    said-value ((ltb 31 code, 10) ∷ []) (cn0Value code) (cn0-says code) (le-ltb 31 code few, tt)
+    ∙ ap (λ t. answers (cond t notTracked (dbHz (24 + code)))) (ne-eqb code 0 (λ z. omega arith))
+
+-- ---- two's complement
+
+minus : (n m : ℕ) → n < m → pos n -ℤ pos m ≡ negsuc (m - suc n)
+minus n zero l = absurd (not-suc-le-zero l)
+minus n (suc m) l = ap (λ t. cond t (negsuc (suc m - suc n)) (pos (n - suc m))) (lt-ltb n (suc m) l)
+
+signed-above : (h n : ℕ) → 2 ^ h ≤ n → n < 2 ^ suc h → signed h n ≡ pos n -ℤ pos (2 ^ suc h)
+unfolding signed
+signed-above h n l m = ap (λ t. cond t (pos n) (negsuc (2 ^ suc h - suc n))) (le-ltb n (2 ^ h) l) ∙ sym (minus n (2 ^ suc h) m)
+
+signed-below : (h n : ℕ) → n < 2 ^ h → signed h n ≡ pos n
+unfolding signed
+signed-below h n l = ap (λ t. cond t (pos n) (negsuc (2 ^ suc h - suc n))) (lt-ltb n (2 ^ h) l)
+
+pub count-told : (x : Count) (c : ℕ) → saysCount x ≡ answers c → x ≡ count.Of c
 count-told (count.Of b) c e = ap count.Of (says-inj e)
 count-told (count.Refused n) c e = absurd (refuses-apart n c e)
 
@@ -230,8 +257,12 @@ text-fit f buffer c e =
 
 pub records-of-rtcm : RecordsOfRtcm
 records-of-rtcm = record {
+  below = signed-below;
+  above = signed-above;
   signed-back = signed-code;
   code-back = code-signed;
+  satellite-0 = refl;
+  satellite-n = λ n some few. ap (λ t. cond t 32 n) (ne-eqb n 0 (λ z. omega arith));
   satellite-back = satellite-back;
   satellite-code = code-back;
   corrections-n = corrections-fit;
@@ -241,5 +272,16 @@ records-of-rtcm = record {
   text-n = text-fit;
   prc = says-exactly 15 20 320 (λ scale z. saysDistance (prcMm scale z)) prc-says;
   rrc = says-exactly 7 2 32 (λ scale z. saysRate (rrcMmS scale z)) rrc-says;
-  udre = udre-exact;
+  states = unfold stateOf factors in refl;
+  hundredths = λ k. unfold hundredthsOf in refl;
+  udre-0 = udre-is 0 1000 refl refl (unfold limits in refl);
+  udre-1 = udre-is 1 4000 refl refl (unfold limits in refl);
+  udre-2 = udre-is 2 8000 refl refl (unfold limits in refl);
+  udre-3 = λ s inside.
+      said-value ((stateOutside s, 5) ∷ (ltb 3 3, 10) ∷ []) (udreValue s 3) (udre-says s 3) (inside, (refl, tt)) ∙ (unfold udreValue in refl);
+  cn0-0 = refl;
+  cn0 = cn0-is;
+  minutes = λ code l. said-value ((ltb 15 code, 10) ∷ []) (5 * code) (minutes-says code) (le-ltb 15 code l, tt);
+  tenths = λ z l.
+      said-value ((ltb 8191 z, 5) ∷ (late z, 7) ∷ []) (6 * z) (z-says z) (le-ltb 8191 z (omega arith), (lt-leb 6000 z l, tt));
 }

@@ -24,7 +24,7 @@ use Rattle.promises.specs.Worked.{elevenBytes, turnedBytes, tenBytes, el
 use Rattle.promises.proofs.Kept.{kept-started}
 use Rattle.promises.proofs.Runs.{fed-by, never-past}
 use Rattle.promises.proofs.Serving.{byte-bits}
-use Rattle.promises.proofs.Demand3.{handed-out}
+use Rattle.promises.proofs.Demand3.{one-by-one}
 use Rattle.promises.proofs.Progress.{text-comes}
 
 frames-eleven : map reported (framesIn (lineBits elevenBytes)) ≡ elevenFrame ∷ []
@@ -66,9 +66,9 @@ unfolding factors stateOf signedValue hundredthsOf limits udreValue outside head
 worked = record {
   word-1 = unfold bits number rows parity turnedBy sent in refl;
   word-2 = unfold bits number rows parity turnedBy sent in refl;
-  eleven = handed-out elevenBytes .ended ∙ frames-eleven;
-  turned = handed-out turnedBytes .ended ∙ frames-turned;
-  ten = handed-out tenBytes .ended ∙ frames-ten;
+  eleven = one-by-one elevenBytes .ended ∙ frames-eleven;
+  turned = one-by-one turnedBytes .ended ∙ frames-turned;
+  ten = one-by-one tenBytes .ended ∙ frames-ten;
   eleven-text = λ ps out f n e. text-comes elevenBytes ps out f n e ∙ text-eleven;
   turned-text = λ ps out f n e. text-comes turnedBytes ps out f n e ∙ text-turned;
   byte-3F = refl;

@@ -3,7 +3,7 @@
 use mathlib.Core.Bool.{Bool}
 use mathlib.Core.List.{List, [], _∷_, _++_}
 use Prim.Native.Nat.{ℕ, _%_, _^_}
-use lib.ListN.{take, replicate}
+use lib.ListN.{take, drop, replicate}
 use Rattle.answer.specs.Order.{Says, refuses, answers}
 use Rattle.line.specs.Line.{six, lineBits}
 use Rattle.frame.specs.declared.Frame.{Frame}
@@ -94,3 +94,16 @@ takesAll = replicate 16 takes
 unfoldable pub served : List ℕ → List Call
 served [] = []
 served (b ∷ bs) = (feeds b ∷ takesAll) ++ served bs
+
+-- ---- a caller who lends slices of these sizes, takes every waiting frame after each, and lends again what was not used
+
+unfoldable pub inSlices : Reader → List ℕ → List ℕ → List Call
+inSlices r [] bs = []
+inSlices r (n ∷ ns) bs =
+    let cs = feedsAll (take n bs) ∷ takesAll in
+    cs ++ inSlices (afterAll r cs) ns (drop (fedAllBy r (take n bs) .used) bs)
+
+-- the bytes that are left at last
+unfoldable pub unused : Reader → List ℕ → List ℕ → List ℕ
+unused r [] bs = bs
+unused r (n ∷ ns) bs = unused (afterAll r (feedsAll (take n bs) ∷ takesAll)) ns (drop (fedAllBy r (take n bs) .used) bs)

@@ -12,9 +12,10 @@ use Rattle.frame.specs.Widths.{outside}
 use Rattle.stream.specs.Standing.{Stands, frameAt, Placed, placed, scan, framesIn}
 use Rattle.stream.specs.Verdict.{RightSoFar, decided}
 use Rattle.stream.specs.Places.{StandsIn, FoundOrCovered, Apart, Damaged}
+use Rattle.pack.specs.Coding.{Each}
 use Rattle.reader.specs.Reading.{bitsOf, started, past, fedBy, fedAllBy, saysNext, saysFedAll}
 use Rattle.reader.specs.declared.Reader.{Reader}
-use Rattle.promises.specs.Calls.{Call, feeds, feedsAll, ends, takes, Reply, replied, answerOf, replyTo, after, afterAll, replies, bitsTaken, handedOut, reported, takesAll, served}
+use Rattle.promises.specs.Calls.{Call, feeds, feedsAll, ends, takes, Reply, replied, answerOf, replyTo, after, afterAll, replies, bitsTaken, handedOut, reported, takesAll, served, inSlices, unused}
 
 -- the frames that were handed out, with their positions in the whole stream: the first ones of the scan of the bits taken
 unfoldable pub found : List Call → List Placed
@@ -49,18 +50,27 @@ NothingLost cs = afterAll started cs .candidate .waits ≡ false
     → found cs ≡ cond (afterAll started cs .ended) (framesIn (bitsTaken started cs)) (decided 0 2 (bitsTaken started cs))
 
 -- "It is handed out once and exactly, at latest when 990 bits from its first have been taken or the input has ended, unless a frame already handed
--- out covers its first bit. This holds when every waiting frame is taken at once, after the end too." Position 2 + q is the bit after drop q's first
--- two, so 990 bits from it are q + 992 in all.
-pub record HandedOut (bs : List ℕ) : Type 0 where
+-- out covers its first bit. This holds when every waiting frame is taken at once, after the end too": whatever the calls were, bytes one by one or in
+-- slices of any size, once every waiting frame is taken. Position 2 + q is the bit after drop q's first two, so 990 bits from it are q + 992 in all.
+pub record HandedOut (cs : List Call) : Type 0 where
+  pub none : afterAll started (cs ++ takesAll) .candidate .waits ≡ false
+  pub bits : bitsTaken started (cs ++ takesAll) ≡ bitsTaken started cs
+  pub out : handedOut started (cs ++ takesAll) ≡ map reported (found (cs ++ takesAll))
+  pub in-time : (q : ℕ) → Stands (drop q (bitsTaken started cs)) → (q + 992 ≤ length (bitsTaken started cs)) ⊎ (afterAll started cs .ended ≡ true)
+      → FoundOrCovered (placed (2 + q) (drop q (bitsTaken started cs))) (found (cs ++ takesAll))
+  pub once : Apart 2 (found (cs ++ takesAll))
+
+-- and of bytes fed one by one, each followed by taking every waiting frame, no bit is refused: the frames are those of their bits
+pub record OneByOne (bs : List ℕ) : Type 0 where
   pub bits : bitsTaken started (served bs) ≡ lineBits bs
-  pub none : afterAll started (served bs) .candidate .waits ≡ false
   pub out : handedOut started (served bs) ≡ map reported (decided 0 2 (lineBits bs))
-  pub in-time : (q : ℕ) → Stands (drop q (lineBits bs)) → q + 992 ≤ length (lineBits bs)
-      → FoundOrCovered (placed (2 + q) (drop q (lineBits bs))) (decided 0 2 (lineBits bs))
-  pub once-so-far : Apart 2 (decided 0 2 (lineBits bs))
   pub ended : handedOut started (served bs ++ (ends ∷ takesAll)) ≡ map reported (framesIn (lineBits bs))
-  pub at-end : (q : ℕ) → Stands (drop q (lineBits bs)) → FoundOrCovered (placed (2 + q) (drop q (lineBits bs))) (framesIn (lineBits bs))
-  pub once : Apart 2 (framesIn (lineBits bs))
+
+-- nor of bytes lent in slices: the bits taken are those of the bytes used, and after as many slices as there are bytes, none empty, no byte is left
+pub record InSlices (ns bs : List ℕ) : Type 0 where
+  pub bits : bitsTaken started (inSlices started ns bs) ++ lineBits (unused started ns bs) ≡ lineBits bs
+  pub none : afterAll started (inSlices started ns bs) .candidate .waits ≡ false
+  pub all : Each (λ n. 1 ≤ n) ns → length bs ≤ length ns → unused started ns bs ≡ []
 
 -- what is left of the bits d once positions are ruled out: those from two bits before the first that is not; where one was, no frame stands, whatever
 -- comes
@@ -136,7 +146,9 @@ pub record Demand3 : Type 0 where
   -- "Let a correct frame stand undamaged in the bits taken, with the two bits before it, at any bit offset and in either polarity. It is handed out
   -- once and exactly, at latest when 990 bits from its first have been taken or the input has ended, unless a frame already handed out covers its
   -- first bit. This holds when every waiting frame is taken at once, after the end too."
-  pub out : (bs : List ℕ) → HandedOut bs
+  pub out : (cs : List Call) → HandedOut cs
+  pub each : (bs : List ℕ) → OneByOne bs
+  pub slices : (ns bs : List ℕ) → InSlices ns bs
   -- "Turning over all bits from the start changes no frame handed out."
   pub turned : TurnedIsSame
   -- "Now let bits of a sent frame be turned over, none lost or added. If the first damaged word, counted with the two bits before it, has one, two or

@@ -1,8 +1,10 @@
 pub mod Calls
-pub mod DefinedAnswer
+pub mod Answered
+pub mod PartCalls
+pub mod StreamCalls
+pub mod RecordCalls
 pub mod CarriesItsNumber
 pub mod ChangesNeither
-pub mod EveryCallEnds
 pub mod ThoseOfRtcm
 pub mod ReadsBack
 pub mod Demand2

@@ -1,41 +1,84 @@
--- From the record to the line and back: every record that can be sent is made, the frame is written, and what stands on the line reads back equal.
--- A maker, a writer or a reader that refuses what can be sent does not have it. Assumes nothing.
+-- From the record to the line and back, in the table's terms: every record that can be sent is made, the frame is written, and what stands on the
+-- line reads back equal. A maker, a writer or a reader that refuses what can be sent does not have it. Assumes nothing.
 use mathlib.Core.Path.{_≡_}
-use mathlib.Core.Bool.{Bool}
-use mathlib.Core.List.{List}
-use Prim.Native.Nat.{ℕ, _≤_}
-use lib.ListN.{length, take}
-use Rattle.answer.specs.Order.{answers}
+use mathlib.Core.Bool.{Bool, false}
+use mathlib.Core.List.{List, _++_}
+use Prim.Native.Nat.{ℕ, _+_, _*_, _/_, _≤_, _<_}
+use lib.ListN.{length, take, drop, getD}
+use Rattle.answer.specs.Order.{Says, answers}
+use Rattle.bits.specs.Rows.{FillAfter}
+use Rattle.frame.specs.Widths.{outside}
 use Rattle.frame.specs.declared.Header.{Header}
 use Rattle.frame.specs.declared.Frame.{Frame}
 use Rattle.stream.specs.Standing.{frameAt}
-use Rattle.pack.specs.Coding.{Each}
+use Rattle.pack.specs.Coding.{frameBits, Each}
 use Rattle.stage.specs.declared.Made.{Made}
 use Rattle.corrections.specs.declared.Correction.{Correction}
 use Rattle.healths.specs.declared.SatelliteHealth.{SatelliteHealth}
 use Rattle.positions.specs.declared.Position.{Position}
-use Rattle.stage.specs.Stages.{IsMade}
-use Rattle.corrections.specs.Corrections.{makeCorrections, Typed, CorrectionsMade, SendableCorrections}
-use Rattle.healths.specs.Healths.{makeHealths, HealthsMade, SendableHealths}
-use Rattle.positions.specs.Positions.{makePosition, PositionMade, SendablePosition}
+use Rattle.stage.specs.Stages.{saysCount, saysMade}
+use Rattle.corrections.specs.Corrections.{countCorrections, correctionAt, makeCorrections, saysCorrectionRead, Typed, SendableCorrections}
+use Rattle.healths.specs.Healths.{countHealths, healthAt, makeHealths, saysHealthRead, SendableHealths}
+use Rattle.positions.specs.Positions.{readPosition, makePosition, saysPositionRead, SendablePosition}
 use Rattle.positions.specs.Positions as positions
-use Rattle.nulls.specs.Nulls.{makeNull, NullMade, SendableNull}
-use Rattle.texts.specs.Texts.{makeText, TextMade, SendableText}
+use Rattle.nulls.specs.Nulls.{readNull, makeNull, saysNullRead, SendableNull}
+use Rattle.texts.specs.Texts.{readText, bufferAfter, makeText, SendableText}
 use Rattle.writer.specs.Answer.{writtenBy, writtenTo, saysWritten}
 use Rattle.writer.specs.OneFrame.{lineAfter, Wrote}
 use Rattle.writer.specs.declared.Carried.{Carried}
 
+-- ---- WHAT READS BACK of a frame: its header and its record; it is within its widths, N is worked out, the fill is standard
+
+-- a list of entries of so many bits: the count and every entry
+pub record ListBack {A : Type 0} (count : Frame → Says ℕ) (entry : Frame → ℕ → Says A) (width pattern : ℕ)
+    (h : Header) (es : List A) (c : ℕ) (d : A) (f : Frame) : Type 0 where
+  pub header : f .header ≡ h
+  pub inside : outside f ≡ false
+  pub counted : count f ≡ answers c
+  pub each : (i : ℕ) → i < c → entry f i ≡ answers (getD es i d)
+  pub n : f .n ≡ (c * width + 23) / 24
+  pub fill : FillAfter pattern (c * width) (frameBits f)
+
+abbrev pub CorrectionsBack : Header → List Correction → ℕ → Correction → Frame → Type 0
+CorrectionsBack = ListBack (λ f. saysCount (countCorrections f)) (λ f i. saysCorrectionRead (correctionAt f i)) 40 0xAAAAAA
+
+abbrev pub HealthsBack : Header → List SatelliteHealth → ℕ → SatelliteHealth → Frame → Type 0
+HealthsBack = ListBack (λ f. saysCount (countHealths f)) (λ f i. saysHealthRead (healthAt f i)) 24 0
+
+pub record PositionBack (h : Header) (p : Position) (f : Frame) : Type 0 where
+  pub header : f .header ≡ h
+  pub inside : outside f ≡ false
+  pub reads : saysPositionRead (readPosition f) ≡ answers p
+  pub n : f .n ≡ 4
+
+pub record NullBack (h : Header) (f : Frame) : Type 0 where
+  pub header : f .header ≡ h
+  pub inside : outside f ≡ false
+  pub reads : saysNullRead (readNull f) ≡ answers tt
+  pub n : f .n ≡ 0
+
+-- the characters, into every buffer with room for them
+pub record TextBack (h : Header) (t : List ℕ) (f : Frame) : Type 0 where
+  pub header : f .header ≡ h
+  pub inside : outside f ≡ false
+  pub reads : (buffer : List ℕ) → length t ≤ length buffer → saysCount (readText f buffer) ≡ answers (length t)
+  pub writes : (buffer : List ℕ) → length t ≤ length buffer → bufferAfter f buffer ≡ t ++ drop (length t) buffer
+  pub n : f .n ≡ (length t * 8 + 23) / 24
+  pub fill : FillAfter 0 (length t * 8) (frameBits f)
+
 -- MADE, WRITTEN AND READ: m is the answer to making, c the carried pair; `Reads` says of a frame that it reads back as the record
 pub record WrittenAndRead (m : Made) (Reads : Frame → Type 0) (c : Carried) (buffer : List ℕ) : Type 0 where
   -- a frame is made, not refused
-  pub made : IsMade m Reads
+  pub frame : Frame
+  pub made : saysMade m ≡ answers frame
+  pub reads : Reads frame
   -- it is written, not refused: so many bytes, and the pair carried on
   pub count : ℕ
   pub on : Carried
-  pub answer : saysWritten (writtenBy (made .frame) c buffer) ≡ answers (count, on)
-  pub wrote : Wrote (made .frame) c buffer count on
+  pub answer : saysWritten (writtenBy frame c buffer) ≡ answers (count, on)
+  pub wrote : Wrote frame c buffer count on
   -- whatever follows on the line, the frame that stands there reads back
-  pub back : (rest : List Bool) → Reads (frameAt (lineAfter c (take count (writtenTo (made .frame) c buffer)) rest))
+  pub back : (rest : List Bool) → Reads (frameAt (lineAfter c (take count (writtenTo frame c buffer)) rest))
 
 -- after every pair of bits that are 0 or 1, into every buffer with room for the longest frame, 5(31 + 2) bytes
 abbrev pub ReadsBack : Made → (Frame → Type 0) → Type 0
@@ -45,13 +88,13 @@ ReadsBack m Reads = (c : Carried) (buffer : List ℕ) → c .d29 ≤ 1 → c .d3
 pub record WhatCanBeSent : Type 0 where
   -- types 1 and 9
   pub corrections : (h : Header) (es : List Correction) (c : ℕ) (d : Correction) → Each Typed (take c es) → SendableCorrections h es c d
-      → ReadsBack (makeCorrections h es c) (CorrectionsMade h es c d)
+      → ReadsBack (makeCorrections h es c) (CorrectionsBack h es c d)
   -- type 5
   pub healths : (h : Header) (es : List SatelliteHealth) (c : ℕ) (d : SatelliteHealth) → SendableHealths h es c d
-      → ReadsBack (makeHealths h es c) (HealthsMade h es c d)
+      → ReadsBack (makeHealths h es c) (HealthsBack h es c d)
   -- type 3
-  pub position : (h : Header) (p : Position) → positions.Typed p → SendablePosition h p → ReadsBack (makePosition h p) (PositionMade h p)
+  pub position : (h : Header) (p : Position) → positions.Typed p → SendablePosition h p → ReadsBack (makePosition h p) (PositionBack h p)
   -- type 6
-  pub null : (h : Header) → SendableNull h → ReadsBack (makeNull h) (NullMade h)
+  pub null : (h : Header) → SendableNull h → ReadsBack (makeNull h) (NullBack h)
   -- type 16
-  pub text : (h : Header) (t : List ℕ) → SendableText h t → ReadsBack (makeText h t) (TextMade h t)
+  pub text : (h : Header) (t : List ℕ) → SendableText h t → ReadsBack (makeText h t) (TextBack h t)

@@ -3,12 +3,12 @@
 use mathlib.Core.Path.{_≡_}
 use mathlib.Core.Logic.{_↔_}
 use mathlib.Core.Bool.{Bool, true, false, not}
-use mathlib.Core.List.{List, _++_, map, List·Memᴰ}
+use mathlib.Core.List.{List, [], _∷_, _++_, map, List·Memᴰ}
 use Prim.Native.Nat.{ℕ, suc, _+_, _-_, _*_, _^_, _≤_, _<_}
-use lib.IntN.{ℤ, pos, negℤ, natAbs, _*ℤ_}
+use lib.IntN.{ℤ, pos, negℤ, natAbs, _-ℤ_, _*ℤ_}
 use lib.Signed.{mag}
 use lib.Dec.{eqb}
-use lib.ListN.{length, take, drop, getD}
+use lib.ListN.{length, take, drop}
 use Rattle.answer.specs.Order.{Says, answers}
 use Rattle.bits.specs.Bits.{bits, number}
 use Rattle.bits.specs.Signed.{signed, code}
@@ -16,10 +16,11 @@ use Rattle.line.specs.Line.{byteOf}
 use Rattle.line.specs.Answer.{sixOf, saysSix}
 use Rattle.word.specs.Word.{Row, rows, parityBit, d29*, d30*, D, dataOf, remainderOf, passes}
 use Rattle.word.specs.Answer.{wordOf, saysSent}
-use Rattle.frame.specs.Header.{preambled, nOf, headerOf}
-use Rattle.frame.specs.Widths.{late}
+use Rattle.frame.specs.Header.{stateOf, preambled, nOf, headerOf}
+use Rattle.frame.specs.Widths.{stateOutside, late}
 use Rattle.frame.specs.Answer.{headerWords, saysWords}
 use Rattle.frame.specs.declared.State.{State}
+use Rattle.frame.specs.declared.State.the-variants.{Factor, Unmonitored, Down}
 use Rattle.frame.specs.declared.Header.{Header}
 use Rattle.frame.specs.declared.Frame.{Frame}
 use Rattle.stream.specs.Standing.{size, Stands, frameAt}
@@ -31,8 +32,8 @@ use Rattle.nulls.specs.Nulls.{readNull, saysNullRead}
 use Rattle.texts.specs.Texts.{readText}
 use Rattle.positions.specs.declared.Position.{Position}
 use Rattle.pack.specs.Satellites.{satelliteOf, satelliteCode}
-use Rattle.value.specs.Values.{Reading, exactly, stop, upTo, stepOf, hundredthsOf, limits}
-use Rattle.value.specs.Answer.{prcMm, rrcMmS, udreLimit, saysDistance, saysRate, saysLimit}
+use Rattle.value.specs.Values.{Reading, exactly, stop, upTo, noLimit, dbHz, notTracked, stepOf, hundredthsOf}
+use Rattle.value.specs.Answer.{prcMm, rrcMmS, udreLimit, cn0DbHz, minutesOf, zTenths, saysDistance, saysRate, saysLimit, saysStrength, saysTime, saysSinceHour}
 use Rattle.writer.specs.Answer.{writtenBy, saysWritten}
 use Rattle.writer.specs.OneFrame.{Wrote, itsBits, WritesBack}
 use Rattle.writer.specs.Streams.{AllWritable, streamBytes, StreamWritten}
@@ -81,12 +82,20 @@ pub record SaysExactly (h small large : ℕ) (says : ℕ → ℤ → Says Readin
   pub exact : (scale : ℕ) (z v : ℤ) → mag z < 2 ^ h → says scale z ≡ answers (exactly v)
       → (v ≡ z *ℤ pos (stepOf small large scale)) × (natAbs v ≤ (2 ^ h - 1) * stepOf small large scale)
 
+-- the limit of a UDRE code is so many mm times the factor of the state
+abbrev pub LimitIs : ℕ → ℕ → Type 0
+LimitIs code limit = (s : State) → stateOutside s ≡ false → (mm : ℕ) × ((saysLimit (udreLimit s code) ≡ answers (upTo mm)) × (mm * 100 ≡ limit * hundredthsOf s))
+
 -- ".. and records": what their numbers mean, and how many satellites N words hold
 pub record RecordsOfRtcm : Type 0 where
-  -- two's complement, over the width
+  -- two's complement of h + 1 bits: a code below 2^h is its number, any other means its number less 2^(h+1); number and code are inverse
+  pub below : (h n : ℕ) → n < 2 ^ h → signed h n ≡ pos n
+  pub above : (h n : ℕ) → 2 ^ h ≤ n → n < 2 ^ suc h → signed h n ≡ pos n -ℤ pos (2 ^ suc h)
   pub signed-back : (h : ℕ) (z : ℤ) → mag z < 2 ^ h → signed h (code h z) ≡ z
   pub code-back : (h n : ℕ) → n < 2 ^ suc h → code h (signed h n) ≡ n
   -- "satellite 5 (0 means 32)"
+  pub satellite-0 : satelliteOf 0 ≡ 32
+  pub satellite-n : (n : ℕ) → 1 ≤ n → n ≤ 31 → satelliteOf n ≡ n
   pub satellite-back : (s : ℕ) → 0 < s → s ≤ 32 → satelliteOf (satelliteCode s) ≡ s
   pub satellite-code : (n : ℕ) → n < 32 → satelliteCode (satelliteOf n) ≡ n
   -- "N = 5k, 5k+2, 5k+4 for 3k, 3k+1, 3k+2 satellites": every count is one of these, so N is
@@ -101,5 +110,18 @@ pub record RecordsOfRtcm : Type 0 where
   -- "steps 20 mm or 320 mm", "steps 2 or 32 mm/s"
   pub prc : SaysExactly 15 20 320 (λ scale z. saysDistance (prcMm scale z))
   pub rrc : SaysExactly 7 2 32 (λ scale z. saysRate (rrcMmS scale z))
-  -- a UDRE's limit "times the factor", held in hundredths, is a whole number of mm
-  pub udre : (s : State) (code mm : ℕ) → saysLimit (udreLimit s code) ≡ answers (upTo mm) → mm * 100 ≡ getD limits code 0 * hundredthsOf s
+  -- the state that a health code means, factors in hundredths; not monitored and not working use factor 1
+  pub states : map stateOf (0 ∷ 1 ∷ 2 ∷ 3 ∷ 4 ∷ 5 ∷ 6 ∷ 7 ∷ [])
+      ≡ Factor 100 ∷ Factor 75 ∷ Factor 50 ∷ Factor 30 ∷ Factor 20 ∷ Factor 10 ∷ Unmonitored ∷ Down ∷ []
+  pub hundredths : (k : ℕ) → map hundredthsOf (Factor k ∷ Unmonitored ∷ Down ∷ []) ≡ k ∷ 100 ∷ 100 ∷ []
+  -- UDRE: 1 m, 4 m, 8 m "times the factor", each a whole number of mm; code 3 has no limit
+  pub udre-0 : LimitIs 0 1000
+  pub udre-1 : LimitIs 1 4000
+  pub udre-2 : LimitIs 2 8000
+  pub udre-3 : (s : State) → stateOutside s ≡ false → saysLimit (udreLimit s 3) ≡ answers noLimit
+  -- C/N0: code 0 is not tracked, 1 to 31 are 25 to 55 dBHz
+  pub cn0-0 : saysStrength (cn0DbHz 0) ≡ answers notTracked
+  pub cn0 : (code : ℕ) → 1 ≤ code → code ≤ 31 → saysStrength (cn0DbHz code) ≡ answers (dbHz (24 + code))
+  -- the time of a health entry, 5 minutes each; a Z count, 0.6 s each
+  pub minutes : (code : ℕ) → code ≤ 15 → saysTime (minutesOf code) ≡ answers (5 * code)
+  pub tenths : (z : ℕ) → z < 6000 → saysSinceHour (zTenths z) ≡ answers (6 * z)

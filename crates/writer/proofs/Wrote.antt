@@ -7,7 +7,7 @@ use native.Mathlib.Omega.{arith}
 use lib.ListN.{length, take, drop}
 use lib.Dec.{ltb}
 use borrow.Author.Tests.{le-ltb}
-use Rattle.answer.specs.Order.{NoneApplies}
+use Rattle.answer.specs.Order.{answers, NoneApplies}
 use Rattle.bits.specs.Bits.{val, isNonzero}
 use Rattle.bits.proofs.Xor.{one-val, val-lt}
 use Rattle.line.specs.Line.{lineBits}
@@ -22,7 +22,7 @@ use Rattle.stream.proofs.Stand.{stands-long}
 use Rattle.stream.proofs.Turning.{stands-turned, n-turned, frame-turned}
 use Rattle.stream.proofs.Data.{frame-within, frame-full}
 use Rattle.writer.specs.Sending.{sentBits, bitsAfter, carriedOn, bytesFor, lineLength}
-use Rattle.writer.specs.Answer.{writeChecks, writtenBy, writtenTo}
+use Rattle.writer.specs.Answer.{writeChecks, writtenBy, writtenTo, saysWritten}
 use Rattle.writer.specs.OneFrame.{lineAfter, Wrote, pairBefore, itsBits, WritesBack}
 use Rattle.writer.specs.declared.Carried.{Carried}
 use Rattle.writer.specs.declared.Written.the-variants.{Done}
@@ -85,7 +85,7 @@ wrote f full c l k c′ e = record {
 
 pub writes-back : (d : List Bool) → Stands d → late (frameAt d .header .z) ≡ false → (l : List ℕ) → 5 * size d ≤ length l → WritesBack d l
 writes-back d s z l room = record {
-  answer = sym (write-answers (frameAt d) (pairBefore d) l none .0) ∙ ap₂ (λ n bs. Done n (carriedOn bs)) many own;
+  answer = ap saysWritten (sym (write-answers (frameAt d) (pairBefore d) l none .0)) ∙ ap₂ (λ n bs. answers (n, carriedOn bs)) many own;
   bits =
       ap (λ n. lineBits (take n (writtenTo (frameAt d) (pairBefore d) l))) (sym many)
       ∙ wrote-bits (frameAt d) (frame-full d) (pairBefore d) l none

@@ -5,14 +5,14 @@ use mathlib.Core.List.{List, _∷_, _++_}
 use Prim.Native.Nat.{ℕ, _*_}
 use lib.ListN.{take, drop}
 use Rattle.bits.specs.Bits.{val, isNonzero}
+use Rattle.answer.specs.Order.{answers}
 use Rattle.line.specs.Line.{lineBits}
 use Rattle.word.specs.Word.{d29*, d30*}
 use Rattle.frame.specs.declared.Frame.{Frame}
 use Rattle.stream.specs.Standing.{size, Stands, frameAt}
 use Rattle.writer.specs.Sending.{carriedOn, lineLength}
-use Rattle.writer.specs.Answer.{writtenBy, writtenTo}
+use Rattle.writer.specs.Answer.{writtenBy, writtenTo, saysWritten}
 use Rattle.writer.specs.declared.Carried.{Carried}
-use Rattle.writer.specs.declared.Written.the-variants.{Done}
 
 -- the stream from two carried bits on: the bits of bytes, and whatever follows
 abbrev pub lineAfter : Carried → List ℕ → List Bool → List Bool
@@ -41,5 +41,5 @@ itsBits d = take (30 * size d) (drop 2 d)
 
 -- WRITTEN BACK: after its own two bits it gives its own bits, and carries their last two on
 pub record WritesBack (d : List Bool) (buffer : List ℕ) : Type 0 where
-  pub answer : writtenBy (frameAt d) (pairBefore d) buffer ≡ Done (5 * size d) (carriedOn (itsBits d))
+  pub answer : saysWritten (writtenBy (frameAt d) (pairBefore d) buffer) ≡ answers (5 * size d, carriedOn (itsBits d))
   pub bits : lineBits (take (5 * size d) (writtenTo (frameAt d) (pairBefore d) buffer)) ≡ itsBits d
