@@ -1,9 +1,8 @@
 -- Types 1 and 9: the layout as data, what its codes mean, and the answers in their orders. Assumes nothing.
-use mathlib.Core.Bool.{Bool, _||_}
+use mathlib.Core.Bool.{Bool}
 use mathlib.Core.List.{List, [], _∷_}
 use Prim.Native.Nat.{ℕ, _*_, _^_, _≤_, _<_}
 use lib.Signed.{mag}
-use lib.Dec.{ltb}
 use lib.ListN.{getD}
 use Rattle.answer.specs.Order.{Says, refuses, answers}
 use Rattle.bits.specs.Rows.{FillAfter}
@@ -12,6 +11,7 @@ use Rattle.frame.specs.declared.Header.{Header}
 use Rattle.frame.specs.declared.Frame.{Frame}
 use Rattle.frame.specs.declared.Layout.the-variants as layout
 use Rattle.pack.specs.Coding.{Coding, frameBits}
+use Rattle.pack.specs.Tables.{row, rowOut}
 use Rattle.pack.specs.Satellites.{satelliteOf, satelliteCode}
 use Rattle.stage.specs.declared.Count.{Count}
 use Rattle.stage.specs.declared.Made.{Made}
@@ -50,11 +50,18 @@ abbrev pub StandardFill : Frame → ℕ → Type 0
 StandardFill f c = FillAfter fill (c * 40) (frameBits f)
 
 -- REFUSAL 10: scale over 1, UDRE over 3, satellite not 1 to 32; any PRC, RRC and IOD may be sent
-unfoldable pub numbersOut : ℕ → ℕ → ℕ → Bool
-numbersOut scale udre satellite = ltb 1 scale || ltb 3 udre || ltb satellite 1 || ltb 32 satellite
+abbrev pub least : List ℕ
+least = 0 ∷ 0 ∷ 1 ∷ []
+
+abbrev pub most : List ℕ
+most = 1 ∷ 3 ∷ 32 ∷ []
+
+-- an entry's numbers, in the order of the fields
+abbrev pub numbers : Correction → List ℕ
+numbers e = row (e .scale ∷ e .udre ∷ e .satellite ∷ code 15 (e .prc) ∷ code 7 (e .rrc) ∷ e .iod ∷ [])
 
 abbrev pub outOfRange : Correction → Bool
-outOfRange e = numbersOut (e .scale) (e .udre) (e .satellite)
+outOfRange e = rowOut least most (numbers e)
 
 -- ---- the answers
 

@@ -1,14 +1,14 @@
 -- Type 5: the layout as data, what its codes mean, and the answers in their orders. Assumes nothing.
-use mathlib.Core.Bool.{Bool, _||_}
+use mathlib.Core.Bool.{Bool}
 use mathlib.Core.List.{List, [], _∷_}
 use Prim.Native.Nat.{ℕ, _^_, _≤_, _<_}
-use lib.Dec.{ltb}
 use lib.ListN.{getD}
 use Rattle.answer.specs.Order.{Says, refuses, answers}
 use Rattle.frame.specs.declared.Header.{Header}
 use Rattle.frame.specs.declared.Frame.{Frame}
 use Rattle.frame.specs.declared.Layout.the-variants as layout
 use Rattle.pack.specs.Coding.{Coding}
+use Rattle.pack.specs.Tables.{row, rowOut}
 use Rattle.pack.specs.Satellites.{satelliteOf, satelliteCode}
 use Rattle.stage.specs.declared.Count.{Count}
 use Rattle.stage.specs.declared.Made.{Made}
@@ -47,16 +47,19 @@ abbrev pub fill : ℕ
 fill = 0
 
 -- REFUSAL 10: a field over its width, satellite not 1 to 32
-unfoldable pub flagsOut : ℕ → ℕ → ℕ → ℕ → ℕ → Bool
-flagsOut reserved link enable new loss = ltb 1 reserved || ltb 1 link || ltb 1 enable || ltb 1 new || ltb 1 loss
+abbrev pub least : List ℕ
+least = 0 ∷ 1 ∷ 0 ∷ 0 ∷ 0 ∷ 0 ∷ 0 ∷ 0 ∷ 0 ∷ 0 ∷ []
 
-unfoldable pub codesOut : ℕ → ℕ → ℕ → ℕ → ℕ → Bool
-codesOut satellite health cn0 time spare = ltb satellite 1 || ltb 32 satellite || ltb 7 health || ltb 31 cn0 || ltb 15 time || ltb 3 spare
+abbrev pub most : List ℕ
+most = 1 ∷ 32 ∷ 1 ∷ 7 ∷ 31 ∷ 1 ∷ 1 ∷ 1 ∷ 15 ∷ 3 ∷ []
 
-unfoldable pub outOfRange : SatelliteHealth → Bool
-outOfRange e =
-    flagsOut (e .reserved) (e .link) (e .enable) (e .new_data) (e .loss)
-    || codesOut (e .satellite) (e .health) (e .cn0) (e .time) (e .spare)
+-- an entry's numbers, in the order of the fields
+abbrev pub numbers : SatelliteHealth → List ℕ
+numbers e =
+    row (e .reserved ∷ e .satellite ∷ e .link ∷ e .health ∷ e .cn0 ∷ e .enable ∷ e .new_data ∷ e .loss ∷ e .time ∷ e .spare ∷ [])
+
+abbrev pub outOfRange : SatelliteHealth → Bool
+outOfRange e = rowOut least most (numbers e)
 
 -- ---- the answers
 

@@ -1,8 +1,8 @@
 -- Facts on signed numbers in locals that the proofs of the two's complement functions cite, over the width. Assumes nothing.
 use mathlib.Core.Path.{_≡_, refl, sym, ap, subst, _∙_}
 use mathlib.Core.Bool.{true, false, true≢false}
-use Prim.Native.Nat.{ℕ, zero, suc, _+_, _-_, _^_, _≤_, _<_}
-use native.Mathlib.Nat.{pow-suc}
+use Prim.Native.Nat.{ℕ, zero, suc, _+_, _-_, _%_, _^_, _≤_, _<_}
+use native.Mathlib.Nat.{pow-suc, mod-eq-of-lt}
 use native.Mathlib.Omega.{arith}
 use native.Mathlib.Numerals.{add-one}
 use lib.Dec.{T}
@@ -117,3 +117,14 @@ up w z f h = record { sfits = omega (arith, f .sfits, h) }
 -- what a code means fits the width
 pub meant-fits : (w : Width) (z : ℤ) (n : ℕ) → z ≡ signed (hbits w) n → n < 2 ^ suc (hbits w) → SFits w z
 meant-fits w z n e h = record { sfits = rw e (mag-signed (hbits w) n h) }
+
+-- a field that fits its width, read as a signed number and held in a local; a signed number in a struct, and its code
+pub signed-read : (w : Width) (z : ℤ) (n : ℕ) → z ≡ signed (hbits w) (n % 2 ^ suc (hbits w)) → n < 2 ^ suc (hbits w)
+    → toZ w (ofZ w z) ≡ signed (hbits w) n
+signed-read w z n e l = toZ-ofZ w z (meant-fits w z n is l) ∙ is
+  where
+    is : z ≡ signed (hbits w) n
+    is = e ∙ ap (signed (hbits w)) (mod-eq-of-lt l)
+
+pub code-sent : (w : Width) (z : ℤ) (n : ℕ) → n ≡ code (hbits w) (toZ w (ofZ w z)) → mag z < 2 ^ hbits w → n ≡ code (hbits w) z
+code-sent w z n e l = e ∙ ap (code (hbits w)) (toZ-ofZ w z (record { sfits = l }))

@@ -1,3 +1,4 @@
 pub mod Packing
 pub mod Coding
 pub mod Satellites
+pub mod Tables

@@ -1,11 +1,13 @@
 // Fields in data words: a reader at any bit, a packer that puts one field after the other, two's complement, and satellite numbers.
 ghost use mathlib.Core.Path.{_≡_};
+ghost use mathlib.Core.Bool.{_||_};
 ghost use Prim.Native.Nat.{_+_, _≤_, _<_, _%_, _^_};
 ghost use lib.ListN.{length, getD};
 ghost use lib.Signed.{mag};
 ghost use Rattle.bits.specs.Signed.{signed as signedOf, code as codeOf};
 ghost use Rattle.pack.specs.Satellites.{satelliteOf};
-ghost use Rattle.pack.specs.Packing.{fieldIn, emptyPacker, flushed, pushed, filledUp};
+ghost use Rattle.pack.specs.Packing.{fieldIn, emptyPacker, flushed, pushed, pushedAll, filledUp};
+ghost use Rattle.pack.specs.Tables.{row, fieldsIn, rowOut, noRows, putRow};
 
 // Whole words, how many, and the bits of the next word: `held` of them, as a number.
 pub struct Packer {
@@ -13,6 +15,12 @@ pub struct Packer {
     pub at: usize,
     pub held: u32,
     pub rest: u64,
+}
+
+// Rows put one after the other, and whether a number of them was outside its range.
+pub struct Rows {
+    pub packer: Packer,
+    pub out: bool,
 }
 
 fn wide(x: u32) -> u64
@@ -41,8 +49,9 @@ fn word(words: &[u32; 31], j: usize) -> u64
 }
 
 // The number in `width` bits from bit `offset` of the data; 0 where the words have no such field of at most 32 bits.
-pub fn field(words: [u32; 31], offset: usize, width: u32) -> u32
-    ensures { λ r. ⌜ (r ≡ fieldIn words offset width) × (r < 2 ^ width) ⌝ }
+fn field_of(words: &[u32; 31], offset: usize, width: u32) -> u32
+    requires { ⌜ length (now words) ≡ 31 ⌝ }
+    ensures { λ r. ⌜ (r ≡ fieldIn (now (words .entry)) offset width) × (r < 2 ^ width) ⌝ }
 {
     if width > 32 {
         return 0;
@@ -54,10 +63,45 @@ pub fn field(words: [u32; 31], offset: usize, width: u32) -> u32
         return 0;
     }
     let j = offset / 24;
-    let data = word(&words, j) * 1099511627776
-        + (word(&words, j + 1) * 65536 + word(&words, j + 2) / 256);
+    let data = word(words, j) * 1099511627776
+        + (word(words, j + 1) * 65536 + word(words, j + 2) / 256);
     let end = (offset % 24) as u32 + width;
     ((data / pow(64 - end)) % pow(width)) as u32
+}
+
+pub fn field(words: [u32; 31], offset: usize, width: u32) -> u32
+    ensures { λ r. ⌜ (r ≡ fieldIn words offset width) × (r < 2 ^ width) ⌝ }
+{
+    field_of(&words, offset, width)
+}
+
+// A table's element, or 0 past the last.
+fn item(table: &[u32], i: usize) -> u32
+    ensures { λ r. ⌜ r ≡ getD (now (table .entry)) i 0 ⌝ }
+{
+    if i >= table.len() {
+        return 0;
+    }
+    table[i]
+}
+
+// The fields of these widths, one after the other from bit `at` of the data; then zeros, up to twelve.
+pub fn fields(words: [u32; 31], at: u32, widths: &[u32]) -> [u32; 12]
+    ensures { λ r. ⌜ r ≡ row (fieldsIn words (now (widths .entry)) at) ⌝ }
+{
+    let mut out = [0u32; 12];
+    let mut o = at as usize;
+    let mut i = 0;
+    while i < 12 {
+        if i >= widths.len() {
+            return out;
+        }
+        let w = widths[i];
+        out[i] = field_of(&words, o, w);
+        o += w as usize;
+        i += 1;
+    }
+    out
 }
 
 // Nothing put yet.
@@ -110,6 +154,66 @@ pub fn push(packer: Packer, width: u32, value: u32) -> Packer
         rest: (packer.rest % 16777216) * pow(width) + wide(value) % pow(width),
     };
     flush(flush(full))
+}
+
+// Values put one after the other in these widths; past the twelfth, zeros.
+pub fn push_all(packer: Packer, values: [u32; 12], widths: &[u32]) -> Packer
+    ensures { λ r. ⌜ r ≡ pushedAll (now (widths .entry)) values packer ⌝ }
+{
+    let mut p = packer;
+    let mut i = 0;
+    while i < widths.len() {
+        p = push(p, widths[i], item(&values, i));
+        i += 1;
+    }
+    p
+}
+
+// A value is under its least or over its most.
+pub fn row_out(values: [u32; 12], least: &[u32], most: &[u32]) -> bool
+    ensures { λ r. ⌜ r ≡ rowOut (now (least .entry)) (now (most .entry)) values ⌝ }
+{
+    let mut i = 0;
+    while i < most.len() {
+        let v = item(&values, i);
+        if v < item(least, i) {
+            return true;
+        }
+        if v > most[i] {
+            return true;
+        }
+        i += 1;
+    }
+    false
+}
+
+// No rows yet.
+pub fn no_rows() -> Rows
+    ensures { λ r. ⌜ r ≡ noRows ⌝ }
+{
+    Rows {
+        packer: empty(),
+        out: false,
+    }
+}
+
+fn either(a: bool, b: bool) -> bool
+    ensures { λ r. ⌜ r ≡ a || b ⌝ }
+{
+    if a {
+        return true;
+    }
+    b
+}
+
+// One row more: its values put in these widths, and held to their least and their most.
+pub fn put_row(rows: Rows, values: [u32; 12], widths: &[u32], least: &[u32], most: &[u32]) -> Rows
+    ensures { λ r. ⌜ r ≡ putRow (now (widths .entry)) (now (least .entry)) (now (most .entry)) values rows ⌝ }
+{
+    let packer = rows.packer;
+    let put = push_all(packer, values, widths);
+    let out = either(rows.out, row_out(values, least, most));
+    Rows { packer: put, out }
 }
 
 // The first bits of `pattern`, a word's data, put up to the end of the word.

@@ -1,29 +1,26 @@
 -- Types 1 and 9: what the layout owes; what can be sent is made, made then read, read then made; what a frame holds is read.
 -- Assumes nothing.
 use mathlib.Core.Path.{_≡_, ap, ap₂, _∙_}
-use mathlib.Core.Bool.{false, _||_}
+use mathlib.Core.Bool.{false}
 use mathlib.Core.List.{List, [], _∷_}
 use Prim.Native.Nat.{ℕ, _+_, _*_, _/_, _≤_, _<_}
 use native.Mathlib.Omega.{arith}
-use lib.Dec.{ltb}
 use lib.ListN.{length, take, getD}
-use borrow.Author.Tests.{ltb-false, le-ltb}
 use Rattle.bits.specs.Fields.{Fit}
 use Rattle.bits.specs.Signed.{signed, code}
 use Rattle.bits.proofs.SignedLaws.{code-signed, signed-code, code-lt}
 use Rattle.frame.specs.declared.Header.{Header}
 use Rattle.frame.specs.declared.Frame.{Frame}
 use Rattle.frame.specs.declared.Layout.the-variants as layout
-use Rattle.frame.proofs.WidthLaws.{both-false}
 use Rattle.pack.specs.Coding.{frameWith, Each}
 use Rattle.pack.proofs.Round.{Faithful}
-use Rattle.pack.specs.Satellites.{satelliteOf}
+use Rattle.pack.proofs.TableLaws.{row-fine, row-told}
 use Rattle.pack.proofs.SatelliteLaws.{satellite-back, code-back, satellite-some, satellite-few}
 use Rattle.stage.specs.declared.Count.the-variants as count
 use Rattle.stage.specs.Stages.{countIn, doneMade, IsMade}
 use Rattle.corrections.specs.declared.Correction.{Correction}
 use Rattle.corrections.specs.declared.CorrectionRead.the-variants as read
-use Rattle.corrections.specs.Corrections.{widths, meant, codes, coding, fill, StandardFill, numbersOut, outOfRange, countCorrections, correctionAt, makeCorrections, Typed, CorrectionsMade, InRange, SendableCorrections, HoldsCorrections, ReadsCorrections}
+use Rattle.corrections.specs.Corrections.{widths, meant, codes, coding, fill, StandardFill, least, most, numbers, outOfRange, countCorrections, correctionAt, makeCorrections, Typed, CorrectionsMade, InRange, SendableCorrections, HoldsCorrections, ReadsCorrections}
 use Rattle.record_laws.proofs.ListTrips.{list-held, made-then-read, read-then-made}
 use Rattle.record_laws.proofs.SentLaws.{list-made, list-told, list-read}
 
@@ -37,27 +34,12 @@ pub record Good (e : Correction) : Type 0 where
 
 -- what refusal 10 says of an entry, both ways
 range-fine : (e : Correction) → InRange e → outOfRange e ≡ false
-unfolding numbersOut
-range-fine e r =
-    rw (
-      le-ltb 1 (e .scale) (r .scale),
-      le-ltb 3 (e .udre) (r .udre),
-      le-ltb (e .satellite) 1 (r .least),
-      le-ltb 32 (e .satellite) (r .most),
-    )
+range-fine e r = row-fine least most (numbers e) (omega arith, r .scale, (omega arith, r .udre, (r .least, r .most, tt)))
 
 range-told : (e : Correction) → outOfRange e ≡ false → InRange e
-unfolding numbersOut
 range-told e o =
-    let a = both-false (ltb 1 (e .scale) || ltb 3 (e .udre) || ltb (e .satellite) 1) (ltb 32 (e .satellite)) o in
-    let b = both-false (ltb 1 (e .scale) || ltb 3 (e .udre)) (ltb (e .satellite) 1) (a .0) in
-    let c = both-false (ltb 1 (e .scale)) (ltb 3 (e .udre)) (b .0) in
-    record {
-      scale = ltb-false 1 (e .scale) (c .0);
-      udre = ltb-false 3 (e .udre) (c .1);
-      least = ltb-false (e .satellite) 1 (b .1);
-      most = ltb-false 32 (e .satellite) (a .1);
-    }
+    let r = row-told least most (numbers e) o in
+    record { scale = r .1; udre = r .2 .1; least = r .2 .2 .0; most = r .2 .2 .1 }
 
 good : (e : Correction) → Typed e → outOfRange e ≡ false → Good e
 good e t o =
@@ -100,17 +82,12 @@ faithful = record { meant-codes = meant-codes; fit-codes = fit-codes; codes-mean
 
 -- what is read is in range
 in-range : (vs : List ℕ) → Fit widths vs → outOfRange (meant vs) ≡ false
-unfolding numbersOut
 in-range [] f = absurd f
 in-range (a ∷ []) f = absurd (f .1)
 in-range (a ∷ b ∷ []) f = absurd (f .1 .1)
 in-range (a ∷ b ∷ s ∷ vs) f =
-    rw (
-      le-ltb 1 a (omega (arith, f .0)),
-      le-ltb 3 b (omega (arith, f .1 .0)),
-      le-ltb (satelliteOf s) 1 (satellite-some s (f .1 .1 .0)),
-      le-ltb 32 (satelliteOf s) (satellite-few s (f .1 .1 .0)),
-    )
+    row-fine least most (numbers (meant (a ∷ b ∷ s ∷ vs)))
+    (omega arith, omega (arith, f .0), (omega arith, omega (arith, f .1 .0), (satellite-some s (f .1 .1 .0), satellite-few s (f .1 .1 .0), tt)))
 
 sized : (c : ℕ) → 0 < c → c ≤ 18 → (c * 40 ≤ 744) × (countIn 40 ((c * 40 + 23) / 24) ≡ c)
 sized c l h = (omega arith, omega arith)

@@ -14,13 +14,14 @@ use Rattle.frame.specs.declared.Layout.the-variants as layout
 use Rattle.frame.proofs.WidthLaws.{both-false}
 use Rattle.pack.specs.Coding.{frameWith}
 use Rattle.pack.proofs.Round.{Faithful}
+use Rattle.pack.proofs.TableLaws.{row-fine, row-told}
 use Rattle.pack.specs.Satellites.{satelliteOf}
 use Rattle.pack.proofs.SatelliteLaws.{satellite-back, code-back, satellite-some, satellite-few}
 use Rattle.stage.specs.declared.Count.the-variants as count
 use Rattle.stage.specs.Stages.{countIn, doneMade, IsMade}
 use Rattle.healths.specs.declared.SatelliteHealth.{SatelliteHealth}
 use Rattle.healths.specs.declared.HealthRead.the-variants as read
-use Rattle.healths.specs.Healths.{widths, meant, codes, coding, fill, flagsOut, codesOut, outOfRange, countHealths, healthAt, makeHealths, HealthsMade, InRange, SendableHealths, HoldsHealths, ReadsHealths}
+use Rattle.healths.specs.Healths.{widths, meant, codes, coding, fill, least, most, numbers, outOfRange, countHealths, healthAt, makeHealths, HealthsMade, InRange, SendableHealths, HoldsHealths, ReadsHealths}
 use Rattle.record_laws.proofs.ListTrips.{list-held, made-then-read, read-then-made, each-any, no-fill}
 use Rattle.record_laws.proofs.SentLaws.{list-made, list-told, list-read}
 
@@ -30,49 +31,24 @@ Good = InRange
 
 -- what refusal 10 says of an entry, both ways
 range-fine : (e : SatelliteHealth) → InRange e → outOfRange e ≡ false
-unfolding outOfRange flagsOut codesOut
-range-fine e r =
-    rw (
-      le-ltb 1 (e .reserved) (omega (arith, r .reserved)),
-      le-ltb 1 (e .link) (omega (arith, r .link)),
-      le-ltb 1 (e .enable) (omega (arith, r .enable)),
-      le-ltb 1 (e .new_data) (omega (arith, r .new)),
-      le-ltb 1 (e .loss) (omega (arith, r .loss)),
-      le-ltb (e .satellite) 1 (r .some),
-      le-ltb 32 (e .satellite) (r .few),
-      le-ltb 7 (e .health) (omega (arith, r .health)),
-      le-ltb 31 (e .cn0) (omega (arith, r .cn0)),
-      le-ltb 15 (e .time) (omega (arith, r .time)),
-      le-ltb 3 (e .spare) (omega (arith, r .spare)),
-    )
+range-fine e r = row-fine least most (numbers e)
+    (omega arith, omega (arith, r .reserved), (r .some, r .few, (omega arith, omega (arith, r .link), (omega arith, omega (arith, r .health), (omega arith, omega (arith, r .cn0), (omega arith, omega (arith, r .enable), (omega arith, omega (arith, r .new), (omega arith, omega (arith, r .loss), (omega arith, omega (arith, r .time), (omega arith, omega (arith, r .spare), tt))))))))))
 
 range-told : (e : SatelliteHealth) → outOfRange e ≡ false → InRange e
-unfolding outOfRange flagsOut codesOut
 range-told e o =
-    let s = both-false (flagsOut (e .reserved) (e .link) (e .enable) (e .new_data) (e .loss))
-    (codesOut (e .satellite) (e .health) (e .cn0) (e .time) (e .spare)) o in
-    let a = both-false (ltb 1 (e .reserved) || ltb 1 (e .link) || ltb 1 (e .enable) || ltb 1 (e .new_data)) (ltb 1 (e .loss)) (s .0) in
-    let b = both-false (ltb 1 (e .reserved) || ltb 1 (e .link) || ltb 1 (e .enable)) (ltb 1 (e .new_data)) (a .0) in
-    let c = both-false (ltb 1 (e .reserved) || ltb 1 (e .link)) (ltb 1 (e .enable)) (b .0) in
-    let d = both-false (ltb 1 (e .reserved)) (ltb 1 (e .link)) (c .0) in
-    let f = both-false (ltb (e .satellite) 1 || ltb 32 (e .satellite) || ltb 7 (e .health) || ltb 31 (e .cn0) || ltb 15 (e .time)) (ltb 3 (e .spare))
-    (s .1) in
-    let g = both-false (ltb (e .satellite) 1 || ltb 32 (e .satellite) || ltb 7 (e .health) || ltb 31 (e .cn0)) (ltb 15 (e .time)) (f .0) in
-    let h = both-false (ltb (e .satellite) 1 || ltb 32 (e .satellite) || ltb 7 (e .health)) (ltb 31 (e .cn0)) (g .0) in
-    let i = both-false (ltb (e .satellite) 1 || ltb 32 (e .satellite)) (ltb 7 (e .health)) (h .0) in
-    let j = both-false (ltb (e .satellite) 1) (ltb 32 (e .satellite)) (i .0) in
+    let r = row-told least most (numbers e) o in
     record {
-      reserved = omega (arith, ltb-false 1 (e .reserved) (d .0));
-      link = omega (arith, ltb-false 1 (e .link) (d .1));
-      health = omega (arith, ltb-false 7 (e .health) (i .1));
-      cn0 = omega (arith, ltb-false 31 (e .cn0) (h .1));
-      enable = omega (arith, ltb-false 1 (e .enable) (c .1));
-      new = omega (arith, ltb-false 1 (e .new_data) (b .1));
-      loss = omega (arith, ltb-false 1 (e .loss) (a .1));
-      time = omega (arith, ltb-false 15 (e .time) (g .1));
-      spare = omega (arith, ltb-false 3 (e .spare) (f .1));
-      some = omega (arith, ltb-false (e .satellite) 1 (j .0));
-      few = omega (arith, ltb-false 32 (e .satellite) (j .1));
+      reserved = omega (arith, r .1);
+      link = omega (arith, r .2 .2 .1);
+      health = omega (arith, r .2 .2 .2 .1);
+      cn0 = omega (arith, r .2 .2 .2 .2 .1);
+      enable = omega (arith, r .2 .2 .2 .2 .2 .1);
+      new = omega (arith, r .2 .2 .2 .2 .2 .2 .1);
+      loss = omega (arith, r .2 .2 .2 .2 .2 .2 .2 .1);
+      time = omega (arith, r .2 .2 .2 .2 .2 .2 .2 .2 .1);
+      spare = omega (arith, r .2 .2 .2 .2 .2 .2 .2 .2 .2 .1);
+      some = r .2 .0;
+      few = r .2 .1;
     }
 
 good : (e : SatelliteHealth) → Unit {0} → outOfRange e ≡ false → Good e
@@ -118,7 +94,6 @@ faithful = record { meant-codes = meant-codes; fit-codes = fit-codes; codes-mean
 
 -- what is read is in range
 in-range : (vs : List ℕ) → Fit widths vs → outOfRange (meant vs) ≡ false
-unfolding outOfRange flagsOut codesOut
 in-range [] q = absurd q
 in-range (a ∷ []) q = absurd (q .1)
 in-range (a ∷ b ∷ []) q = absurd (q .1 .1)
@@ -130,19 +105,8 @@ in-range (a ∷ b ∷ c ∷ d ∷ e ∷ f ∷ g ∷ []) q = absurd (q .1 .1 .1 .
 in-range (a ∷ b ∷ c ∷ d ∷ e ∷ f ∷ g ∷ h ∷ []) q = absurd (q .1 .1 .1 .1 .1 .1 .1 .1)
 in-range (a ∷ b ∷ c ∷ d ∷ e ∷ f ∷ g ∷ h ∷ i ∷ []) q = absurd (q .1 .1 .1 .1 .1 .1 .1 .1 .1)
 in-range (a ∷ b ∷ c ∷ d ∷ e ∷ f ∷ g ∷ h ∷ i ∷ j ∷ ks) q =
-    rw (
-      le-ltb 1 a (omega (arith, q .0)),
-      le-ltb 1 c (omega (arith, q .1 .1 .0)),
-      le-ltb 1 f (omega (arith, q .1 .1 .1 .1 .1 .0)),
-      le-ltb 1 g (omega (arith, q .1 .1 .1 .1 .1 .1 .0)),
-      le-ltb 1 h (omega (arith, q .1 .1 .1 .1 .1 .1 .1 .0)),
-      le-ltb (satelliteOf b) 1 (satellite-some b (q .1 .0)),
-      le-ltb 32 (satelliteOf b) (satellite-few b (q .1 .0)),
-      le-ltb 7 d (omega (arith, q .1 .1 .1 .0)),
-      le-ltb 31 e (omega (arith, q .1 .1 .1 .1 .0)),
-      le-ltb 15 i (omega (arith, q .1 .1 .1 .1 .1 .1 .1 .1 .0)),
-      le-ltb 3 j (omega (arith, q .1 .1 .1 .1 .1 .1 .1 .1 .1 .0)),
-    )
+    row-fine least most (numbers (meant (a ∷ b ∷ c ∷ d ∷ e ∷ f ∷ g ∷ h ∷ i ∷ j ∷ ks)))
+    (omega arith, omega (arith, q .0), (satellite-some b (q .1 .0), satellite-few b (q .1 .0), (omega arith, omega (arith, q .1 .1 .0), (omega arith, omega (arith, q .1 .1 .1 .0), (omega arith, omega (arith, q .1 .1 .1 .1 .0), (omega arith, omega (arith, q .1 .1 .1 .1 .1 .0), (omega arith, omega (arith, q .1 .1 .1 .1 .1 .1 .0), (omega arith, omega (arith, q .1 .1 .1 .1 .1 .1 .1 .0), (omega arith, omega (arith, q .1 .1 .1 .1 .1 .1 .1 .1 .0), (omega arith, omega (arith, q .1 .1 .1 .1 .1 .1 .1 .1 .1 .0), tt))))))))))
 
 sized : (c : ℕ) → 0 < c → c ≤ 31 → (c * 24 ≤ 744) × (countIn 24 ((c * 24 + 23) / 24) ≡ c)
 sized c l h = (omega arith, omega arith)

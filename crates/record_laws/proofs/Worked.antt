@@ -19,9 +19,9 @@ use Rattle.frame.specs.declared.State.the-variants.{Factor}
 use Rattle.pack.specs.Coding.{frameBits, entryBits, frameWith}
 use Rattle.stage.specs.Stages.{layoutNumber, otherLayout, misfit, refusedMade, doneMade, saysCount, saysMade}
 use Rattle.corrections.specs.declared.Correction.{Correction}
-use Rattle.corrections.specs.Corrections.{numbersOut, countCorrections, correctionAt, makeCorrections, saysCorrectionRead}
+use Rattle.corrections.specs.Corrections.{countCorrections, correctionAt, makeCorrections, saysCorrectionRead}
 use Rattle.healths.specs.declared.SatelliteHealth.{SatelliteHealth}
-use Rattle.healths.specs.Healths.{flagsOut, codesOut, outOfRange as healthOut, countHealths, healthAt, makeHealths, saysHealthRead}
+use Rattle.healths.specs.Healths.{countHealths, healthAt, makeHealths, saysHealthRead}
 use Rattle.positions.specs.declared.Position.{Position}
 use Rattle.positions.specs.Positions.{tooLow, outOfRange as positionOut, readPosition, makePosition, saysPositionRead}
 use Rattle.nulls.specs.Nulls.{readNull, makeNull, saysNullRead}
@@ -40,11 +40,11 @@ abbrev pub correctionFrame : ℕ → Frame
 correctionFrame kind = framed (header kind) (0x0303E8 ∷ 0xFB4DAA ∷ [])
 
 pub correction-1-made : saysMade (makeCorrections (header 1) (correction ∷ []) 1) ≡ answers (correctionFrame 1)
-unfolding factors stateOutside numbersOutside headerOutside layoutOf layoutNumber otherLayout doneMade refusedMade framed frameWith wordsIn filled cutWords fillOf entryBits bits number code numbersOut makeCorrections
+unfolding factors stateOutside numbersOutside headerOutside layoutOf layoutNumber otherLayout doneMade refusedMade framed frameWith wordsIn filled cutWords fillOf entryBits bits number code makeCorrections
 correction-1-made = refl
 
 pub correction-9-made : saysMade (makeCorrections (header 9) (correction ∷ []) 1) ≡ answers (correctionFrame 9)
-unfolding factors stateOutside numbersOutside headerOutside layoutOf layoutNumber otherLayout doneMade refusedMade framed frameWith wordsIn filled cutWords fillOf entryBits bits number code numbersOut makeCorrections
+unfolding factors stateOutside numbersOutside headerOutside layoutOf layoutNumber otherLayout doneMade refusedMade framed frameWith wordsIn filled cutWords fillOf entryBits bits number code makeCorrections
 correction-9-made = refl
 
 pub correction-1-count : saysCount (countCorrections (correctionFrame 1)) ≡ answers 1
@@ -83,7 +83,7 @@ abbrev pub healthFrame : Frame
 healthFrame = framed (header 5) (0x83FF7F ∷ 0x05004E ∷ [])
 
 pub health-5-made : saysMade (makeHealths (header 5) (highest ∷ plainer ∷ []) 2) ≡ answers healthFrame
-unfolding factors stateOutside numbersOutside headerOutside layoutOf layoutNumber otherLayout doneMade refusedMade framed frameWith wordsIn filled cutWords fillOf entryBits bits number flagsOut codesOut healthOut makeHealths
+unfolding factors stateOutside numbersOutside headerOutside layoutOf layoutNumber otherLayout doneMade refusedMade framed frameWith wordsIn filled cutWords fillOf entryBits bits number makeHealths
 health-5-made = refl
 
 pub health-5-count : saysCount (countHealths healthFrame) ≡ answers 2

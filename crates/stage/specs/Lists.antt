@@ -30,6 +30,13 @@ module _ {A : Type 0} (asked : Layout) (k : Coding A) where
       inOrder (readOrder asked f (misfit (span (k .widths)) (f .n)) ((leb (countIn (span (k .widths)) (f .n)) i, 9) ∷ [])) refuse
       (entry (entryIn k i (frameBits f)))
 
+  -- ENTRY WITH A RANGE: 5, 6, 7, 8, 9, 10
+  abbrev pub listRanged : {B : Type 0} → (A → Bool) → (ℕ → B) → (A → B) → Frame → ℕ → B
+  listRanged out refuse entry f i =
+      inOrder (readOrder asked f (misfit (span (k .widths)) (f .n))
+      ((leb (countIn (span (k .widths)) (f .n)) i, 9) ∷ (out (entryIn k i (frameBits f)), 10) ∷ [])) refuse
+      (entry (entryIn k i (frameBits f)))
+
   -- MAKING: 5, 6, 7, 12, 10; the entries past the count are not looked at
   abbrev pub listMade : (pattern most : ℕ) → (A → Bool) → Header → List A → ℕ → Made
   listMade pattern most out h es c =

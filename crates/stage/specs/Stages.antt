@@ -4,7 +4,7 @@ use mathlib.Core.Path.{_≡_}
 use mathlib.Core.Bool.{Bool, false, not, _||_, cond}
 use mathlib.Core.List.{List, [], _∷_}
 use Prim.Native.Nat.{ℕ, _+_, _*_, _/_, _<_}
-use lib.Dec.{ltb, eqb}
+use lib.Dec.{ltb, leb, eqb}
 use Rattle.answer.specs.Order.{Says, refuses, answers, Check, inOrder}
 use Rattle.frame.specs.Frames.{blank}
 use Rattle.frame.specs.Layout.{layoutOf}
@@ -13,12 +13,21 @@ use Rattle.frame.specs.declared.Header.{Header}
 use Rattle.frame.specs.declared.Frame.{Frame}
 use Rattle.frame.specs.declared.Layout.{Layout}
 use Rattle.frame.specs.declared.Layout.the-variants as layout
+use Rattle.pack.specs.declared.Packer.{Packer}
+use Rattle.pack.specs.declared.Rows.{Rows}
+use Rattle.pack.specs.Packing.{filledUp}
 use Rattle.stage.specs.declared.Asked.{Asked}
 use Rattle.stage.specs.declared.Asked.the-variants.{Same, Other}
 use Rattle.stage.specs.declared.Counted.{Counted}
 use Rattle.stage.specs.declared.Counted.the-variants.{Entries, Misfit}
 use Rattle.stage.specs.declared.Size.{Size}
 use Rattle.stage.specs.declared.Size.the-variants.{Right, Wrong}
+use Rattle.stage.specs.declared.Indexed.{Indexed}
+use Rattle.stage.specs.declared.Indexed.the-variants.{Below, Past}
+use Rattle.stage.specs.declared.Ranged.{Ranged}
+use Rattle.stage.specs.declared.Ranged.the-variants.{Inside, Outside}
+use Rattle.stage.specs.declared.Placed.{Placed}
+use Rattle.stage.specs.declared.Placed.the-variants as placed
 use Rattle.stage.specs.declared.Count.{Count}
 use Rattle.stage.specs.declared.Count.the-variants as count
 use Rattle.stage.specs.declared.Suited.{Suited}
@@ -63,6 +72,14 @@ wrongSize wanted n = not (eqb n wanted)
 abbrev pub sizeOf : ℕ → ℕ → Size
 sizeOf wanted n = cond (wrongSize wanted n) Wrong Right
 
+-- ---- refusal 9: no entry of this number; refusal 10: a number outside its range
+
+abbrev pub indexOf : ℕ → ℕ → Indexed
+indexOf count i = cond (leb count i) Past Below
+
+abbrev pub rangedOf : Bool → Ranged
+rangedOf out = cond out Outside Inside
+
 -- ---- the orders
 
 -- READING: 5, 6, 7, 8, then the layout's own
@@ -72,6 +89,10 @@ readOrder asked f wrongN more = (outside f, 5) ∷ (otherLayout asked (f .header
 -- how many entries of w bits a frame of a layout has: 5, 6, 7, 8
 abbrev pub countBy : Layout → ℕ → Frame → Count
 countBy asked w f = inOrder (readOrder asked f (misfit w (f .n)) []) count.Refused (count.Of (countIn w (f .n)))
+
+-- where entry number i of w bits starts in a frame of a layout: 5, 6, 7, 8, 9
+abbrev pub placedBy : Layout → ℕ → Frame → ℕ → Placed
+placedBy asked w f i = inOrder (readOrder asked f (misfit w (f .n)) ((leb (countIn w (f .n)) i, 9) ∷ [])) placed.Refused (placed.At (i * w))
 
 -- MAKING: 5, 6, 7, then the layout's own
 abbrev pub makeOrder : Layout → Header → List Check → List Check
@@ -94,6 +115,14 @@ refusedMade n = record { answer = making.Refused n; frame = blank }
 
 unfoldable pub doneMade : Frame → Made
 doneMade f = record { answer = making.Done; frame = f }
+
+-- the frame of rows that are put, filled; and a frame made of them: 5, 6, 7, 12, 10
+abbrev pub packedFrame : ℕ → Header → Packer → Frame
+packedFrame pattern h p = record { header = h; n = filledUp pattern p .at; words = filledUp pattern p .words }
+
+abbrev pub madeBy : Layout → ℕ → ℕ → Header → ℕ → Rows → Made
+madeBy asked most pattern h c r =
+    inOrder (makeOrder asked h ((wrongCount most c, 12) ∷ (r .out, 10) ∷ [])) refusedMade (doneMade (packedFrame pattern h (r .packer)))
 
 -- ---- what passes the first checks
 
@@ -128,6 +157,18 @@ saysCounted Misfit = refuses 8
 abbrev pub saysSize : Size → Says (Unit {0})
 saysSize Right = answers tt
 saysSize Wrong = refuses 8
+
+abbrev pub saysIndexed : Indexed → Says (Unit {0})
+saysIndexed Below = answers tt
+saysIndexed Past = refuses 9
+
+abbrev pub saysRanged : Ranged → Says (Unit {0})
+saysRanged Inside = answers tt
+saysRanged Outside = refuses 10
+
+abbrev pub saysPlaced : Placed → Says ℕ
+saysPlaced (placed.At o) = answers o
+saysPlaced (placed.Refused n) = refuses n
 
 abbrev pub saysCount : Count → Says ℕ
 saysCount (count.Of c) = answers c

@@ -1,12 +1,13 @@
 // The stages that reading and making share, and their answers: the layout asked for, the entries that N words hold, a header to make a frame under,
 // a made frame.
 ghost use mathlib.Core.Path.{_≡_};
-ghost use Rattle.stage.specs.Stages.{layoutNumber, askedOf, entriesIn, countBy, sizeOf, suitedBy, suitedWith, refusedMade};
+ghost use Rattle.stage.specs.Stages.{layoutNumber, askedOf, entriesIn, countBy, sizeOf, suitedBy, suitedWith, refusedMade, indexOf, rangedOf, placedBy, madeBy};
 use frame::Clock;
 use frame::Frame;
 use frame::Header;
 use frame::Layout;
 use frame::Widths;
+use pack::Rows;
 
 // Whether a type number has the layout that is asked for; another one is refusal 6.
 pub enum Asked {
@@ -24,6 +25,24 @@ pub enum Counted {
 pub enum Size {
     Right,
     Wrong,
+}
+
+// Whether there is an entry of a number; none is refusal 9.
+pub enum Indexed {
+    Below,
+    Past,
+}
+
+// Whether every number is in its range; one that is not is refusal 10.
+pub enum Ranged {
+    Inside,
+    Outside,
+}
+
+// The bit at which an entry starts, or the refusal's number.
+pub enum Placed {
+    At(u32),
+    Refused(u8),
 }
 
 // A number of entries or characters, or the refusal's number.
@@ -115,6 +134,49 @@ pub fn count_in(layout: Layout, width: usize, frame: Frame) -> Count
     Count::Of(count)
 }
 
+// Whether there is an entry of this number.
+pub fn index_of(count: usize, index: usize) -> Indexed
+    ensures { λ r. ⌜ r ≡ indexOf count index ⌝ }
+{
+    if count <= index {
+        return Indexed::Past;
+    }
+    Indexed::Below
+}
+
+// Whether every number is in its range.
+pub fn ranged_of(out: bool) -> Ranged
+    ensures { λ r. ⌜ r ≡ rangedOf out ⌝ }
+{
+    if out {
+        return Ranged::Outside;
+    }
+    Ranged::Inside
+}
+
+// Where entry number `index` of `width` bits starts in a frame of a layout: 5, 6, 7, 8, 9.
+pub fn entry_in(layout: Layout, width: usize, frame: Frame, index: usize) -> Placed
+    ensures { λ r. ⌜ r ≡ placedBy layout width frame index ⌝ }
+{
+    let Widths::Within = frame::frame_widths(frame) else {
+        return Placed::Refused(5);
+    };
+    let header = frame.header;
+    let Asked::Same = asked_of(layout, header.kind) else {
+        return Placed::Refused(6);
+    };
+    let Clock::Hour = frame::clock_of(header.z) else {
+        return Placed::Refused(7);
+    };
+    let Counted::Entries(count) = entries_in(width, frame.n) else {
+        return Placed::Refused(8);
+    };
+    let Indexed::Below = index_of(count, index) else {
+        return Placed::Refused(9);
+    };
+    Placed::At((index * width) as u32)
+}
+
 // Whether N is the one that the type has.
 pub fn size_of(wanted: usize, n: usize) -> Size
     ensures { λ r. ⌜ r ≡ sizeOf wanted n ⌝ }
@@ -165,5 +227,36 @@ pub fn refused(number: u8) -> Made
     Made {
         answer: Making::Refused(number),
         frame: frame::no_frame(),
+    }
+}
+
+// A frame of the rows of a list: 5, 6, 7, 12, 10.
+pub fn make_list(
+    layout: Layout,
+    most: usize,
+    fill: u32,
+    header: Header,
+    count: usize,
+    rows: Rows,
+) -> Made
+    ensures { λ r. ⌜ r ≡ madeBy layout most fill header count rows ⌝ }
+{
+    let suited = suits_with(layout, header, count, most);
+    if let Suited::Refused(n) = suited {
+        return refused(n);
+    }
+    let Ranged::Inside = ranged_of(rows.out) else {
+        return refused(10);
+    };
+    let packer = rows.packer;
+    let full = pack::fill_up(packer, fill);
+    let words = full.words;
+    Made {
+        answer: Making::Done,
+        frame: Frame {
+            header,
+            n: full.at,
+            words,
+        },
     }
 }

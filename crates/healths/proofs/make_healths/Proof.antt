@@ -1,79 +1,22 @@
--- `make_healths` meets its contract: the header's and the count's stages, the ranges, then what the packer leaves. Assumes nothing.
-use mathlib.Core.Path.{_≡_, sym, ap, _∙_}
-use mathlib.Core.List.{[], _∷_}
-use Prim.Native.Nat.{_≤_}
+-- `make_healths` meets its contract: a frame of the rows is the layout's. Assumes nothing.
+use mathlib.Core.Path.{refl}
 use native.Mathlib.Omega.{arith}
-use lib.ListN.{length, take, length-take}
 use borrow.Author.Needs.{needs}
-use Rattle.frame.specs.Widths.{anyOf}
 use Rattle.frame.specs.declared.Layout.the-variants as layout
-use Rattle.pack.specs.Coding.{frameWith}
-use Rattle.pack.proofs.Making.{packed-frame}
-use Rattle.stage.specs.Stages.{wrongCount, makeOrder, refusedMade, doneMade}
-use Rattle.stage.proofs.StageLaws.{unsuited, suited-on, last-wrong, last-fine}
-use Rattle.stage.proofs.ListCode.{suited-few}
-use Rattle.healths.specs.Healths.{coding, fill, outOfRange, makeHealths}
+use Rattle.pack.specs.Packing.{pushed}
+use Rattle.pack.proofs.TableLaws.{push-low}
+use Rattle.stage.proofs.TableCode.{rows-made}
+use Rattle.healths.specs.Healths.{coding, fill, least, most, numbers, outOfRange, makeHealths}
 use Rattle.healths.proofs.make_healths.Statement.{statement}
 use Rattle.healths.proofs.make_healths.Tie as tie
-
--- where the stages are passed the count is at most 31
-few : (c : tie.After-enum-told) → c .before .before .before .args .count ≤ 31
-few c =
-    let s = c .before .before in
-    let a = s .before .args in
-    suited-few layout.Health (a .header) 31 (a .count) (s .suits-with .result) (s .suits-with .ensures) (c .enum-told .given .1)
 
 returns : tie.Need-returns
 unfolding makeHealths
 returns c =
-    let s = c .before .before .before .before in
-    let h = s .before .args .header in
-    let k = s .before .args .count in
-    let es = take k (s .before .args .entries) in
-    c .refused .ensures
-    ∙ unsuited (makeOrder layout.Health h ((wrongCount 31 k, 12) ∷ [])) ((anyOf outOfRange es, 10) ∷ []) refusedMade
-    (doneMade (frameWith fill coding h es)) (s .suits-with .result) (s .suits-with .ensures) _ (c .before .before .suited .given .1)
-
-any-out-requires : tie.Need-any-out-requires
-any-out-requires c κs = few c
-
-returns-2 : tie.Need-returns-2
-unfolding makeHealths
-returns-2 c =
-    let s = c .before .before .before .before .before in
-    let h = s .before .args .header in
-    let k = s .before .args .count in
-    let es = take k (s .before .args .entries) in
-    let made = doneMade (frameWith fill coding h es) in
-    c .refused2 .ensures
-    ∙ last-wrong refusedMade made (anyOf outOfRange es) 10 (sym (c .before .before .any-out .ensures) ∙ c .before .if1 .taken)
-    ∙ suited-on (makeOrder layout.Health h ((wrongCount 31 k, 12) ∷ [])) ((anyOf outOfRange es, 10) ∷ []) refusedMade made
-    (s .suits-with .result) (s .suits-with .ensures) (c .before .before .before .enum-told .given .1)
-
-pack-entries-requires : tie.Need-pack-entries-requires
-pack-entries-requires c κs = few (c .before .before)
-
-returns-3 : tie.Need-returns-3
-unfolding makeHealths doneMade
-returns-3 c =
-    let told = c .before .before .before .before in
-    let s = told .before .before in
-    let h = s .before .args .header in
-    let k = s .before .args .count in
-    let all = s .before .args .entries in
-    let es = take k all in
-    let made = doneMade (frameWith fill coding h es) in
-    let l : length all ≡ 31 = search needs in
-    let p = c .before .pack-entries in
-    ap doneMade
-    (packed-frame coding fill h es (p .result)
-    (omega arith, (omega arith, (omega arith, (omega arith, (omega arith, (omega arith, (omega arith, (omega arith, (omega arith, (omega arith, tt)))))))))) (omega (arith, length-take k all, few told)) (p .ensures))
-    ∙ last-fine refusedMade made (anyOf outOfRange es) 10 (sym (c .before .before .before .any-out .ensures) ∙ c .before .before .if1 .left)
-    ∙ suited-on (makeOrder layout.Health h ((wrongCount 31 k, 12) ∷ [])) ((anyOf outOfRange es, 10) ∷ []) refusedMade made
-    (s .suits-with .result) (s .suits-with .ensures) (told .enum-told .given .1)
+    let a = c .before .before .args in
+    rows-made layout.Health coding fill 31 outOfRange numbers least most
+    (λ e p. rw (push-low (pushed p 1 (e .reserved)) 5 (e .satellite))) (λ e. refl) (search needs) (omega arith)
+    (a .header) (a .entries) (a .count) (c .before .rows-of .result) (c .make-list .result) (c .make-list .ensures) (c .before .rows-of .ensures)
 
 pub make-healths-spec : {M : Type 1} → statement M
-make-healths-spec =
-    tie.close
-    (tie.spec (λ c κs. search needs) (λ c. search needs) (λ c κs. search needs) returns (λ c. search needs)
-    any-out-requires (λ c κs. search needs) returns-2 pack-entries-requires returns-3)
+make-healths-spec = tie.close (tie.spec (λ c κs. search needs) (λ c κs. search needs) returns)
