@@ -1,8 +1,11 @@
 pub mod Buffer
 pub mod Pushing
+pub mod Bursting
 pub mod Leaves
 pub mod Steps
+pub mod Seeking
 pub mod Accepted
 pub mod Stepping
 pub mod Running
+pub mod Bursts
 pub mod Taking

@@ -17,7 +17,7 @@ use Rattle.reader.specs.Cells.{cellBits, heldBits, putPair, putCells, do
 use Rattle.reader.proofs.Buffer.{length-cells, cells-append, drop-cells, drop-take}
 
 -- SIX BITS PUT IN
-pair-bits : (c o x : ℕ) → o < 32 → x < 64
+pub pair-bits : (c o x : ℕ) → o < 32 → x < 64
     → bits 32 (putPair c o x / 2 ^ 32) ++ bits 32 (putPair c o x % 2 ^ 32) ≡ (take o (bits 32 c) ++ bits 6 x) ++ bits (58 - o) 0
 pair-bits c o x h l =
     ap (λ (t : List Bool). bits 32 (v % 2 ^ 64 / 2 ^ 32) ++ t) (bits-mod 32 (v % 2 ^ 64)) ∙ sym (bits-split 32 32 (v % 2 ^ 64)) ∙ bits-mod 64 v
@@ -45,7 +45,7 @@ three cells j h =
     sym (take-append-drop j cells)
     ∙ ap (λ (t : List ℕ). take j cells ++ t) (drop-cons cells j 0 (omega arith) ∙ ap (λ (m : ℕ). getD cells j 0 ∷ drop m cells) (sym (add-one j)) ∙ ap (λ (t : List ℕ). getD cells j 0 ∷ t) (drop-cons cells (j + 1) 0 h))
 
-set-two : (p : List ℕ) (a b : ℕ) (t : List ℕ) (j u v : ℕ) → length p ≡ j → set (set (p ++ a ∷ b ∷ t) j u) (j + 1) v ≡ p ++ u ∷ v ∷ t
+pub set-two : (p : List ℕ) (a b : ℕ) (t : List ℕ) (j u v : ℕ) → length p ≡ j → set (set (p ++ a ∷ b ∷ t) j u) (j + 1) v ≡ p ++ u ∷ v ∷ t
 set-two p a b t j u v e =
     ap (λ (l : List ℕ). set l (j + 1) v) (set-at p a (b ∷ t) u j e)
     ∙ ap (λ (l : List ℕ). set l (j + 1) v) (sym (append-assoc p (u ∷ []) (b ∷ t)))

@@ -43,3 +43,7 @@ roomCells cells end held = cond (leb end 1216) cells (downCells cells ((end - he
 -- SIX BITS PUSHED
 unfoldable pub pushedCells : List ℕ → ℕ → ℕ → ℕ → List ℕ
 pushedCells cells end held sixBits = putCells (roomCells cells end held) (roomEnd end held) sixBits
+
+-- five times six bits put in
+unfoldable pub putFive : List ℕ → ℕ → ℕ → ℕ → ℕ → ℕ → ℕ → List ℕ
+putFive cells end a b c d e = putCells (putCells (putCells (putCells (putCells cells end a) (end + 6) b) (end + 12) c) (end + 18) d) (end + 24) e

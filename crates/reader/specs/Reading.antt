@@ -1,9 +1,10 @@
 -- What the reader's calls answer, and the reader that they leave: each in the order of its refusals. Assumes nothing.
 use mathlib.Core.Bool.{Bool, true, false, cond, _&&_, _||_, not}
 use mathlib.Core.List.{List, [], _∷_, _++_}
-use Prim.Native.Nat.{ℕ, _+_, _-_, _*_, _%_, _^_}
+use mathlib.Core.Path.{_≡_}
+use Prim.Native.Nat.{ℕ, suc, _+_, _-_, _*_, _%_, _^_, _≤_, _<_}
 use lib.Dec.{ltb}
-use lib.ListN.{replicate}
+use lib.ListN.{replicate, length, getD}
 use Rattle.answer.specs.Order.{Says, refuses, answers, Check, inOrder}
 use Rattle.bits.specs.Bits.{number}
 use Rattle.line.specs.Line.{isData, six}
@@ -19,6 +20,8 @@ use Rattle.reader.specs.declared.Answer.{Answer}
 use Rattle.reader.specs.declared.Answer.the-variants.{Done, Refused}
 use Rattle.reader.specs.declared.checks.Ready.{Ready}
 use Rattle.reader.specs.declared.checks.Ready.the-variants as ready
+use Rattle.reader.specs.declared.advance.Five.{Five}
+use Rattle.reader.specs.declared.advance.Five.the-variants.{Sixes, Fewer}
 use Rattle.reader.specs.declared.Next.{Next}
 use Rattle.reader.specs.declared.FedAll.{FedAll}
 use Rattle.reader.specs.declared.Taken.{Taken}
@@ -67,6 +70,25 @@ steppedBy r b = record {
   candidate = stepTo (r .cells) (r .candidate) (number (six b));
   ended = r .ended;
 }
+
+-- sixes, one after the other
+unfoldable pub manyCells : List ℕ → Candidate → List ℕ → List ℕ
+manyCells cells c [] = cells
+manyCells cells c (s ∷ ss) = manyCells (stepCells cells c s) (stepTo cells c s) ss
+
+unfoldable pub manyTo : List ℕ → Candidate → List ℕ → Candidate
+manyTo cells c [] = c
+manyTo cells c (s ∷ ss) = manyTo (stepCells cells c s) (stepTo cells c s) ss
+
+-- bytes from a place on that carry these sixes
+abbrev pub Carried : List ℕ → ℕ → List ℕ → Type 0
+Carried bytes at [] = Unit {0}
+Carried bytes at (s ∷ ss) = (at < length bytes) × (isData (getD bytes at 0) ≡ true) × (s ≡ number (six (getD bytes at 0))) × (s < 64) × Carried bytes (suc at) ss
+
+-- of five bytes that carry sixes the first four bring no word to its end, and there is room for all
+abbrev pub FiveIn : Candidate → List ℕ → ℕ → Five → Type 0
+FiveIn c bytes at (Sixes a b d e f) = (c .end ≤ 1192) × (c .held + 24 < 32 + 30 * c .words) × Carried bytes at (a ∷ b ∷ d ∷ e ∷ f ∷ [])
+FiveIn c bytes at Fewer = Unit {0}
 
 -- ---- FEED: 5, 3, 2, 1
 

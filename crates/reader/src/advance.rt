@@ -1,13 +1,15 @@
 // The hunt goes on: by six bits, by bytes, and at the frame that waits.
 ghost use mathlib.Core.Path.{_≡_};
 ghost use mathlib.Core.Bool.{false};
+ghost use mathlib.Core.List.{[], _∷_};
 ghost use Prim.Native.Nat.{_+_, _*_, _≤_, _<_};
 ghost use lib.ListN.{length};
 ghost use Rattle.stream.specs.Standing.{nAt, frameAt};
 ghost use Rattle.reader.specs.Cells.{heldBits};
-ghost use Rattle.reader.specs.Reading.{movedTo, stepCells, stepTo, runTo};
+ghost use Rattle.reader.specs.Reading.{movedTo, stepCells, stepTo, manyCells, manyTo, FiveIn, runTo};
 use crate::Candidate;
 use crate::cells::push;
+use crate::cells::put_five;
 use crate::cells::window;
 use crate::hunt::Stop;
 use crate::hunt::hunt;
@@ -20,6 +22,12 @@ pub(crate) struct Ran {
     pub candidate: Candidate,
     pub used: usize,
     pub passed: usize,
+}
+
+// The sixes of five bytes, or that there are fewer to put in at once.
+pub(crate) enum Five {
+    Sixes(u32, u32, u32, u32, u32),
+    Fewer,
 }
 
 // The candidate where a hunt stops.
@@ -72,6 +80,65 @@ pub(crate) fn step(cells: &mut [u32; 40], c: Candidate, six: u32) -> Candidate
     moved(c.at, end, held, stop)
 }
 
+// The sixes of the next five bytes, where each carries six, the first four bring no word to its end, and there is room for all.
+fn five_of(c: Candidate, bytes: &[u8], at: usize) -> Five
+    requires { ⌜ (at ≤ length (now bytes)) × (c .held ≤ 991) × (c .words ≤ 32) ⌝ }
+    ensures { λ r. ⌜ FiveIn c (now (bytes .entry)) at r ⌝ }
+{
+    if 1192 < c.end {
+        return Five::Fewer;
+    }
+    if 32 + 30 * c.words <= c.held + 24 {
+        return Five::Fewer;
+    }
+    if bytes.len() - at < 5 {
+        return Five::Fewer;
+    }
+    let one = line::six_of(bytes[at]);
+    let Six::Bits(a) = one else {
+        return Five::Fewer;
+    };
+    let two = line::six_of(bytes[at + 1]);
+    let Six::Bits(b) = two else {
+        return Five::Fewer;
+    };
+    let three = line::six_of(bytes[at + 2]);
+    let Six::Bits(d) = three else {
+        return Five::Fewer;
+    };
+    let four = line::six_of(bytes[at + 3]);
+    let Six::Bits(e) = four else {
+        return Five::Fewer;
+    };
+    let five = line::six_of(bytes[at + 4]);
+    let Six::Bits(f) = five else {
+        return Five::Fewer;
+    };
+    Five::Sixes(a, b, d, e, f)
+}
+
+// Five times six bits more, of which the first four bring no word to its end, and the hunt goes on.
+fn burst(cells: &mut [u32; 40], c: Candidate, a: u32, b: u32, d: u32, e: u32, f: u32) -> Candidate
+    requires { ⌜ (length (now cells) ≡ 40) × (c .end ≤ 1192) × (c .held ≤ c .end) × (c .held ≤ 991) × (c .words ≤ 32) × (c .held + 24 < 32 + 30 * c .words) × (a < 64) × (b < 64) × (d < 64) × (e < 64) × (f < 64) ⌝ }
+    ensures { λ r. ⌜ (r ≡ manyTo (now (cells .entry)) c (a ∷ b ∷ d ∷ e ∷ f ∷ [])) × (now (cells .exit) ≡ manyCells (now (cells .entry)) c (a ∷ b ∷ d ∷ e ∷ f ∷ [])) ⌝ }
+{
+    let words = c.words;
+    let held = c.held + 30;
+    let end = c.end + 30;
+    put_five(cells, c.end, a, b, d, e, f);
+    let left = seek(cells, end, held, words);
+    if left < 32 + 30 * words {
+        let undecided = Stop {
+            left,
+            words,
+            found: false,
+        };
+        return moved(c.at, end, held, undecided);
+    }
+    let stop = hunt(cells, end, left, words, false);
+    moved(c.at, end, held, stop)
+}
+
 // Bytes fed until a frame waits or none is left.
 pub(crate) fn run(cells: &mut [u32; 40], from: Candidate, bytes: &[u8]) -> Ran
     requires { ⌜ (length (now cells) ≡ 40) × (from .end ≤ 1280) × (from .held ≤ from .end) × (from .held ≤ 991) × (from .words ≤ 32) × (from .waits ≡ false) ⌝ }
@@ -88,16 +155,22 @@ pub(crate) fn run(cells: &mut [u32; 40], from: Candidate, bytes: &[u8]) -> Ran
                 passed,
             };
         }
-        let line = line::six_of(bytes[used]);
-        used += 1;
-        if let Six::Bits(six) = line {
-            if c.held + 6 < 32 + 30 * c.words {
-                c = hold(cells, c, six);
-            } else {
-                c = step(cells, c, six);
-            }
+        let ahead = five_of(c, bytes, used);
+        if let Five::Sixes(a, b, d, e, f) = ahead {
+            c = burst(cells, c, a, b, d, e, f);
+            used += 5;
         } else {
-            passed += 1;
+            let line = line::six_of(bytes[used]);
+            used += 1;
+            if let Six::Bits(six) = line {
+                if c.held + 6 < 32 + 30 * c.words {
+                    c = hold(cells, c, six);
+                } else {
+                    c = step(cells, c, six);
+                }
+            } else {
+                passed += 1;
+            }
         }
     }
     Ran {

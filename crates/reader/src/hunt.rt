@@ -1,13 +1,13 @@
 // The hunt for a frame over the bits held.
 ghost use mathlib.Core.Path.{_≡_};
 ghost use mathlib.Core.Bool.{Bool};
-ghost use Prim.Native.Nat.{_≤_};
+ghost use Prim.Native.Nat.{_+_, _≤_, _<_};
 ghost use lib.ListN.{length};
 ghost use Rattle.bits.specs.Bits.{bits};
 ghost use Rattle.frame.specs.Header.{nOf};
 ghost use Rattle.word.specs.Word.{dataOf};
 ghost use Rattle.stream.specs.Standing.{right as rightly};
-ghost use Rattle.reader.specs.Hunting.{huntOf};
+ghost use Rattle.reader.specs.Hunting.{huntOf, Headless};
 
 // Where a hunt stops: the bits left from two before that position on, how many of its words are known right (0 where a frame stands), and whether
 // a frame stands there.
@@ -37,6 +37,41 @@ pub(crate) fn n_in(window: u32) -> usize
     frame::n_of(word::data_of(window))
 }
 
+// How many positions from bit `off` of two cells on have nine bits that are not D30* and D1 to D8 of a preamble, as it is or turned over:
+// neighbours of these nine are in turn alike and unlike.
+fn headless(both: u64, off: u32) -> u32
+    requires { ⌜ (both < 18446744073709551616) × (off < 32) ⌝ }
+    ensures { λ r. ⌜ (r ≤ 64) × Headless both off r ⌝ }
+{
+    let unlike = both ^ (both >> 1);
+    let turns = unlike ^ (unlike >> 1);
+    let two = turns & (turns >> 1);
+    let four = two & (two >> 2);
+    u64::leading_zeros(((unlike & four) & (four >> 3)) << (9 + off))
+}
+
+// The lower of two counts.
+fn lower(a: usize, b: usize) -> usize
+    ensures { λ r. ⌜ (r ≤ a) × (r ≤ b) ⌝ }
+{
+    if a < b {
+        return a;
+    }
+    b
+}
+
+// How many bits are left after so many positions, of those that two cells show from bit `off` of them on; a position has 32 bits.
+fn passed(left: usize, off: usize, positions: usize) -> usize
+    requires { ⌜ (32 ≤ left) × (left ≤ 1280) × (off < 32) × (positions ≤ 64) ⌝ }
+    ensures { λ r. ⌜ (r ≤ left) × (31 ≤ r) × (left ≤ r + positions) × (left + off ≤ r + 55) ⌝ }
+{
+    let shown = lower(positions, 55 - off);
+    if left < 31 + shown {
+        return 31;
+    }
+    left - shown
+}
+
 // How many bits are left at the first position from here on whose preamble may stand, as far as two cells show it. The hunt from there is the
 // hunt from here, so it may stop early.
 pub(crate) fn seek(cells: &[u32; 40], end: usize, left: usize, words: usize) -> usize
@@ -51,24 +86,9 @@ pub(crate) fn seek(cells: &[u32; 40], end: usize, left: usize, words: usize) -> 
     }
     let bit = end - left;
     let both = crate::cells::pair(cells, bit);
-    let mut l = left;
-    let mut off = (bit % 32) as u32;
-    while 32 <= l {
-        if 54 < off {
-            return l;
-        }
-        // D30* and D1 to D8: the preamble as it is, or turned over
-        let nine = (both >> (54 - off)) % 512;
-        if nine == 102 {
-            return l;
-        }
-        if nine == 409 {
-            return l;
-        }
-        l -= 1;
-        off += 1;
-    }
-    l
+    let off = bit % 32;
+    let positions = headless(both, off as u32);
+    passed(left, off, positions as usize)
 }
 
 // The hunt from word `words` of the candidate on: a word that has come and fails rules its position out.
