@@ -43,9 +43,9 @@ enum {
     RTCM2_CHARACTER = 11,     /* forbidden character */
     RTCM2_ENTRIES = 12,       /* no entry, too many, or bytes that are no whole number of entries */
     RTCM2_TOO_SHORT = 13,     /* lent buffer too short */
-    RTCM2_NO_MARK = 14,       /* fewer than two bytes, or the first two are not the journal mark */
+    RTCM2_NO_MARK = 14,       /* the bytes do not begin with the journal mark */
     RTCM2_CUT_SHORT = 15,     /* journal record cut short */
-    RTCM2_BAD_RECORD = 16     /* journal N over 31, unequal to N of word 2, or wrong preamble */
+    RTCM2_BAD_RECORD = 16     /* N of a journal record over 31 or not that of word 2, or its preamble wrong */
 };
 
 /* Sizes in bytes. */

@@ -25,7 +25,7 @@ strengthSaid code = saysStrength (cn0DbHz code)
 
 -- ---- the flag and the number
 
--- 1 for "stop using this satellite"
+-- 1 for stop
 abbrev pub stopFlag : Reading → ℕ
 stopFlag (exactly z) = 0
 stopFlag stop = 1

@@ -1,4 +1,4 @@
--- The header: word 1 has preamble 01100110, type 6 bits (0 means 64), station 10; word 2 has Z count 13, sequence 3, N 5, health 3.
+-- The header is the data of words 1 and 2: preamble, type and station in the first, Z count, sequence, N and health in the second (RULES 4).
 -- A word's data is a list of 24 bits, d1 first. Assumes nothing.
 use mathlib.Core.Bool.{Bool, cond}
 use mathlib.Core.List.{List, [], _∷_}

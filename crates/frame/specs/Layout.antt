@@ -1,4 +1,4 @@
--- Which layout a frame has follows from its type number. Assumes nothing.
+-- The layout of a frame: its type number decides it, and nothing else. Assumes nothing.
 use mathlib.Core.Bool.{_||_, cond}
 use Prim.Native.Nat.{ℕ}
 use lib.Dec.{eqb}

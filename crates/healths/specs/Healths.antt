@@ -17,7 +17,7 @@ use Rattle.healths.specs.declared.SatelliteHealth.{SatelliteHealth}
 use Rattle.healths.specs.declared.HealthRead.{HealthRead}
 use Rattle.healths.specs.declared.HealthRead.the-variants as read
 
--- THE LAYOUT, 24 bits: reserved 1, satellite 5, IOD link 1, health 3, C/N0 5, enable 1, new data 1, loss warning 1, time 4, reserved 2
+-- THE LAYOUT, 24 bits: reserved, satellite, IOD link, health, C/N0, enable, new data, loss warning, time, reserved
 abbrev pub widths : List ℕ
 widths = 1 ∷ 5 ∷ 1 ∷ 3 ∷ 5 ∷ 1 ∷ 1 ∷ 1 ∷ 4 ∷ 2 ∷ []
 

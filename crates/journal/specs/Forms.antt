@@ -30,11 +30,11 @@ nByte bs = getD bs 2 0
 abbrev pub wordsAfter : ℕ → List ℕ → List ℕ
 wordsAfter k bs = wordsFrom k (suc (suc (nByte bs))) (drop 3 bs)
 
--- REFUSAL 14: fewer than two bytes, or the first two are not the mark
+-- REFUSAL 14: the bytes do not begin with the mark of the form
 unfoldable pub unmarked : ℕ → List ℕ → Bool
 unmarked form bs = ltb (length bs) 2 || not (eqb (getD bs 0 0) 0x52 && eqb (getD bs 1 0) form)
 
--- 14, then 15 if the N byte is missing, 16 for N over 31, 15 for the rest
+-- 14; 15 where there is no byte for N; 16 where N is above 31; 15 where words are missing
 abbrev pub startOrder : ℕ → ℕ → List ℕ → List Check
 startOrder form k bs =
     (unmarked form bs, 14) ∷ (ltb (length bs) 3, 15) ∷ (ltb 31 (nByte bs), 16) ∷ (ltb (length bs) (lengthWith k (nByte bs)), 15) ∷ []

@@ -1,4 +1,4 @@
--- The journal. A record is its mark, N and the data of all N + 2 words, three bytes each: 3N + 9 bytes.
+-- The journal. A record is its mark, N, and three bytes for the data of each of the N + 2 words: 3N + 9 bytes.
 -- Keeping refuses in the order 5, 13; recalling in the order 14, 15, 16, 15, 16. Assumes nothing.
 use mathlib.Core.Bool.{not}
 use mathlib.Core.List.{List, [], _∷_, _++_}

@@ -40,7 +40,7 @@ pub(crate) fn put_word(word: u32, size: usize, at: usize, buffer: &mut [u8])
     }
 }
 
-// There are fewer than two bytes, or the first two are not this form's mark.
+// The bytes do not begin with this form's mark.
 fn is_unmarked(form: u8, bytes: &[u8]) -> bool
     ensures { λ r. ⌜ r ≡ unmarked form (now (bytes .entry)) ⌝ }
 {

@@ -46,7 +46,7 @@ unfoldable pub spaced : List ℕ → List ℕ
 spaced [] = []
 spaced (n ∷ ns) = decimal n ++ (afterNumber ns ∷ spaced ns)
 
--- A FRAME'S LINE: first bit position, type, station, Z count, sequence, N, health
+-- A FRAME'S LINE: where its first bit is, its type, station, Z count, sequence, N and health
 abbrev pub lineNumbers : ℕ → Frame → List ℕ
 lineNumbers at f =
     let h = f .header in
@@ -65,7 +65,7 @@ bytesLabel = 32 ∷ 98 ∷ 121 ∷ 116 ∷ 101 ∷ 115 ∷ 32 ∷ []
 abbrev pub passedLabel : List ℕ
 passedLabel = 32 ∷ 112 ∷ 97 ∷ 115 ∷ 115 ∷ 101 ∷ 100 ∷ 32 ∷ []
 
--- THE LAST LINE: frames handed out, bytes read, bytes answered with refusal 1
+-- THE LAST LINE: how many frames were handed out, how many bytes read, and how many of these refused with 1
 unfoldable pub lastLine : ℕ → ℕ → ℕ → List ℕ
 lastLine frames bytes passed =
     (framesLabel ++ decimal frames) ++ ((bytesLabel ++ decimal bytes) ++ ((passedLabel ++ decimal passed) ++ (newline ∷ [])))

@@ -7,7 +7,7 @@ use lib.Dec.{leb}
 use lib.ListN.{length}
 use Rattle.stream.specs.Standing.{wordAt, right, size, Placed, placed}
 
--- RULED OUT: a word of it that has fully come fails (for the first word, its preamble too)
+-- RULED OUT: one of its words is whole and fails (for the first word, its preamble too)
 pub record RuledOut (d : List Bool) : Type 0 where
   pub k : ℕ
   pub come : 32 + 30 * k ≤ length d

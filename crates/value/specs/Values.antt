@@ -10,7 +10,7 @@ use Rattle.frame.specs.declared.State.the-variants.{Factor, Unmonitored, Down}
 
 -- ---- PRC and RRC
 
--- an exact product in the step's unit, or "stop using this satellite"
+-- an exact product in the step's unit, or stop: the satellite is not to be used
 pub data Reading : Type 0 where
   exactly : ℤ → Reading
   stop : Reading
@@ -64,6 +64,6 @@ pub data Signal : Type 0 where
   dbHz : ℕ → Signal
   notTracked : Signal
 
--- code 0 is not tracked, else 24 + code
+-- not tracked for code 0, for any other 24 more than the code
 abbrev pub cn0Value : ℕ → Signal
 cn0Value code = cond (eqb code 0) notTracked (dbHz (24 + code))
