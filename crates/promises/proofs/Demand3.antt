@@ -183,7 +183,7 @@ module _ (bs : List ℕ) where
     ended = out-is all true last-ended last-none (lineBits bs) last-bits;
   }
 
--- ---- "No call on such a reader is ever refused with 5"
+-- ---- a reader that was started fresh never refuses with 5
 
 refused-other : {A : Type 0} (n : ℕ) → _≡_ {A = Says (Unit {0})} (refuses n) (refuses 5) → (n ≡ 5 → ⊥) → A
 refused-other n e f = absurd (f (let z : n ≡ 5 = cc in z))

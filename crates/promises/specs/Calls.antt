@@ -18,7 +18,7 @@ pub data Call : Type 0 where
   ends : Call
   takes : Call
 
--- what the caller sees of a call beside the reader, "its number alone" or the values: of bytes fed, how many were used and passed over; of taking,
+-- what the caller sees of a call beside the reader, a number or the values: of bytes fed, how many were used and passed over; of taking,
 -- position and frame
 pub data Reply : Type 0 where
   replied : Says (Unit {0}) → Reply

@@ -1,4 +1,4 @@
--- DEMAND 1, "A refusal carries its number from the table": each call refuses exactly when a number of its order applies, and with the first that does
+-- DEMAND 1, "A refusal carries its number from the table": a call refuses when a number of its order applies, only then, and with the first of them
 -- (RULES 11). What a call says is its answer in the table's terms. Assumes nothing.
 use mathlib.Core.Path.{_≡_}
 use mathlib.Core.Bool.{false, not, _||_}
@@ -56,7 +56,7 @@ pub record CarriesItsNumber : Type 0 where
   pub feed-all : (r : Reader) (bs : List ℕ) → Ordered (5 ∷ 3 ∷ 2 ∷ []) (busy r) (saysAnswer (fedAllBy r bs .answer))
   pub reader-end : (r : Reader) → Ordered (5 ∷ 3 ∷ 2 ∷ []) (busy r) (saysAnswer (endedBy r .answer))
   pub reader-take : (r : Reader) → Ordered (5 ∷ 4 ∷ []) ((past r, 5) ∷ (not (r .candidate .waits), 4) ∷ []) (saysAnswer (takenBy r .answer))
-  -- reading a record: 5, 6, 7, 8, then 9 or 10; text 11 before 13
+  -- reading a record: 5, 6, 7, 8; 9 of an entry; 10 of a field; 11, then 13 of a text
   pub count-corrections : (f : Frame)
       → Ordered (5 ∷ 6 ∷ 7 ∷ 8 ∷ []) (readOrder layout.Correction f (misfit 40 (f .n)) []) (saysCount (corrections.countCorrections f))
   pub correction-at : (f : Frame) (i : ℕ)
@@ -75,7 +75,7 @@ pub record CarriesItsNumber : Type 0 where
       → Ordered (5 ∷ 6 ∷ 7 ∷ 8 ∷ []) (readOrder layout.Null f (wrongSize 0 (f .n)) []) (nulls.saysNullRead (nulls.readNull f))
   pub read-text : (f : Frame) (buffer : List ℕ)
       → Ordered (5 ∷ 6 ∷ 7 ∷ 8 ∷ 11 ∷ 13 ∷ []) (texts.textOrder f buffer) (saysCount (texts.readText f buffer))
-  -- making a frame: 5, 6, 7, 12, then 10 or 11
+  -- making a frame: 5, 6, 7, 12; 10 of a field; 11 of a text
   pub make-corrections : (h : Header) (es : List Correction) (c : ℕ)
       → Ordered (5 ∷ 6 ∷ 7 ∷ 12 ∷ 10 ∷ [])
       (makeOrder layout.Correction h ((wrongCount 18 c, 12) ∷ (anyOf corrections.outOfRange (take c es), 10) ∷ []))
@@ -94,7 +94,7 @@ pub record CarriesItsNumber : Type 0 where
   pub write : (f : Frame) (c : Carried) (buffer : List ℕ)
       → Ordered (5 ∷ 5 ∷ 5 ∷ 7 ∷ 13 ∷ []) (writeChecks f c buffer) (saysWritten (writtenBy f c buffer))
   pub writer-open : (buffer : List ℕ) → Ordered (13 ∷ []) (openChecks buffer) (saysOpened (openedBy buffer))
-  -- writing to the journal: 5, 13; reading from it: 14; 15 if the N byte is missing; 16 for N over 31; 15 for the rest; 16
+  -- writing to the journal: 5, 13; reading from it: 14; 15, no byte for N; 16, N above 31; 15, words missing; 16, another N in word 2; 16, no preamble
   pub keep : (f : Frame) (buffer : List ℕ) → Ordered (5 ∷ 13 ∷ []) (keepOrder f buffer) (saysKept (keptBy f buffer))
   pub recall : (bs : List ℕ) → Ordered (14 ∷ 15 ∷ 16 ∷ 15 ∷ 16 ∷ 16 ∷ []) (recallOrder bs) (saysRecalled (recalledBy bs))
   -- the parts: a byte, a word, a header, a frame, a layout asked for, an N, a header to make a frame under

@@ -43,7 +43,7 @@ pub record ChangesNeither : Type 0 where
   pub finish : (l : Listing) (room : ℕ) → Keeps (saysAnswer (finishBy l room .answer)) (finishBy l room .listing) l
   pub finish-output : (l : Listing) (out : List ℕ) → Keeps (saysAnswer (finishBy l (length out) .answer)) (finishText l out) out
 
--- "A refusal returns its number alone": what else its answer has room for is zeros and a blank frame
+-- a refusal is its number and nothing more (RULES 10): what else its answer has room for is zeros and a blank frame
 pub record NumberAlone : Type 0 where
   pub feed-all : (r : Reader) (bs : List ℕ) → Keeps {B = ℕ × ℕ} (saysAnswer (fedAllBy r bs .answer)) (fedAllBy r bs .used, fedAllBy r bs .passed) (0, 0)
   pub reader-take : (r : Reader) → Keeps {B = ℕ × Frame} (saysAnswer (takenBy r .answer)) (takenBy r .at, takenBy r .frame) (0, blank)
@@ -68,7 +68,7 @@ pub record OnlyFirst (k : ℕ) (left was : List ℕ) : Type 0 where
 abbrev pub Owns : {A : Type 0} → Says A → (A → ℕ) → List ℕ → List ℕ → Type 0
 Owns {A} s own left was = (value : A) → s ≡ answers value → OnlyFirst (own value) left was
 
--- "Text reading writes only its characters, the writers only their bytes": as many as they answer; a value of the type Frame has 31 words
+-- a call changes no bytes but those that it is for (RULES 10): as many as it answers; a value of the type Frame has 31 words
 pub record OnlyItsBytes : Type 0 where
   pub writer-open : (buffer : List ℕ) → Owns (saysOpened (openedBy buffer)) (λ v. 1) (openedTo buffer) buffer
   pub write : (f : Frame) (c : Carried) (buffer : List ℕ) → Owns (saysWritten (writtenBy f c buffer)) (λ v. v .0) (writtenTo f c buffer) buffer

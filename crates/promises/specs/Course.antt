@@ -37,8 +37,8 @@ abbrev pub Answered : {A : Type 0} → Says A → Type 0
 Answered (answers v) = Unit {0}
 Answered (refuses n) = ⊥
 
--- "The listing program reads standard input, feeds it, then ends": in whatever pieces the bytes were listed, once all are used and the end is
--- carried out, what was written is the text of the whole
+-- the listing of a whole input (RULES 12): in whatever pieces the bytes were listed, once all are used and the end is carried out, what was written
+-- is the text of the whole
 abbrev pub TextIsWhole : List ℕ → List Piece → List ℕ → Type 0
 TextIsWhole bs ps out =
     let c = courseOf ps begun bs in

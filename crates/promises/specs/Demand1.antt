@@ -19,7 +19,7 @@ pub record Demand1 : Type 2 where
   pub carries : CarriesItsNumber
   -- ".. and changes neither state nor buffer."
   pub changes : ChangesNeither
-  -- "A refusal returns its number alone. .. Text reading writes only its characters, the writers only their bytes." (RULES 10)
+  -- RULES 10: a refusal is its number and nothing more; a call changes no bytes of a buffer but those that it is for
   pub alone : NumberAlone
   pub own-bytes : OnlyItsBytes
   -- and a reader that is not refused with 5 is left as one that is not

@@ -39,7 +39,7 @@ pub record HuntAt (cs : List Call) : Type 0 where
       → RightSoFar (afterAll started cs .candidate .words) (drop gone (bitsTaken started cs))
       × (length (drop gone (bitsTaken started cs)) < 32 + 30 * afterAll started cs .candidate .words)
 
--- "a position is ruled out as soon as a word of it that has fully come fails", at any time before the end
+-- a position is ruled out at once when a word of it that is whole fails (RULES 5), at any time before the end
 abbrev pub AsSoonAs : List Call → Type 0
 AsSoonAs cs = afterAll started cs .ended ≡ false → HuntAt cs
 
@@ -79,8 +79,8 @@ pub record RuledOutTo (d left : List Bool) : Type 0 where
   pub is : left ≡ drop gone d
   pub none : (j : ℕ) → j < gone → (e : List Bool) → Stands (drop j (d ++ e)) → ⊥
 
--- "No call on such a reader is ever refused with 5, however long the stream, and every data byte fed to it gives its six bits unless 3 or 2 applies":
--- the reader then holds its bits and these six after them, less those of positions that are now ruled out
+-- a reader started fresh never refuses with 5, and a data byte always adds its six bits, except where 3 or 2 is the answer (RULES 5): the reader
+-- then holds its bits and these six after them, less those of positions that are now ruled out
 pub record NeverFive (cs : List Call) : Type 0 where
   pub none : (y : Reply) → List·Memᴰ y (replies started cs) → answerOf y ≡ refuses 5 → ⊥
   pub taken : (b : ℕ) → isData b ≡ true → afterAll started cs .ended ≡ false → afterAll started cs .candidate .waits ≡ false
@@ -137,7 +137,7 @@ pub record FedOneByOne (r : Reader) (bs : List ℕ) : Type 0 where
 abbrev pub FeedAllIsFeed : Reader → List ℕ → Type 0
 FeedAllIsFeed r bs = length (r .cells) ≡ 40 → FedOneByOne r bs
 
--- ---- "a reader state whose counts go past what it can hold" is not reached from one that is not refused, by any call
+-- ---- no call leaves a reader that is refused with 5, where the one that it was given is not
 abbrev pub NextIsAccepted : Reader → Type 0
 NextIsAccepted r = length (r .cells) ≡ 40 → past r ≡ false → (c : Call) → past (after r c) ≡ false
 

@@ -43,7 +43,7 @@ use Rattle.writer.specs.declared.Carried.{Carried}
 pub record GpsParityRule : Type 0 where
   -- the remainder of a window is zero where the word passes
   pub remainder : (w : ℕ) → eqb (number (remainderOf (bits 32 w))) 0 ≡ passes (bits 32 w)
-  -- it passes exactly when each parity bit is that of its row of the table: "one exactly when an odd number of its terms are ones"
+  -- it passes exactly when each parity bit is that of its row of the table, the sum of the row's terms modulo 2
   pub each-row : (w : List Bool) → (passes w ≡ true) ↔ ((r : Row) → List·Memᴰ r rows → D w (r .0) ≡ parityBit (d29* w) (d30* w) (dataOf w) r)
   -- the word answered for data passes after its carried bits, and gives the data back
   pub sent-passes : (c d : ℕ) (w : List Bool) → saysSent (wordOf c d) ≡ answers w
@@ -93,12 +93,12 @@ pub record RecordsOfRtcm : Type 0 where
   pub above : (h n : ℕ) → 2 ^ h ≤ n → n < 2 ^ suc h → signed h n ≡ pos n -ℤ pos (2 ^ suc h)
   pub signed-back : (h : ℕ) (z : ℤ) → mag z < 2 ^ h → signed h (code h z) ≡ z
   pub code-back : (h n : ℕ) → n < 2 ^ suc h → code h (signed h n) ≡ n
-  -- "satellite 5 (0 means 32)"
+  -- a satellite's five bits: 0 is 32, 1 to 31 are themselves
   pub satellite-0 : satelliteOf 0 ≡ 32
   pub satellite-n : (n : ℕ) → 1 ≤ n → n ≤ 31 → satelliteOf n ≡ n
   pub satellite-back : (s : ℕ) → 0 < s → s ≤ 32 → satelliteOf (satelliteCode s) ≡ s
   pub satellite-code : (n : ℕ) → n < 32 → satelliteCode (satelliteOf n) ≡ n
-  -- "N = 5k, 5k+2, 5k+4 for 3k, 3k+1, 3k+2 satellites": every count is one of these, so N is
+  -- 3k satellites take 5k words, 3k + 1 take 5k + 2, 3k + 2 take 5k + 4: every count is one of these, so N is
   pub corrections-n : (f : Frame) (c k : ℕ) → saysCount (countCorrections f) ≡ answers c
       → ((c ≡ 3 * k) ↔ (f .n ≡ 5 * k)) × ((c ≡ 3 * k + 1) ↔ (f .n ≡ 5 * k + 2)) × ((c ≡ 3 * k + 2) ↔ (f .n ≡ 5 * k + 4))
   -- type 5 has one word per satellite, type 3 has N = 4, type 6 N = 0, type 16 N 1 to 30 with three characters a word, the last one or two fill
@@ -107,14 +107,14 @@ pub record RecordsOfRtcm : Type 0 where
   pub null-n : (f : Frame) → saysNullRead (readNull f) ≡ answers tt → f .n ≡ 0
   pub text-n : (f : Frame) (buffer : List ℕ) (c : ℕ) → saysCount (readText f buffer) ≡ answers c
       → (1 ≤ f .n) × (f .n ≤ 30) × (c ≤ 3 * f .n) × (3 * f .n ≤ c + 2)
-  -- "steps 20 mm or 320 mm", "steps 2 or 32 mm/s"
+  -- PRC in steps of 20 mm, or 320 mm with scale 1; RRC in steps of 2 mm/s, or 32 mm/s
   pub prc : SaysExactly 15 20 320 (λ scale z. saysDistance (prcMm scale z))
   pub rrc : SaysExactly 7 2 32 (λ scale z. saysRate (rrcMmS scale z))
   -- the state that a health code means, factors in hundredths; not monitored and not working use factor 1
   pub states : map stateOf (0 ∷ 1 ∷ 2 ∷ 3 ∷ 4 ∷ 5 ∷ 6 ∷ 7 ∷ [])
       ≡ Factor 100 ∷ Factor 75 ∷ Factor 50 ∷ Factor 30 ∷ Factor 20 ∷ Factor 10 ∷ Unmonitored ∷ Down ∷ []
   pub hundredths : (k : ℕ) → map hundredthsOf (Factor k ∷ Unmonitored ∷ Down ∷ []) ≡ k ∷ 100 ∷ 100 ∷ []
-  -- UDRE: 1 m, 4 m, 8 m "times the factor", each a whole number of mm; code 3 has no limit
+  -- UDRE: 1 m, 4 m, 8 m, times the station's factor, each a whole number of mm; code 3 has no limit
   pub udre-0 : LimitIs 0 1000
   pub udre-1 : LimitIs 1 4000
   pub udre-2 : LimitIs 2 8000

@@ -61,7 +61,7 @@ pub record WorkedValues : Type 0 where
   -- word 1, sent after carried bits 00, and word 2, which is sent turned over after 11, each with its parity
   pub word-1 : saysSent (wordOf 0b00 0x661805) ≡ answers (bits 30 0b011001100001100000000101111111)
   pub word-2 : saysSent (wordOf 0b11 0x032300) ≡ answers (bits 30 0b111111001101110011111111001000)
-  -- the eleven bytes and the turned ones give one equal frame; the first ten of the eleven, then the end: none
+  -- the eleven bytes give this frame, and turned over the same; the first ten of them and the end give none
   pub eleven : readOut elevenBytes ≡ elevenFrame ∷ []
   pub turned : readOut turnedBytes ≡ elevenFrame ∷ []
   pub ten : readOut tenBytes ≡ []
@@ -86,7 +86,7 @@ pub record WorkedValues : Type 0 where
   -- UDRE 2 with health 3, factor 0.30, and with health 6, not monitored
   pub udre-health-3 : saysLimit (udreLimit (stateOf 3) 2) ≡ answers (upTo 2400)
   pub udre-health-6 : saysLimit (udreLimit (stateOf 6) 2) ≡ answers (upTo 8000)
-  -- type 1 with N 5 has 3 satellites, with N 7 has 4; N 1, 3 and 31 are refusal 8
+  -- a frame of type 1: 3 satellites where N is 5, 4 where it is 7; refusal 8 where it is 1, 3 or 31
   pub n-5 : satellites 100 5 ≡ answers 3
   pub n-7 : satellites 100 7 ≡ answers 4
   pub n-1 : satellites 100 1 ≡ refuses 8
