@@ -1,5 +1,5 @@
-//! The journal: one record is the mark, one byte N and the data of all N + 2
-//! words, three bytes each, highest bits first. Parity isn't kept.
+//! The journal: one record is the mark, one byte N and, for each of the N + 2
+//! words, its data in three bytes, the highest bits first; no parity.
 
 use crate::frame::{check_frame, n_of, preamble_is_right, Frame, MOST_WORDS};
 use crate::refusal::{refuse_if, Answer, Refusal};

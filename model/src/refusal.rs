@@ -30,11 +30,11 @@ pub enum Refusal {
     EntryCount = 12,
     /// Lent buffer too short.
     BufferTooShort = 13,
-    /// Fewer than two bytes, or the first two are not the journal mark.
+    /// The bytes do not begin with the journal mark.
     NoJournalMark = 14,
     /// Journal record cut short.
     RecordCutShort = 15,
-    /// Journal N over 31, unequal to N of word 2, or wrong preamble.
+    /// N of a journal record over 31 or not that of word 2, or its preamble wrong.
     JournalHeader = 16,
 }
 
