@@ -79,12 +79,6 @@ bits-append n m a b h =
 pub bits-take : (n m v : ℕ) → take n (bits (n + m) v) ≡ bits n (v / 2 ^ m)
 bits-take n m v = ap (take n) (bits-split n m v) ∙ take-at (bits n (v / 2 ^ m)) (bits m v) n (length-bits n (v / 2 ^ m))
 
--- n in front of what s writes
-pub bits-cat : (j k n : ℕ) (s : List Bool) → length s ≡ k → n < 2 ^ j → bits (j + k) (n * 2 ^ k + number s) ≡ bits j n ++ s
-bits-cat j k n s l h =
-    ap (bits (j + k)) (rw (l, number-bits j n, mod-eq-of-lt h) at (sym (number-append (bits j n) s)))
-    ∙ bits-number (j + k) (bits j n ++ s) (length-append (bits j n) s ∙ rw (length-bits j n, l))
-
 -- the low bits of the number that a list writes are the list's last
 pub bits-last : (j k : ℕ) (s : List Bool) → length s ≡ j + k → bits k (number s) ≡ drop j s
 bits-last j k s l =

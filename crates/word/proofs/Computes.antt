@@ -1,75 +1,85 @@
 -- What the functions compute, as numbers, against the definitions. Assumes nothing.
 use mathlib.Core.Path.{_≡_, refl, sym, ap, ap₂, _∙_}
 use mathlib.Core.Bool.{Bool, true, false}
-use mathlib.Core.List.{List, [], _∷_, _++_}
+use mathlib.Core.List.{List, [], _∷_, _++_, map}
 use Prim.Native.Nat.{ℕ, _+_, _*_, _/_, _%_, _^_, _<_}
 use native.Mathlib.Nat.{mod-lt, mod-eq-of-lt, div-one, lt-of-le-of-lt}
 use native.Mathlib.Omega.{arith}
-use lib.Dec.{eqb, lit<}
+use lib.Dec.{lit<}
 use lib.ListN.{getD, replicate}
 use lib.Pow.{pow-pos}
 use lib.Bits.{bitAnd, bitXor, and-le-r, xor-lt}
 use lib.Count.{ones}
 use borrow.Author.Tests.{lt-leb}
-use Rattle.bits.specs.Bits.{_⊻_, _⊕_, val, isOdd, bits, number}
-use Rattle.bits.proofs.Xor.{val-odd, xor-self, getD-xor}
-use Rattle.bits.proofs.Numbers.{odd-ones, bits-xor, bits-mod, bits-split, bits-cat, length-bits, number-bits, number-lt, number-append}
+use Rattle.bits.specs.Bits.{_⊻_, _⊕_, odd, val, isOdd, bits, number}
+use Rattle.bits.proofs.Xor.{val-odd, val-xor, xor-self, getD-xor, odd-xors, map-xor}
+use Rattle.bits.proofs.Numbers.{odd-ones, bits-xor, bits-mod, bits-split, length-bits, number-bits, number-lt, number-xor, number-append}
 use Rattle.bits.proofs.Linear.{columns, sum, spanned, odd-mask}
-use Rattle.word.specs.Word.{d29*, d30*, turnedBy, parity, dataOf, received, computed, remainderOf, passes, sent}
+use Rattle.word.specs.Word.{nth, d29*, d30*, rows, turnedBy, parity, dataOf, received, computed, remainderOf, sent}
 use Rattle.word.specs.Answer.{sentAt, wordOf}
 use Rattle.word.specs.declared.Sent.the-variants.{Word, Refused}
-use Rattle.word.proofs.Linearity.{zeros, remainder-xor}
-use Rattle.word.proofs.Sending.{parity-left}
+use Rattle.word.proofs.Sending.{data-number}
 
--- one bit of the remainder
-abbrev remainderAt : ℕ → List Bool → Bool
-remainderAt i w = getD (remainderOf w) i false
+-- ---- the six equations
 
-at-xor : (i : ℕ) (v w : List Bool) → remainderAt i (v ⊕ w) ≡ remainderAt i v ⊻ remainderAt i w
-at-xor i v w = ap (λ r. getD r i false) (remainder-xor v w) ∙ getD-xor (remainderOf v) (remainderOf w) i
+-- the data bits of row i of the table, and whether an odd number of these are ones
+abbrev terms : ℕ → List ℕ
+unfolding rows
+terms i = getD (map (λ r. r .2) rows) i []
 
--- a mask that has the columns of that bit gives it, as `odd_of` does
-masked : (i m n : ℕ) → columns _⊻_ false (remainderAt i) 32 ≡ bits 32 m → m < 2 ^ 32 → ones (bitAnd n m) % 2 ≡ val (remainderAt i (bits 32 n))
-masked i m n e h =
-    sym (val-odd (ones (bitAnd n m)))
-    ∙ ap val
-    (ap (λ k. isOdd (ones k)) (sym (mod-eq-of-lt (lt-of-le-of-lt (and-le-r n m) h)))
-    ∙ odd-ones 32 (bitAnd n m)
-    ∙ odd-mask 32 n m
-    ∙ ap (sum _⊻_ false (bits 32 n)) (sym e)
-    ∙ ap (λ k. sum _⊻_ false (bits 32 n) (columns _⊻_ false (remainderAt i) k)) (sym (length-bits 32 n))
-    ∙ sym (spanned _⊻_ false (remainderAt i) (at-xor i) (λ a. xor-self (remainderAt i a)) (bits 32 n)))
+abbrev among : List ℕ → List Bool → Bool
+among is ds = odd (map (nth ds) is)
+
+among-xor : (is : List ℕ) (a b : List Bool) → among is (a ⊕ b) ≡ among is a ⊻ among is b
+among-xor is a b =
+    ap odd (map-xor (nth (a ⊕ b)) (nth a) (nth b) (getD-xor (false ∷ a) (false ∷ b)) is) ∙ odd-xors (map (nth a) is) (map (nth b) is)
+
+-- a mask that has a one for each term does what the row says
+masked : (is : List ℕ) (m n : ℕ) → columns _⊻_ false (among is) 24 ≡ bits 24 m → m < 2 ^ 24 → among is (bits 24 n) ≡ isOdd (ones (bitAnd n m))
+masked is m n e h =
+    spanned _⊻_ false (among is) (among-xor is) (λ a. xor-self (among is a)) (bits 24 n)
+    ∙ ap (λ k. sum _⊻_ false (bits 24 n) (columns _⊻_ false (among is) k)) (length-bits 24 n)
+    ∙ ap (sum _⊻_ false (bits 24 n)) e
+    ∙ sym (odd-mask 24 n m)
+    ∙ sym (odd-ones 24 (bitAnd n m))
+    ∙ ap (λ k. isOdd (ones k)) (mod-eq-of-lt (lt-of-le-of-lt (and-le-r n m) h))
+
+-- what `odd_of` gives for data n, mask m and carried bit c
+abbrev oddOf : ℕ → ℕ → ℕ → ℕ
+oddOf n m c = (ones (bitAnd n m) + c % 2) % 2
+
+row : (is : List ℕ) (m n c : ℕ) (b : Bool) → columns _⊻_ false (among is) 24 ≡ bits 24 m → m < 2 ^ 24 → val b ≡ c % 2
+    → oddOf n m c ≡ val (b ⊻ among is (bits 24 n))
+row is m n c b e h v = omega (arith, val-xor b (among is (bits 24 n)), ap val (masked is m n e h), val-odd (ones (bitAnd n m)))
 
 -- six bits, each known as a number
 six : (b₁ b₂ b₃ b₄ b₅ b₆ : Bool) {n₁ n₂ n₃ n₄ n₅ n₆ : ℕ} → n₁ ≡ val b₁ → n₂ ≡ val b₂ → n₃ ≡ val b₃ → n₄ ≡ val b₄ → n₅ ≡ val b₅ → n₆ ≡ val b₆
-    → ((((n₁ * 2 + n₂) * 2 + n₃) * 2 + n₄) * 2 + n₅) * 2 + n₆ ≡ number (b₁ ∷ b₂ ∷ b₃ ∷ b₄ ∷ b₅ ∷ b₆ ∷ [])
+    → n₁ * 32 + n₂ * 16 + n₃ * 8 + n₄ * 4 + n₅ * 2 + n₆ ≡ number (b₁ ∷ b₂ ∷ b₃ ∷ b₄ ∷ b₅ ∷ b₆ ∷ [])
 unfolding number
 six b₁ b₂ b₃ b₄ b₅ b₆ e₁ e₂ e₃ e₄ e₅ e₆ = omega arith
 
--- what one mask keeps of n, modulo two
-abbrev oddOf : ℕ → ℕ → ℕ
-oddOf n m = ones (bitAnd n m) % 2
-
--- all six, as `remainder` puts them together
-abbrev pub sixOdd : ℕ → ℕ
-sixOdd w =
-    ((((oddOf w 0xbb1f34a0 * 2 + oddOf w 0x5d8f9a50) * 2 + oddOf w 0xaec7cd08) * 2 + oddOf w 0x5763e684) * 2 + oddOf w 0x2bb1f342) * 2 + oddOf w 0xcb7a89c1
-
-pub remainder-law : (w : ℕ) → sixOdd w ≡ number (remainderOf (bits 32 w))
-unfolding bits remainderOf received computed parity dataOf
-remainder-law w =
+-- the masks of `parity_of`, each held against its row
+pub parity-law : (c n : ℕ) {n₁ n₂ n₃ n₄ n₅ n₆ : ℕ}
+    → n₁ ≡ oddOf n 0b111011_000111_110011_010010 (c / 2)
+    → n₂ ≡ oddOf n 0b011101_100011_111001_101001 c
+    → n₃ ≡ oddOf n 0b101110_110001_111100_110100 (c / 2)
+    → n₄ ≡ oddOf n 0b010111_011000_111110_011010 c
+    → n₅ ≡ oddOf n 0b101011_101100_011111_001101 c
+    → n₆ ≡ oddOf n 0b001011_011110_101000_100111 (c / 2)
+    → n₁ * 32 + n₂ * 16 + n₃ * 8 + n₄ * 4 + n₅ * 2 + n₆ ≡ number (parity (d29* (bits 2 c)) (d30* (bits 2 c)) (bits 24 n))
+unfolding bits parity
+parity-law c n e₁ e₂ e₃ e₄ e₅ e₆ =
+    let d29 : val (isOdd (c / 2)) ≡ c / 2 % 2 = val-odd (c / 2) in
+    let d30 : val (isOdd (c / 1)) ≡ c % 2 = omega (arith, val-odd (c / 1)) in
     six _ _ _ _ _ _
-    (masked 0 0xbb1f34a0 w refl (lit< tt))
-    (masked 1 0x5d8f9a50 w refl (lit< tt))
-    (masked 2 0xaec7cd08 w refl (lit< tt))
-    (masked 3 0x5763e684 w refl (lit< tt))
-    (masked 4 0x2bb1f342 w refl (lit< tt))
-    (masked 5 0xcb7a89c1 w refl (lit< tt))
+    (e₁ ∙ row (terms 0) _ n (c / 2) (isOdd (c / 2)) refl (lit< tt) d29)
+    (e₂ ∙ row (terms 1) _ n c (isOdd (c / 1)) refl (lit< tt) d30)
+    (e₃ ∙ row (terms 2) _ n (c / 2) (isOdd (c / 2)) refl (lit< tt) d29)
+    (e₄ ∙ row (terms 3) _ n c (isOdd (c / 1)) refl (lit< tt) d30)
+    (e₅ ∙ row (terms 4) _ n c (isOdd (c / 1)) refl (lit< tt) d30)
+    (e₆ ∙ row (terms 5) _ n (c / 2) (isOdd (c / 2)) refl (lit< tt) d29)
 
--- and what `passes` asks of them
-pub test-law : (w : ℕ) → passes (bits 32 w) ≡ eqb (sixOdd w) 0
-unfolding passes
-test-law w = ap (λ n. eqb n 0) (sym (remainder-law w))
+-- ---- data, turned over or not
 
 flat : (b : Bool) → bits 24 (val b * 16777215) ≡ replicate 24 b
 unfolding bits
@@ -93,35 +103,43 @@ pub data-law : (w : ℕ) → number (turnedBy (d30* (bits 2 (w / 2 ^ 30))) (bits
 unfolding bits turnedBy dataOf
 data-law w = ap (λ l. number (dataOf l)) (sym (whole w))
 
+-- ---- the remainder
+
+ends : (w : ℕ) → received (bits 32 w) ≡ bits 6 w
+unfolding bits received
+ends w = refl
+
+-- what the carried bits and the data ask for
+asked : (w : ℕ) → computed (bits 32 w) ≡ parity (d29* (bits 2 (w / 2 ^ 30))) (d30* (bits 2 (w / 2 ^ 30))) (dataOf (bits 32 w))
+unfolding bits computed
+asked w = ap (λ l. parity (d29* l) (d30* l) (dataOf (bits 32 w))) (whole w)
+
+parts : (w : ℕ) → number (remainderOf (bits 32 w)) ≡ bitXor (number (received (bits 32 w))) (number (computed (bits 32 w)))
+unfolding remainderOf received computed parity
+parts w = number-xor 6 (received (bits 32 w)) (computed (bits 32 w)) refl refl
+
+-- received parity against that of the window's data d
+pub remainder-law : (w d : ℕ) → d ≡ number (dataOf (bits 32 w))
+    → bitXor (w % 64) (number (parity (d29* (bits 2 (w / 2 ^ 30))) (d30* (bits 2 (w / 2 ^ 30))) (bits 24 d))) ≡ number (remainderOf (bits 32 w))
+remainder-law w d is =
+    ap₂ (λ n ds. bitXor n (number (parity (d29* (bits 2 (w / 2 ^ 30))) (d30* (bits 2 (w / 2 ^ 30))) ds)))
+    (sym (ap number (ends w) ∙ number-bits 6 w)) (ap (bits 24) is ∙ data-number (bits 32 w))
+    ∙ ap (λ ps. bitXor (number (received (bits 32 w))) (number ps)) (sym (asked w))
+    ∙ sym (parts w)
+
+-- ---- the word to send
+
+pub sent-law : (a b : Bool) (ds : List Bool) → number (turnedBy b ds) * 64 + number (parity a b ds) ≡ number (sent a b ds)
+unfolding sent
+sent-law a b ds = sym (number-append (turnedBy b ds) (parity a b ds))
+
 pub turned-lt : (b : Bool) (ds : List Bool) → number (turnedBy b ds) < 2 ^ 24
 unfolding turnedBy
 turned-lt b ds = number-lt (turnedBy b ds)
 
-pub remainder-lt : (r : ℕ) (w : List Bool) → r ≡ number (remainderOf w) → r < 2 ^ 6
-unfolding remainderOf received computed parity
-remainder-lt r w e = omega (arith, number-lt (remainderOf w))
-
--- the word to send: the data turned, and for parity the remainder that it has with parity bits of zeros
-pub sent-law : (c d : ℕ) → c < 4
-    → number (turnedBy (d30* (bits 2 c)) (bits 24 d)) * 64
-    + number (remainderOf (bits 32 (c * 2 ^ 30 + number (turnedBy (d30* (bits 2 c)) (bits 24 d)) * 64)))
-    ≡ number (sentAt c d)
-unfolding bits number turnedBy parity sent
-sent-law c d h =
-    ap (λ r. number t * 64 + number r) (ap remainderOf (ap (λ n. bits 32 (c * 2 ^ 30 + n)) padded ∙ bits-cat 2 30 c (t ++ zeros) refl h) ∙ parity-left a b (bits 24 d) (length-bits 24 d))
-    ∙ sym (number-append t (parity a b (bits 24 d)))
-  where
-    a : Bool
-    a = d29* (bits 2 c)
-
-    b : Bool
-    b = d30* (bits 2 c)
-
-    t : List Bool
-    t = turnedBy b (bits 24 d)
-
-    padded : number t * 64 ≡ number (t ++ zeros)
-    padded = omega (arith, number-append t zeros)
+pub parity-lt : (a b : Bool) (ds : List Bool) → number (parity a b ds) < 2 ^ 6
+unfolding parity
+parity-lt a b ds = number-lt (parity a b ds)
 
 -- within its widths no word is refused
 pub word-answers : (c d : ℕ) → c < 4 → d < 2 ^ 24 → wordOf c d ≡ Word (number (sentAt c d))

@@ -1,10 +1,10 @@
 // The thirty-bit word: its remainder, its data bits, and the word to send.
 ghost use mathlib.Core.Path.{_≡_};
-ghost use Prim.Native.Nat.{_%_};
+ghost use Prim.Native.Nat.{_+_, _%_};
 ghost use lib.Bits.{bitAnd};
 ghost use lib.Count.{ones};
 ghost use Rattle.bits.specs.Bits.{bits, number};
-ghost use Rattle.word.specs.Word.{d30*, dataOf, remainderOf, passes as passing, turnedBy};
+ghost use Rattle.word.specs.Word.{d29*, d30*, parity, dataOf, remainderOf, passes as passing, turnedBy};
 ghost use Rattle.word.specs.Answer.{wordOf};
 
 // The thirty bits to send, D1 highest; or the refusal's number.
@@ -13,25 +13,39 @@ pub enum Sent {
     Refused(u8),
 }
 
-// For D25 to D30 the bits of a window that have an even number of ones among them where that parity bit is right: the bit itself, the terms of its
-// equation, and D30* once more where an odd number of these are data bits, since D30* turns each data bit over.
-const D25: u32 = 0xbb1f34a0;
+// The data bits in the equation of each parity bit, d1 highest.
+const D25: u32 = 0b111011_000111_110011_010010;
 
-const D26: u32 = 0x5d8f9a50;
+const D26: u32 = 0b011101_100011_111001_101001;
 
-const D27: u32 = 0xaec7cd08;
+const D27: u32 = 0b101110_110001_111100_110100;
 
-const D28: u32 = 0x5763e684;
+const D28: u32 = 0b010111_011000_111110_011010;
 
-const D29: u32 = 0x2bb1f342;
+const D29: u32 = 0b101011_101100_011111_001101;
 
-const D30: u32 = 0xcb7a89c1;
+const D30: u32 = 0b001011_011110_101000_100111;
 
-// One exactly when an odd number of the bits that the mask keeps are ones.
-fn odd_of(bits: u32, mask: u32) -> u32
-    ensures { λ r. ⌜ r ≡ ones (bitAnd «bits» mask) % 2 ⌝ }
+// One exactly when an odd number of the data bits that the mask keeps and the carried bit, the lowest of `carried`, are ones.
+fn odd_of(data: u32, mask: u32, carried: u32) -> u32
+    ensures { λ r. ⌜ r ≡ (ones (bitAnd «data» mask) + carried % 2) % 2 ⌝ }
 {
-    u32::count_ones(bits & mask) % 2
+    (u32::count_ones(data & mask) + carried % 2) % 2
+}
+
+// THE SIX EQUATIONS: D25 to D30, D25 highest, of the 24 lowest bits of `data` after the two lowest of `carried`, D29* and D30*.
+fn parity_of(carried: u32, data: u32) -> u32
+    ensures { λ r. ⌜ r ≡ number (parity (d29* (bits 2 carried)) (d30* (bits 2 carried)) (bits 24 «data»)) ⌝ }
+{
+    let d29 = carried / 2;
+    let d30 = carried;
+    let p25 = odd_of(data, D25, d29);
+    let p26 = odd_of(data, D26, d30);
+    let p27 = odd_of(data, D27, d29);
+    let p28 = odd_of(data, D28, d30);
+    let p29 = odd_of(data, D29, d30);
+    let p30 = odd_of(data, D30, d29);
+    p25 * 32 + p26 * 16 + p27 * 8 + p28 * 4 + p29 * 2 + p30
 }
 
 // The 24 lowest bits of `data`, turned over where D30* is one.
@@ -52,38 +66,17 @@ pub fn data_of(window: u32) -> u32
 pub fn remainder(window: u32) -> u32
     ensures { λ r. ⌜ r ≡ number (remainderOf (bits 32 window)) ⌝ }
 {
-    let r25 = odd_of(window, D25);
-    let r26 = odd_of(window, D26);
-    let r27 = odd_of(window, D27);
-    let r28 = odd_of(window, D28);
-    let r29 = odd_of(window, D29);
-    let r30 = odd_of(window, D30);
-    ((((r25 * 2 + r26) * 2 + r27) * 2 + r28) * 2 + r29) * 2 + r30
+    (window % 64) ^ parity_of(window / 1073741824, data_of(window))
 }
 
-// THE WORD TEST: the remainder is zero. Bit after bit, since the first that is wrong settles it.
+// THE WORD TEST: the remainder is zero.
 pub fn passes(window: u32) -> bool
     ensures { λ r. ⌜ r ≡ passing (bits 32 window) ⌝ }
 {
-    if odd_of(window, D25) != 0 {
-        return false;
-    }
-    if odd_of(window, D26) != 0 {
-        return false;
-    }
-    if odd_of(window, D27) != 0 {
-        return false;
-    }
-    if odd_of(window, D28) != 0 {
-        return false;
-    }
-    if odd_of(window, D29) != 0 {
-        return false;
-    }
-    odd_of(window, D30) == 0
+    remainder(window) == 0
 }
 
-// D1 to D30 for the data after the carried bits D29* D30*. With parity bits of zeros the remainder is the parity to send.
+// D1 to D30 for the data after the carried bits D29* D30*.
 pub fn word_of(carried: u32, data: u32) -> Sent
     ensures { λ r. ⌜ r ≡ wordOf carried «data» ⌝ }
 {
@@ -93,6 +86,5 @@ pub fn word_of(carried: u32, data: u32) -> Sent
     if data >= 16777216 {
         return Sent::Refused(5);
     }
-    let bare = turned_by(carried, data) * 64;
-    Sent::Word(bare + remainder(carried * 1073741824 + bare))
+    Sent::Word(turned_by(carried, data) * 64 + parity_of(carried, data))
 }
