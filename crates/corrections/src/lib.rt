@@ -13,7 +13,7 @@ use frame::Layout;
 use pack::Rows;
 use stage::Count;
 use stage::Made;
-use stage::Placed;
+use stage::Place;
 
 // One satellite's correction: PRC and RRC as sent, the stop numbers too.
 pub struct Correction {
@@ -52,14 +52,14 @@ fn entry_from(words: [u32; 31], at: u32) -> Correction
     requires { ⌜ at + 40 ≤ 744 ⌝ }
     ensures { λ r. ⌜ r ≡ meant (fieldsAt widths at (dataBits words)) ⌝ }
 {
-    let v = pack::fields(words, at, &WIDTHS);
+    let row = pack::fields(words, at, &WIDTHS);
     Correction {
-        scale: v[0] as u8,
-        udre: v[1] as u8,
-        satellite: pack::satellite_of(v[2]),
-        prc: pack::signed16(v[3]),
-        rrc: pack::signed8(v[4]),
-        iod: v[5] as u8,
+        scale: row[0] as u8,
+        udre: row[1] as u8,
+        satellite: pack::satellite_of(row[2]),
+        prc: pack::signed16(row[3]),
+        rrc: pack::signed8(row[4]),
+        iod: row[5] as u8,
     }
 }
 
@@ -68,10 +68,10 @@ pub fn correction_at(frame: Frame, index: usize) -> CorrectionRead
     ensures { λ r. ⌜ r ≡ correctionAt frame index ⌝ }
 {
     let words = frame.words;
-    let placed = stage::entry_in(Layout::Correction, 40, frame, index);
-    match placed {
-        Placed::At(at) => CorrectionRead::Entry(entry_from(words, at)),
-        Placed::Refused(n) => CorrectionRead::Refused(n),
+    let place = stage::entry_place(Layout::Correction, 40, frame, index);
+    match place {
+        Place::At(at) => CorrectionRead::Entry(entry_from(words, at)),
+        Place::Refused(n) => CorrectionRead::Refused(n),
     }
 }
 

@@ -13,7 +13,7 @@ use frame::Layout;
 use pack::Rows;
 use stage::Count;
 use stage::Made;
-use stage::Placed;
+use stage::Place;
 
 // One satellite's health: the codes as sent, reserved bits too.
 pub struct SatelliteHealth {
@@ -56,18 +56,18 @@ fn entry_from(words: [u32; 31], at: u32) -> SatelliteHealth
     requires { ⌜ at + 24 ≤ 744 ⌝ }
     ensures { λ r. ⌜ r ≡ meant (fieldsAt widths at (dataBits words)) ⌝ }
 {
-    let v = pack::fields(words, at, &WIDTHS);
+    let row = pack::fields(words, at, &WIDTHS);
     SatelliteHealth {
-        reserved: v[0] as u8,
-        satellite: pack::satellite_of(v[1]),
-        link: v[2] as u8,
-        health: v[3] as u8,
-        cn0: v[4] as u8,
-        enable: v[5] as u8,
-        new_data: v[6] as u8,
-        loss: v[7] as u8,
-        time: v[8] as u8,
-        spare: v[9] as u8,
+        reserved: row[0] as u8,
+        satellite: pack::satellite_of(row[1]),
+        link: row[2] as u8,
+        health: row[3] as u8,
+        cn0: row[4] as u8,
+        enable: row[5] as u8,
+        new_data: row[6] as u8,
+        loss: row[7] as u8,
+        time: row[8] as u8,
+        spare: row[9] as u8,
     }
 }
 
@@ -76,10 +76,10 @@ pub fn health_at(frame: Frame, index: usize) -> HealthRead
     ensures { λ r. ⌜ r ≡ healthAt frame index ⌝ }
 {
     let words = frame.words;
-    let placed = stage::entry_in(Layout::Health, 24, frame, index);
-    match placed {
-        Placed::At(at) => HealthRead::Entry(entry_from(words, at)),
-        Placed::Refused(n) => HealthRead::Refused(n),
+    let place = stage::entry_place(Layout::Health, 24, frame, index);
+    match place {
+        Place::At(at) => HealthRead::Entry(entry_from(words, at)),
+        Place::Refused(n) => HealthRead::Refused(n),
     }
 }
 

@@ -1,47 +1,23 @@
--- What the code's loops over entries do, over the layout: a check entry by entry, the packing row by row, and the frame that the
--- filled packer leaves; and that a field within N words is one of the frame's bits. Assumes nothing.
+-- Over the layout: the frame that a filled packer leaves, and that a field within N words is one of the frame's bits. Assumes nothing.
 use mathlib.Core.Path.{_≡_, sym, ap, ap₂, _∙_}
-use mathlib.Core.Bool.{Bool, true, false, _||_}
-use mathlib.Core.List.{List, [], _∷_, _++_}
-use Prim.Native.Nat.{ℕ, _+_, _*_, _-_, _≤_, _<_}
-use native.Mathlib.Numerals.{add-one}
+use mathlib.Core.Bool.{false}
+use mathlib.Core.List.{List, [], _++_}
+use Prim.Native.Nat.{ℕ, _+_, _*_, _-_, _≤_}
 use native.Mathlib.Omega.{arith}
-use lib.ListN.{length, take, drop, getD, replicate, length-take, length-map, drop-of-length-le, take-append-drop}
-use lib.Seq.{drop-cons, getD-take}
+use lib.ListN.{length, drop, replicate, length-map, take-append-drop}
 use Rattle.bits.specs.Fields.{fieldsAt, span}
 use Rattle.bits.specs.Rows.{dataBits, rowsAt, filled, wordsIn}
 use Rattle.bits.proofs.RowLaws.{fields-front, rows-front}
 use Rattle.bits.proofs.WordLaws.{length-data, data-append}
 use Rattle.frame.specs.Frames.{framed, dataWords}
-use Rattle.frame.specs.Widths.{anyOf, outside}
+use Rattle.frame.specs.Widths.{outside}
 use Rattle.frame.specs.declared.Header.{Header}
 use Rattle.frame.specs.declared.Frame.{Frame}
 use Rattle.frame.proofs.FrameLaws.{length-data as length-data-words}
 use Rattle.pack.specs.declared.Packer.{Packer}
-use Rattle.pack.specs.Packing.{emptyPacker, pushedAll, pushedRows, filledUp}
+use Rattle.pack.specs.Packing.{emptyPacker, pushedRows, filledUp}
 use Rattle.pack.specs.Coding.{Coding, frameBits, rowsOf, entryBits, frameWith}
 use Rattle.pack.proofs.Holds.{Narrow, Ready, empty-holds, rows-hold, fill-holds, whole-holds}
-
--- ---- the entries below a count, one by one
-
-module _ {A : Type 0} (es : List A) (n i : ℕ) (d : A) (l : n ≤ length es) (h : i < n) where
-  first : drop i (take n es) ≡ getD es i d ∷ drop (i + 1) (take n es)
-  first = drop-cons (take n es) i d (omega (arith, length-take n es))
-      ∙ ap₂ _∷_ (getD-take n es i d h) (ap (λ k. drop k (take n es)) (sym (add-one i)))
-
-  pub any-miss : (p : A → Bool) → p (getD es i d) ≡ false → anyOf p (drop i (take n es)) ≡ anyOf p (drop (i + 1) (take n es))
-  any-miss p e = ap (anyOf p) first ∙ ap (λ b. b || anyOf p (drop (i + 1) (take n es))) e
-
-  pub any-hit : (p : A → Bool) → p (getD es i d) ≡ true → anyOf p (drop i (take n es)) ≡ true
-  any-hit p e = ap (anyOf p) first ∙ ap (λ b. b || anyOf p (drop (i + 1) (take n es))) e
-
-  pub rows-next : (k : Coding A) (p : Packer)
-      → pushedRows (k .widths) (rowsOf k (drop i (take n es))) p
-      ≡ pushedRows (k .widths) (rowsOf k (drop (i + 1) (take n es))) (pushedAll (k .widths) (k .codes (getD es i d)) p)
-  rows-next k p = ap (λ r. pushedRows (k .widths) (rowsOf k r) p) first
-
-pub none-left : {A : Type 0} (es : List A) (n i : ℕ) → n ≤ i → drop i (take n es) ≡ []
-none-left es n i h = drop-of-length-le (take n es) {i = i} (omega (arith, length-take n es))
 
 -- ---- what the packer leaves
 

@@ -1,5 +1,5 @@
--- What the loops over a table do, over any table: the fields one after the other, the values pushed, the ranges; and that fields which
--- lie in the words are those of the bits. Assumes nothing.
+-- What the loops over a table do, over any table: the fields one after the other, the values pushed, the ranges, the rows; and that fields
+-- which lie in the words are those of the bits. Assumes nothing.
 use mathlib.Core.Path.{_≡_, refl, sym, ap, ap₂, _∙_}
 use mathlib.Core.Bool.{Bool, true, false, _||_, cond, or-assoc}
 use mathlib.Core.List.{List, [], _∷_, _++_, map, append-nil}
@@ -19,26 +19,27 @@ use Rattle.frame.specs.Widths.{anyOf}
 use Rattle.frame.proofs.WidthLaws.{both-false}
 use Rattle.pack.specs.declared.Packer.{Packer}
 use Rattle.pack.specs.declared.Rows.{Rows}
-use Rattle.pack.specs.Packing.{fieldIn, emptyPacker, pushed, joined, pushedAll, pushedRows}
-use Rattle.pack.specs.Tables.{padded, row, fieldsIn, rowOut, noRows, putRow, putRows}
+use Rattle.pack.specs.Packing.{fieldIn, pushed, joined, pushedAll, pushedRows}
+use Rattle.pack.specs.Tables.{padded, row, fieldsIn, rowOut, putRow, putRows}
 use Rattle.pack.proofs.PackCode.{field-in, field-none}
 use Rattle.pack.proofs.Holds.{Narrow}
 
 -- ---- reading
 
--- the next field; past the table it is of no bits, and 0
-next : (ds ws : List ℕ) (k i o : ℕ)
+-- field number i of the table, read from bit o; past the table it is of no bits, and 0
+field-next : (ds ws : List ℕ) (k i o : ℕ)
     → padded (suc k) (fieldsIn ds (drop i ws) o) ≡ fieldIn ds o (getD ws i 0) ∷ padded k (fieldsIn ds (drop (suc i) ws) (o + getD ws i 0))
-next ds [] k i o = rw (drop-nil {A = ℕ} i, field-none ds o 0 refl)
-next ds (w ∷ ws) k zero o = refl
-next ds (w ∷ ws) k (suc i) o = next ds ws k i o
+field-next ds [] k i o = rw (drop-nil {A = ℕ} i, field-none ds o 0 refl)
+field-next ds (w ∷ ws) k zero o = refl
+field-next ds (w ∷ ws) k (suc i) o = field-next ds ws k i o
 
+-- one place of the row more
 pub fields-next : (ds ws out : List ℕ) (i o w v : ℕ) → i < 12 → length out ≡ 12 → w ≡ getD ws i 0 → v ≡ fieldIn ds o w
     → take i out ++ padded (12 - i) (fieldsIn ds (drop i ws) o)
     ≡ take (i + 1) (set out i v) ++ padded (12 - (i + 1)) (fieldsIn ds (drop (i + 1) ws) (o + w))
 fields-next ds ws out i o w v h l ew ev =
     ap (λ k. take i out ++ padded k (fieldsIn ds (drop i ws) o)) less
-    ∙ ap (λ r. take i out ++ r) (next ds ws (12 - (i + 1)) i o)
+    ∙ ap (λ r. take i out ++ r) (field-next ds ws (12 - (i + 1)) i o)
     ∙ ap₂ (λ x y. take i out ++ (fieldIn ds o x ∷ padded (12 - (i + 1)) (fieldsIn ds (drop y ws) (o + x)))) (sym ew) (sym (add-one i))
     ∙ ap (λ x. take i out ++ (x ∷ rest)) (sym ev)
     ∙ sym (append-snoc (take i out) v rest)
@@ -50,7 +51,7 @@ fields-next ds ws out i o w v h l ew ev =
     rest : List ℕ
     rest = padded (12 - (i + 1)) (fieldsIn ds (drop (i + 1) ws) (o + w))
 
--- past the table, and past the twelfth
+-- past the table there are zeros
 pub fields-none : (ds ws out : List ℕ) (i o : ℕ) → length ws ≤ i → drop i out ≡ padded (12 - i) []
     → take i out ++ padded (12 - i) (fieldsIn ds (drop i ws) o) ≡ out
 fields-none ds ws out i o h e =
@@ -63,7 +64,9 @@ zeros-next out i v h e =
     less : 12 - i ≡ suc (12 - (i + 1))
     less = omega arith
 
-pub fields-end : (ds ws out : List ℕ) (i o : ℕ) → i ≤ 12 → 12 ≤ i → length out ≡ 12 → take i out ++ padded (12 - i) (fieldsIn ds (drop i ws) o) ≡ out
+-- a row is full at its twelfth place
+pub fields-end : (ds ws out : List ℕ) (i o : ℕ) → i ≤ 12 → 12 ≤ i → length out ≡ 12
+    → take i out ++ padded (12 - i) (fieldsIn ds (drop i ws) o) ≡ out
 fields-end ds ws out i o h k l =
     ap (λ n. take i out ++ padded n (fieldsIn ds (drop i ws) o)) none ∙ append-nil (take i out) ∙ take-all i out (omega arith)
   where
@@ -107,7 +110,9 @@ pub push-low : (p : Packer) (w v : ℕ) → pushed p w v ≡ pushed p w (v % 2 ^
 unfolding pushed joined
 push-low p w v = rw (mod-mod v (2 ^ w))
 
-tail-next : (us : List ℕ) (j : ℕ) (p : Packer) → j < length us → pushedAll (drop j us) [] p ≡ pushedAll (drop (suc j) us) [] (pushed p (getD us j 0) 0)
+-- the next value; past the last it is 0
+tail-next : (us : List ℕ) (j : ℕ) (p : Packer) → j < length us
+    → pushedAll (drop j us) [] p ≡ pushedAll (drop (suc j) us) [] (pushed p (getD us j 0) 0)
 tail-next [] j p l = absurd (omega arith)
 tail-next (u ∷ us) zero p l = refl
 tail-next (u ∷ us) (suc j) p l = tail-next us j p (omega arith)
@@ -130,11 +135,13 @@ push-end ws vs i p h = ap (λ l. pushedAll l (drop i vs) p) (drop-of-length-le w
 
 -- ---- ranges
 
+-- value number i, with its least and its most
 module _ (ls ms vs : List ℕ) (i v l m : ℕ) (ev : v ≡ getD vs i 0) (el : l ≡ getD ls i 0) (em : m ≡ getD ms i 0) (h : i < length ms) where
   out-next : rowOut (drop i ls) (drop i ms) (drop i vs) ≡ ltb v l || ltb m v || rowOut (drop (i + 1) ls) (drop (i + 1) ms) (drop (i + 1) vs)
   out-next =
       ap (λ k. rowOut (drop i ls) k (drop i vs)) (drop-cons ms i 0 h)
-      ∙ ap₂ (λ a b. ltb a b || ltb (getD ms i 0) a || rowOut (drop 1 (drop i ls)) (drop (suc i) ms) (drop 1 (drop i vs))) (at vs ∙ sym ev) (at ls ∙ sym el)
+      ∙ ap₂ (λ a b. ltb a b || ltb (getD ms i 0) a || rowOut (drop 1 (drop i ls)) (drop (suc i) ms) (drop 1 (drop i vs)))
+      (at vs ∙ sym ev) (at ls ∙ sym el)
       ∙ ap₂ (λ a b. ltb v l || ltb (getD ms i 0) v || rowOut a (drop (suc i) ms) b) (drop-drop 1 i ls) (drop-drop 1 i vs)
       ∙ ap₂ (λ a b. ltb v l || ltb a v || rowOut (drop (i + 1) ls) (drop b ms) (drop (i + 1) vs)) (sym em) (sym (add-one i))
     where
@@ -173,11 +180,8 @@ module _ {A : Type 0} (numbers : A → List ℕ) (ws ls ms : List ℕ) (es : Lis
   abbrev pub rowsLeft : Rows → Rows
   rowsLeft r = putRows ws ls ms (map numbers (drop i (take c es))) r
 
-  pub rows-end : (r : Rows) → c ≤ i → rowsLeft r ≡ r
-  rows-end r h = ap (λ l. putRows ws ls ms (map numbers l) r) (drop-of-length-le (take c es) {i = i} (omega (arith, length-take c es)))
-
-  pub rows-full : (r : Rows) → length es ≤ i → rowsLeft r ≡ r
-  rows-full r h = ap (λ l. putRows ws ls ms (map numbers l) r) (drop-of-length-le (take c es) {i = i} (omega (arith, length-take c es)))
+  pub rows-end : (r : Rows) → length (take c es) ≤ i → rowsLeft r ≡ r
+  rows-end r h = ap (λ l. putRows ws ls ms (map numbers l) r) (drop-of-length-le (take c es) {i = i} h)
 
   pub rows-next : (d : A) (r s : Rows) → i < c → i < length es → s ≡ putRow ws ls ms (numbers (getD es i d)) r
       → rowsLeft r ≡ putRows ws ls ms (map numbers (drop (i + 1) (take c es))) s

@@ -1,13 +1,20 @@
-// Fields in data words: a reader at any bit, a packer that puts one field after the other, two's complement, and satellite numbers.
+// Fields in data words: read at any bit or row by row, and put one after the other by a packer; two's complement, and satellite numbers.
+mod number;
+mod table;
+
 ghost use mathlib.Core.Path.{_≡_};
-ghost use mathlib.Core.Bool.{_||_};
-ghost use Prim.Native.Nat.{_+_, _≤_, _<_, _%_, _^_};
+ghost use Prim.Native.Nat.{_≤_, _<_, _%_, _^_};
 ghost use lib.ListN.{length, getD};
-ghost use lib.Signed.{mag};
 ghost use Rattle.bits.specs.Signed.{signed as signedOf, code as codeOf};
 ghost use Rattle.pack.specs.Satellites.{satelliteOf};
-ghost use Rattle.pack.specs.Packing.{fieldIn, emptyPacker, flushed, pushed, pushedAll, filledUp};
-ghost use Rattle.pack.specs.Tables.{row, fieldsIn, rowOut, noRows, putRow};
+ghost use Rattle.pack.specs.Packing.{fieldIn, emptyPacker, flushed, pushed, filledUp};
+ghost use Rattle.pack.specs.Tables.{row, fieldsIn, noRows, putRow};
+use crate::number::code;
+use crate::number::pow;
+use crate::number::signed;
+use crate::number::wide;
+use crate::table::push_all;
+use crate::table::row_out;
 
 // Whole words, how many, and the bits of the next word: `held` of them, as a number.
 pub struct Packer {
@@ -17,24 +24,10 @@ pub struct Packer {
     pub rest: u64,
 }
 
-// Rows put one after the other, and whether a number of them was outside its range.
+// Rows put one after the other, and whether a value of them was outside its range.
 pub struct Rows {
     pub packer: Packer,
     pub out: bool,
-}
-
-fn wide(x: u32) -> u64
-    ensures { λ r. ⌜ r ≡ x ⌝ }
-{
-    x as u64
-}
-
-// Two to the k.
-fn pow(k: u32) -> u64
-    requires { ⌜ k < 64 ⌝ }
-    ensures { λ r. ⌜ (r ≡ 2 ^ k) × (0 < r) ⌝ }
-{
-    1u64 << k
 }
 
 // A word's data, or 0 past the last.
@@ -69,36 +62,27 @@ fn field_of(words: &[u32; 31], offset: usize, width: u32) -> u32
     ((data / pow(64 - end)) % pow(width)) as u32
 }
 
+// One field, the words by value.
 pub fn field(words: [u32; 31], offset: usize, width: u32) -> u32
     ensures { λ r. ⌜ (r ≡ fieldIn words offset width) × (r < 2 ^ width) ⌝ }
 {
     field_of(&words, offset, width)
 }
 
-// A table's element, or 0 past the last.
-fn item(table: &[u32], i: usize) -> u32
-    ensures { λ r. ⌜ r ≡ getD (now (table .entry)) i 0 ⌝ }
-{
-    if i >= table.len() {
-        return 0;
-    }
-    table[i]
-}
-
-// The fields of these widths, one after the other from bit `at` of the data; then zeros, up to twelve.
+// A row: the fields of these widths, one after the other from bit `at` of the data; then zeros, up to twelve values.
 pub fn fields(words: [u32; 31], at: u32, widths: &[u32]) -> [u32; 12]
     ensures { λ r. ⌜ r ≡ row (fieldsIn words (now (widths .entry)) at) ⌝ }
 {
     let mut out = [0u32; 12];
-    let mut o = at as usize;
+    let mut next = at as usize;
     let mut i = 0;
     while i < 12 {
         if i >= widths.len() {
             return out;
         }
-        let w = widths[i];
-        out[i] = field_of(&words, o, w);
-        o += w as usize;
+        let width = widths[i];
+        out[i] = field_of(&words, next, width);
+        next += width as usize;
         i += 1;
     }
     out
@@ -156,38 +140,7 @@ pub fn push(packer: Packer, width: u32, value: u32) -> Packer
     flush(flush(full))
 }
 
-// Values put one after the other in these widths; past the twelfth, zeros.
-pub fn push_all(packer: Packer, values: [u32; 12], widths: &[u32]) -> Packer
-    ensures { λ r. ⌜ r ≡ pushedAll (now (widths .entry)) values packer ⌝ }
-{
-    let mut p = packer;
-    let mut i = 0;
-    while i < widths.len() {
-        p = push(p, widths[i], item(&values, i));
-        i += 1;
-    }
-    p
-}
-
-// A value is under its least or over its most.
-pub fn row_out(values: [u32; 12], least: &[u32], most: &[u32]) -> bool
-    ensures { λ r. ⌜ r ≡ rowOut (now (least .entry)) (now (most .entry)) values ⌝ }
-{
-    let mut i = 0;
-    while i < most.len() {
-        let v = item(&values, i);
-        if v < item(least, i) {
-            return true;
-        }
-        if v > most[i] {
-            return true;
-        }
-        i += 1;
-    }
-    false
-}
-
-// No rows yet.
+// No row put yet.
 pub fn no_rows() -> Rows
     ensures { λ r. ⌜ r ≡ noRows ⌝ }
 {
@@ -197,23 +150,17 @@ pub fn no_rows() -> Rows
     }
 }
 
-fn either(a: bool, b: bool) -> bool
-    ensures { λ r. ⌜ r ≡ a || b ⌝ }
-{
-    if a {
-        return true;
-    }
-    b
-}
-
 // One row more: its values put in these widths, and held to their least and their most.
 pub fn put_row(rows: Rows, values: [u32; 12], widths: &[u32], least: &[u32], most: &[u32]) -> Rows
     ensures { λ r. ⌜ r ≡ putRow (now (widths .entry)) (now (least .entry)) (now (most .entry)) values rows ⌝ }
 {
-    let packer = rows.packer;
-    let put = push_all(packer, values, widths);
-    let out = either(rows.out, row_out(values, least, most));
-    Rows { packer: put, out }
+    let before = rows.packer;
+    let packer = push_all(before, values, widths);
+    if rows.out {
+        return Rows { packer, out: true };
+    }
+    let out = row_out(values, least, most);
+    Rows { packer, out }
 }
 
 // The first bits of `pattern`, a word's data, put up to the end of the word.
@@ -225,29 +172,6 @@ pub fn fill_up(packer: Packer, pattern: u32) -> Packer
         return packer;
     }
     push(packer, 24 - held, pattern >> held)
-}
-
-// The number that a code of `half` + 1 bits means.
-fn signed(n: u32, half: u32) -> i64
-    requires { ⌜ (half ≤ 31) × (n < 2 ^ (half + 1)) ⌝ }
-    ensures { λ r. ⌜ r ≡ signedOf half n ⌝ }
-{
-    let x = n as i64;
-    if wide(n) < pow(half) {
-        return x;
-    }
-    x - (pow(half + 1) as i64)
-}
-
-// The code of `half` + 1 bits of a number.
-fn code(z: i64, half: u32) -> u32
-    requires { ⌜ (half ≤ 31) × (mag z < 2 ^ half) ⌝ }
-    ensures { λ r. ⌜ r ≡ codeOf half z ⌝ }
-{
-    if z < 0 {
-        return (z + (pow(half + 1) as i64)) as u32;
-    }
-    z as u32
 }
 
 // Eight, sixteen and thirty-two bits to a signed number, and back.

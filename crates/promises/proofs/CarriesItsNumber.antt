@@ -29,7 +29,7 @@ use Rattle.writer.specs.declared.Opened.the-variants as opened
 use Rattle.writer.specs.declared.Written.the-variants as written
 use Rattle.journal.specs.Journal.{refusedRecall, saysKept, saysRecalled}
 use Rattle.journal.specs.declared.Kept.the-variants as kept
-use Rattle.stage.specs.Stages.{refusedMade, doneMade, saysAsked, saysCounted, saysSize, saysCount, saysSuited, saysMade}
+use Rattle.stage.specs.Stages.{refusedMade, doneMade, saysAsked, saysSize, saysCount, saysPlace, saysSuited, saysMade}
 use Rattle.corrections.specs.Corrections.{countCorrections, correctionAt, makeCorrections, saysCorrectionRead}
 use Rattle.healths.specs.Healths.{countHealths, healthAt, makeHealths, saysHealthRead}
 use Rattle.positions.specs.Positions.{readPosition, makePosition, saysPositionRead}
@@ -41,7 +41,7 @@ use Rattle.healths.specs.declared.HealthRead.the-variants as healths
 use Rattle.positions.specs.declared.PositionRead.the-variants as position
 use Rattle.nulls.specs.declared.NullRead.the-variants as null
 use Rattle.stage.specs.declared.Asked.the-variants.{Same, Other}
-use Rattle.stage.specs.declared.Counted.the-variants.{Misfit}
+use Rattle.stage.specs.declared.Place.the-variants as place
 use Rattle.stage.specs.declared.Suited.the-variants as suited
 use Rattle.stage.specs.declared.Size.the-variants.{Right, Wrong}
 use Rattle.value.specs.Values.{prcValue, rrcValue, udreValue, cn0Value}
@@ -106,11 +106,12 @@ carries-its-number = record {
   frame-widths = λ f. told saysWidths (λ n. Outside) Within tt refl refl refl;
   clock-of = λ z. told saysClock (λ n. Late) Hour tt refl refl refl;
   asked-of = λ l kind. told saysAsked (λ n. Other) Same tt refl refl refl;
-  entries-in = λ w n. told saysCounted (λ m. Misfit) _ _ refl refl refl;
   count-in = λ l w f. told saysCount count.Refused _ _ refl refl refl;
+  entry-place = λ l w f i. told saysPlace place.Refused _ _ refl refl refl;
   size-of = λ wanted n. told saysSize (λ m. Wrong) Right tt refl refl refl;
   suits = λ l h. told saysSuited suited.Refused suited.Yes tt refl refl refl;
   suits-with = λ l h most c. told saysSuited suited.Refused suited.Yes tt refl refl refl;
+  make-list = λ l most pattern h c r. told saysMade refusedMade _ _ refl refl refl;
   prc-mm = λ scale prc. ordered ((ltb 1 scale, 10) ∷ []) (prcValue scale prc) (prc-says scale prc) refl refl;
   rrc-mm-s = λ scale rrc. ordered ((ltb 1 scale, 10) ∷ []) (rrcValue scale rrc) (rrc-says scale rrc) refl refl;
   udre-limit = λ s udre. ordered ((stateOutside s, 5) ∷ (ltb 3 udre, 10) ∷ []) (udreValue s udre) (udre-says s udre) refl refl;

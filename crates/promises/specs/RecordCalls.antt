@@ -2,9 +2,10 @@
 use Prim.Native.Nat.{_%_}
 use denote.Ref.{now}
 use Rattle.pack.specs.Packing.{fieldIn, emptyPacker, pushed, filledUp}
+use Rattle.pack.specs.Tables.{row, fieldsIn, noRows, putRow}
 use Rattle.bits.specs.Signed.{signed as signedOf, code as codeOf}
 use Rattle.pack.specs.Satellites.{satelliteOf}
-use Rattle.stage.specs.Stages.{askedOf, entriesIn, countBy, sizeOf, suitedBy, suitedWith, refusedMade}
+use Rattle.stage.specs.Stages.{askedOf, countBy, placeBy, sizeOf, suitedBy, suitedWith, refusedMade, madeBy}
 use Rattle.corrections.specs.Corrections.{countCorrections, correctionAt, makeCorrections}
 use Rattle.healths.specs.Healths.{countHealths, healthAt, makeHealths}
 use Rattle.positions.specs.Positions.{readPosition, makePosition}
@@ -24,8 +25,13 @@ use Rattle.promises.specs.Answered.{Answered, AnsweredLent}
 pub record RecordCalls : Type 2 where
   -- pack
   pub pack-field : Answered pack.field.Reads.Asked pack.field.Reads.Learnt pack.field.Statement.statement (λ κs (words, (offset, (width, _))). fieldIn words offset width)
+  pub pack-fields : Answered pack.fields.Reads.Asked pack.fields.Reads.Learnt pack.fields.Statement.statement
+      (λ κs (words, (at, (widths, _))). row (fieldsIn words (now widths) at))
   pub pack-empty : Answered pack.empty.Reads.Asked pack.empty.Reads.Learnt pack.empty.Statement.statement (λ κs a. emptyPacker)
   pub pack-push : Answered pack.push.Reads.Asked pack.push.Reads.Learnt pack.push.Statement.statement (λ κs (packer, (width, (value, _))). pushed packer width value)
+  pub no-rows : Answered pack.no_rows.Reads.Asked pack.no_rows.Reads.Learnt pack.no_rows.Statement.statement (λ κs a. noRows)
+  pub put-row : Answered pack.put_row.Reads.Asked pack.put_row.Reads.Learnt pack.put_row.Statement.statement
+      (λ κs (rows, (values, (widths, (least, (most, _))))). putRow (now widths) (now least) (now most) values rows)
   pub fill-up : Answered pack.fill_up.Reads.Asked pack.fill_up.Reads.Learnt pack.fill_up.Statement.statement (λ κs (packer, (pattern, _)). filledUp pattern packer)
   pub signed8 : Answered pack.signed8.Reads.Asked pack.signed8.Reads.Learnt pack.signed8.Statement.statement (λ κs (n, _). signedOf 7 (n % 256))
   pub signed16 : Answered pack.signed16.Reads.Asked pack.signed16.Reads.Learnt pack.signed16.Statement.statement (λ κs (n, _). signedOf 15 (n % 65536))
@@ -36,12 +42,15 @@ pub record RecordCalls : Type 2 where
   pub satellite-of : Answered pack.satellite_of.Reads.Asked pack.satellite_of.Reads.Learnt pack.satellite_of.Statement.statement (λ κs (code, _). satelliteOf (code % 32))
   -- stage
   pub asked-of : Answered stage.asked_of.Reads.Asked stage.asked_of.Reads.Learnt stage.asked_of.Statement.statement (λ κs (layout, (kind, _)). askedOf layout kind)
-  pub entries-in : Answered stage.entries_in.Reads.Asked stage.entries_in.Reads.Learnt stage.entries_in.Statement.statement (λ κs (width, (n, _)). entriesIn width n)
   pub count-in : Answered stage.count_in.Reads.Asked stage.count_in.Reads.Learnt stage.count_in.Statement.statement (λ κs (layout, (width, (frame, _))). countBy layout width frame)
+  pub entry-place : Answered stage.entry_place.Reads.Asked stage.entry_place.Reads.Learnt stage.entry_place.Statement.statement
+      (λ κs (layout, (width, (frame, (index, _)))). placeBy layout width frame index)
   pub size-of : Answered stage.size_of.Reads.Asked stage.size_of.Reads.Learnt stage.size_of.Statement.statement (λ κs (wanted, (n, _)). sizeOf wanted n)
   pub suits : Answered stage.suits.Reads.Asked stage.suits.Reads.Learnt stage.suits.Statement.statement (λ κs (layout, (header, _)). suitedBy layout header)
   pub suits-with : Answered stage.suits_with.Reads.Asked stage.suits_with.Reads.Learnt stage.suits_with.Statement.statement (λ κs (layout, (header, (entries, (most, _)))). suitedWith layout header most entries)
   pub stage-refused : Answered stage.refused.Reads.Asked stage.refused.Reads.Learnt stage.refused.Statement.statement (λ κs (number, _). refusedMade number)
+  pub make-list : Answered stage.make_list.Reads.Asked stage.make_list.Reads.Learnt stage.make_list.Statement.statement
+      (λ κs (layout, (most, (fill, (header, (count, (rows, _)))))). madeBy layout most fill header count rows)
   -- corrections
   pub count-corrections : Answered corrections.count_corrections.Reads.Asked corrections.count_corrections.Reads.Learnt corrections.count_corrections.Statement.statement (λ κs (frame, _). countCorrections frame)
   pub correction-at : Answered corrections.correction_at.Reads.Asked corrections.correction_at.Reads.Learnt corrections.correction_at.Statement.statement (λ κs (frame, (index, _)). correctionAt frame index)

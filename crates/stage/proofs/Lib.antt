@@ -1,3 +1,3 @@
 pub mod StageLaws
 pub mod ListCode
-pub mod TableCode
+pub mod ListLaws

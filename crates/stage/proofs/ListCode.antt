@@ -6,8 +6,8 @@ use mathlib.Core.List.{[], _∷_}
 use Prim.Native.Nat.{ℕ, zero, suc, _+_, _*_, _/_, _≤_, _<_}
 use native.Mathlib.Nat.{div-zero, div-mul-le-self}
 use native.Mathlib.Omega.{arith}
-use lib.Dec.{ltb, leb, eqb}
-use borrow.Author.Tests.{lt-ltb, le-ltb, le-leb, lt-leb, eq-eqb, ne-eqb, eqb-true, eqb-false, ltb-false, not-false}
+use lib.Dec.{ltb, eqb}
+use borrow.Author.Tests.{lt-ltb, le-ltb, eq-eqb, ne-eqb, eqb-true, eqb-false, ltb-false, not-false}
 use Rattle.answer.specs.Order.{inOrder}
 use Rattle.answer.proofs.OrderLaws.{order-told}
 use Rattle.frame.proofs.WidthLaws.{both-false}
@@ -62,14 +62,6 @@ fitting w n e =
     }
 
 -- ---- the last checks
-
-module _ {A : Type 0} (refuse : ℕ → A) (answer : A) where
-  -- 9
-  pub read9 : (n i : ℕ) → n ≤ i → refuse 9 ≡ inOrder ((leb n i, 9) ∷ []) refuse answer
-  read9 n i h = rw (le-leb n i h)
-
-  pub read-entry : (n i : ℕ) → i < n → answer ≡ inOrder ((leb n i, 9) ∷ []) refuse answer
-  read-entry n i h = rw (lt-leb n i h)
 
 -- 12
 module _ {A : Type 0} (refuse : ℕ → A) (answer : A) (most c : ℕ) where

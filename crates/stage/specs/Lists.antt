@@ -4,7 +4,6 @@ use mathlib.Core.Path.{_≡_}
 use mathlib.Core.Bool.{Bool, false}
 use mathlib.Core.List.{List, [], _∷_}
 use Prim.Native.Nat.{ℕ, _+_, _*_, _/_, _≤_, _<_}
-use lib.Dec.{leb}
 use lib.ListN.{length, take, getD}
 use Rattle.answer.specs.Order.{inOrder}
 use Rattle.bits.specs.Fields.{span}
@@ -17,7 +16,7 @@ use Rattle.pack.specs.Coding.{Coding, frameBits, entryIn, frameWith}
 use Rattle.stage.specs.declared.Count.{Count}
 use Rattle.stage.specs.declared.Count.the-variants as count
 use Rattle.stage.specs.declared.Made.{Made}
-use Rattle.stage.specs.Stages.{countIn, misfit, wrongCount, countBy, readOrder, makeOrder, refusedMade, doneMade, HeaderFor, FrameFor}
+use Rattle.stage.specs.Stages.{wrongCount, countBy, entryOrder, makeOrder, refusedMade, doneMade, HeaderFor, FrameFor}
 
 module _ {A : Type 0} (asked : Layout) (k : Coding A) where
   -- COUNT: 5, 6, 7, 8
@@ -26,16 +25,12 @@ module _ {A : Type 0} (asked : Layout) (k : Coding A) where
 
   -- ENTRY: 5, 6, 7, 8, 9
   abbrev pub listEntry : {B : Type 0} → (ℕ → B) → (A → B) → Frame → ℕ → B
-  listEntry refuse entry f i =
-      inOrder (readOrder asked f (misfit (span (k .widths)) (f .n)) ((leb (countIn (span (k .widths)) (f .n)) i, 9) ∷ [])) refuse
-      (entry (entryIn k i (frameBits f)))
+  listEntry refuse entry f i = inOrder (entryOrder asked (span (k .widths)) f i []) refuse (entry (entryIn k i (frameBits f)))
 
-  -- ENTRY WITH A RANGE: 5, 6, 7, 8, 9, 10
+  -- ENTRY of a layout that has a range for reading too: 5, 6, 7, 8, 9, 10
   abbrev pub listRanged : {B : Type 0} → (A → Bool) → (ℕ → B) → (A → B) → Frame → ℕ → B
   listRanged out refuse entry f i =
-      inOrder (readOrder asked f (misfit (span (k .widths)) (f .n))
-      ((leb (countIn (span (k .widths)) (f .n)) i, 9) ∷ (out (entryIn k i (frameBits f)), 10) ∷ [])) refuse
-      (entry (entryIn k i (frameBits f)))
+      inOrder (entryOrder asked (span (k .widths)) f i ((out (entryIn k i (frameBits f)), 10) ∷ [])) refuse (entry (entryIn k i (frameBits f)))
 
   -- MAKING: 5, 6, 7, 12, 10; the entries past the count are not looked at
   abbrev pub listMade : (pattern most : ℕ) → (A → Bool) → Header → List A → ℕ → Made

@@ -24,10 +24,8 @@ use Rattle.stage.specs.declared.Size.{Size}
 use Rattle.stage.specs.declared.Size.the-variants.{Right, Wrong}
 use Rattle.stage.specs.declared.Indexed.{Indexed}
 use Rattle.stage.specs.declared.Indexed.the-variants.{Below, Past}
-use Rattle.stage.specs.declared.Ranged.{Ranged}
-use Rattle.stage.specs.declared.Ranged.the-variants.{Inside, Outside}
-use Rattle.stage.specs.declared.Placed.{Placed}
-use Rattle.stage.specs.declared.Placed.the-variants as placed
+use Rattle.stage.specs.declared.Place.{Place}
+use Rattle.stage.specs.declared.Place.the-variants as place
 use Rattle.stage.specs.declared.Count.{Count}
 use Rattle.stage.specs.declared.Count.the-variants as count
 use Rattle.stage.specs.declared.Suited.{Suited}
@@ -72,13 +70,10 @@ wrongSize wanted n = not (eqb n wanted)
 abbrev pub sizeOf : ℕ → ℕ → Size
 sizeOf wanted n = cond (wrongSize wanted n) Wrong Right
 
--- ---- refusal 9: no entry of this number; refusal 10: a number outside its range
+-- ---- refusal 9: the number of an entry is the count or more
 
 abbrev pub indexOf : ℕ → ℕ → Indexed
 indexOf count i = cond (leb count i) Past Below
-
-abbrev pub rangedOf : Bool → Ranged
-rangedOf out = cond out Outside Inside
 
 -- ---- the orders
 
@@ -90,9 +85,13 @@ readOrder asked f wrongN more = (outside f, 5) ∷ (otherLayout asked (f .header
 abbrev pub countBy : Layout → ℕ → Frame → Count
 countBy asked w f = inOrder (readOrder asked f (misfit w (f .n)) []) count.Refused (count.Of (countIn w (f .n)))
 
+-- reading entry number i of a list, w bits an entry: 5, 6, 7, 8, 9, then the layout's own
+abbrev pub entryOrder : Layout → ℕ → Frame → ℕ → List Check → List Check
+entryOrder asked w f i more = readOrder asked f (misfit w (f .n)) ((leb (countIn w (f .n)) i, 9) ∷ more)
+
 -- where entry number i of w bits starts in a frame of a layout: 5, 6, 7, 8, 9
-abbrev pub placedBy : Layout → ℕ → Frame → ℕ → Placed
-placedBy asked w f i = inOrder (readOrder asked f (misfit w (f .n)) ((leb (countIn w (f .n)) i, 9) ∷ [])) placed.Refused (placed.At (i * w))
+abbrev pub placeBy : Layout → ℕ → Frame → ℕ → Place
+placeBy asked w f i = inOrder (entryOrder asked w f i []) place.Refused (place.At (i * w))
 
 -- MAKING: 5, 6, 7, then the layout's own
 abbrev pub makeOrder : Layout → Header → List Check → List Check
@@ -116,10 +115,11 @@ refusedMade n = record { answer = making.Refused n; frame = blank }
 unfoldable pub doneMade : Frame → Made
 doneMade f = record { answer = making.Done; frame = f }
 
--- the frame of rows that are put, filled; and a frame made of them: 5, 6, 7, 12, 10
+-- the frame of what a packer holds, its last word filled by a pattern
 abbrev pub packedFrame : ℕ → Header → Packer → Frame
 packedFrame pattern h p = record { header = h; n = filledUp pattern p .at; words = filledUp pattern p .words }
 
+-- a frame made of the rows of c entries: 5, 6, 7, 12, 10
 abbrev pub madeBy : Layout → ℕ → ℕ → Header → ℕ → Rows → Made
 madeBy asked most pattern h c r =
     inOrder (makeOrder asked h ((wrongCount most c, 12) ∷ (r .out, 10) ∷ [])) refusedMade (doneMade (packedFrame pattern h (r .packer)))
@@ -150,25 +150,13 @@ abbrev pub saysAsked : Asked → Says (Unit {0})
 saysAsked Same = answers tt
 saysAsked Other = refuses 6
 
-abbrev pub saysCounted : Counted → Says ℕ
-saysCounted (Entries c) = answers c
-saysCounted Misfit = refuses 8
-
 abbrev pub saysSize : Size → Says (Unit {0})
 saysSize Right = answers tt
 saysSize Wrong = refuses 8
 
-abbrev pub saysIndexed : Indexed → Says (Unit {0})
-saysIndexed Below = answers tt
-saysIndexed Past = refuses 9
-
-abbrev pub saysRanged : Ranged → Says (Unit {0})
-saysRanged Inside = answers tt
-saysRanged Outside = refuses 10
-
-abbrev pub saysPlaced : Placed → Says ℕ
-saysPlaced (placed.At o) = answers o
-saysPlaced (placed.Refused n) = refuses n
+abbrev pub saysPlace : Place → Says ℕ
+saysPlace (place.At o) = answers o
+saysPlace (place.Refused n) = refuses n
 
 abbrev pub saysCount : Count → Says ℕ
 saysCount (count.Of c) = answers c

@@ -1,7 +1,8 @@
-// The stages that reading and making share, and their answers: the layout asked for, the entries that N words hold, a header to make a frame under,
-// a made frame.
+// The stages that reading and making share, and their answers: the layout asked for, the count of a list and the place of an entry, a header to
+// make a frame under, a frame made of rows.
 ghost use mathlib.Core.Path.{_≡_};
-ghost use Rattle.stage.specs.Stages.{layoutNumber, askedOf, entriesIn, countBy, sizeOf, suitedBy, suitedWith, refusedMade, indexOf, rangedOf, placedBy, madeBy};
+ghost use Rattle.stage.specs.Stages.{layoutNumber, askedOf, entriesIn, indexOf, countBy, placeBy, sizeOf};
+ghost use Rattle.stage.specs.Stages.{suitedBy, suitedWith, refusedMade, madeBy};
 use frame::Clock;
 use frame::Frame;
 use frame::Header;
@@ -16,7 +17,7 @@ pub enum Asked {
 }
 
 // How many entries N words hold; refusal 8 where N doesn't fit.
-pub enum Counted {
+enum Counted {
     Entries(usize),
     Misfit,
 }
@@ -27,20 +28,14 @@ pub enum Size {
     Wrong,
 }
 
-// Whether there is an entry of a number; none is refusal 9.
-pub enum Indexed {
+// Whether an entry's number is below the count; one past it is refusal 9.
+enum Indexed {
     Below,
     Past,
 }
 
-// Whether every number is in its range; one that is not is refusal 10.
-pub enum Ranged {
-    Inside,
-    Outside,
-}
-
 // The bit at which an entry starts, or the refusal's number.
-pub enum Placed {
+pub enum Place {
     At(u32),
     Refused(u8),
 }
@@ -95,7 +90,7 @@ pub fn asked_of(layout: Layout, kind: u8) -> Asked
 }
 
 // How many entries of `width` bits N words hold, where N is what they take and at most 31.
-pub fn entries_in(width: usize, n: usize) -> Counted
+fn entries_in(width: usize, n: usize) -> Counted
     ensures { λ r. ⌜ r ≡ entriesIn width n ⌝ }
 {
     if n > 31 {
@@ -134,8 +129,8 @@ pub fn count_in(layout: Layout, width: usize, frame: Frame) -> Count
     Count::Of(count)
 }
 
-// Whether there is an entry of this number.
-pub fn index_of(count: usize, index: usize) -> Indexed
+// Whether an entry's number is below the count.
+fn index_of(count: usize, index: usize) -> Indexed
     ensures { λ r. ⌜ r ≡ indexOf count index ⌝ }
 {
     if count <= index {
@@ -144,37 +139,27 @@ pub fn index_of(count: usize, index: usize) -> Indexed
     Indexed::Below
 }
 
-// Whether every number is in its range.
-pub fn ranged_of(out: bool) -> Ranged
-    ensures { λ r. ⌜ r ≡ rangedOf out ⌝ }
-{
-    if out {
-        return Ranged::Outside;
-    }
-    Ranged::Inside
-}
-
 // Where entry number `index` of `width` bits starts in a frame of a layout: 5, 6, 7, 8, 9.
-pub fn entry_in(layout: Layout, width: usize, frame: Frame, index: usize) -> Placed
-    ensures { λ r. ⌜ r ≡ placedBy layout width frame index ⌝ }
+pub fn entry_place(layout: Layout, width: usize, frame: Frame, index: usize) -> Place
+    ensures { λ r. ⌜ r ≡ placeBy layout width frame index ⌝ }
 {
     let Widths::Within = frame::frame_widths(frame) else {
-        return Placed::Refused(5);
+        return Place::Refused(5);
     };
     let header = frame.header;
     let Asked::Same = asked_of(layout, header.kind) else {
-        return Placed::Refused(6);
+        return Place::Refused(6);
     };
     let Clock::Hour = frame::clock_of(header.z) else {
-        return Placed::Refused(7);
+        return Place::Refused(7);
     };
     let Counted::Entries(count) = entries_in(width, frame.n) else {
-        return Placed::Refused(8);
+        return Place::Refused(8);
     };
     let Indexed::Below = index_of(count, index) else {
-        return Placed::Refused(9);
+        return Place::Refused(9);
     };
-    Placed::At((index * width) as u32)
+    Place::At((index * width) as u32)
 }
 
 // Whether N is the one that the type has.
@@ -230,7 +215,7 @@ pub fn refused(number: u8) -> Made
     }
 }
 
-// A frame of the rows of a list: 5, 6, 7, 12, 10.
+// A frame of the rows of a list's entries, the last word filled: 5, 6, 7, 12, 10.
 pub fn make_list(
     layout: Layout,
     most: usize,
@@ -245,9 +230,9 @@ pub fn make_list(
     if let Suited::Refused(n) = suited {
         return refused(n);
     }
-    let Ranged::Inside = ranged_of(rows.out) else {
+    if rows.out {
         return refused(10);
-    };
+    }
     let packer = rows.packer;
     let full = pack::fill_up(packer, fill);
     let words = full.words;

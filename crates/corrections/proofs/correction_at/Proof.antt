@@ -1,9 +1,10 @@
 -- `correction_at` meets its contract: the stages that every list shares, then the fields of the entry. Assumes nothing.
-use mathlib.Core.Path.{_≡_}
+use mathlib.Core.Path.{_≡_, refl}
+use mathlib.Core.Bool.{false}
 use lib.ListN.{length}
 use borrow.Author.Needs.{needs}
 use Rattle.frame.specs.declared.Layout.the-variants as layout
-use Rattle.stage.proofs.TableCode.{list-refused, list-read, placed-room}
+use Rattle.stage.proofs.ListLaws.{entry-refused, entry-read, placed-room}
 use Rattle.corrections.specs.Corrections.{coding, correctionAt}
 use Rattle.corrections.specs.declared.CorrectionRead.the-variants as read
 use Rattle.corrections.proofs.correction_at.Statement.{statement}
@@ -16,23 +17,23 @@ entry-from-requires : tie.Need-entry-from-requires
 entry-from-requires c κs =
     let p = c .before .before .before in
     let a = p .before .before .args in
-    placed-room layout.Correction 40 (a .frame) (a .index) (p .entry-in .result) (p .entry-in .ensures) _ (c .before .placed .given .1)
+    placed-room layout.Correction 40 (a .frame) (a .index) (p .entry-place .result) (p .entry-place .ensures) _ (c .before .place .given .1)
 
 returns : tie.Need-returns
 unfolding correctionAt
 returns c =
     let p = c .before .before .before .before in
     let a = p .before .before .args in
-    list-read layout.Correction coding read.Refused read.Entry (a .frame) (a .index) (p .entry-in .result) (p .entry-in .ensures) _
-    (c .before .before .placed .given .1) (full (p .before .before)) _ (c .entry-from .ensures)
+    entry-read layout.Correction coding (λ e. false) read.Refused read.Entry (a .frame) (a .index) (p .entry-place .result) (p .entry-place .ensures) _
+    (c .before .before .place .given .1) (full (p .before .before)) _ (c .entry-from .ensures) refl
 
 returns-2 : tie.Need-returns-2
 unfolding correctionAt
 returns-2 c =
     let p = c .before .before .before in
     let a = p .before .before .args in
-    list-refused layout.Correction coding read.Refused read.Entry (a .frame) (a .index) (p .entry-in .result) (p .entry-in .ensures) _
-    (c .before .placed2 .given .1)
+    entry-refused layout.Correction coding (λ e. false) read.Refused read.Entry (a .frame) (a .index) (p .entry-place .result) (p .entry-place .ensures) _
+    (c .before .place2 .given .1)
 
 pub correction-at-spec : {M : Type 1} → statement M
 correction-at-spec =

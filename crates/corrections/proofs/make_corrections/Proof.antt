@@ -5,7 +5,7 @@ use borrow.Author.Needs.{needs}
 use Rattle.frame.specs.declared.Layout.the-variants as layout
 use Rattle.pack.specs.Packing.{pushed}
 use Rattle.pack.proofs.TableLaws.{push-low}
-use Rattle.stage.proofs.TableCode.{rows-made}
+use Rattle.stage.proofs.ListLaws.{rows-made}
 use Rattle.corrections.specs.Corrections.{coding, fill, least, most, numbers, outOfRange, makeCorrections}
 use Rattle.corrections.proofs.make_corrections.Statement.{statement}
 use Rattle.corrections.proofs.make_corrections.Tie as tie

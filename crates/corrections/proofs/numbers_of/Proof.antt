@@ -1,5 +1,5 @@
 -- `numbers_of` meets its contract. Assumes nothing.
-use mathlib.Core.Path.{_≡_, ap₂}
+use mathlib.Core.Path.{ap₂}
 use mathlib.Core.List.{[], _∷_}
 use mir.Syntax.{w8, w16}
 use borrow.Author.Needs.{needs}

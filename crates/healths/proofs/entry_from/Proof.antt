@@ -16,7 +16,18 @@ fit : (c : tie.After-fields) (k : ℕ) → getD (c .fields .result) k 0 < 2 ^ ge
 fit c k = let a = c .before .before .args in fields-fit (a .words) widths (a .at) (c .fields .result) (c .fields .ensures) k
 
 held : (vs : List ℕ) (s : ℕ) → s ≡ satelliteOf (getD vs 1 0)
-    → record { reserved = getD vs 0 0; satellite = s; link = getD vs 2 0; health = getD vs 3 0; cn0 = getD vs 4 0; enable = getD vs 5 0; new_data = getD vs 6 0; loss = getD vs 7 0; time = getD vs 8 0; spare = getD vs 9 0 }
+    → record {
+      reserved = getD vs 0 0;
+      satellite = s;
+      link = getD vs 2 0;
+      health = getD vs 3 0;
+      cn0 = getD vs 4 0;
+      enable = getD vs 5 0;
+      new_data = getD vs 6 0;
+      loss = getD vs 7 0;
+      time = getD vs 8 0;
+      spare = getD vs 9 0;
+    }
     ≡ meant vs
 held vs s es = rw es
 

@@ -1,9 +1,10 @@
 -- `health_at` meets its contract: the stages that every list shares, then the fields of the entry. Assumes nothing.
-use mathlib.Core.Path.{_≡_}
+use mathlib.Core.Path.{_≡_, refl}
+use mathlib.Core.Bool.{false}
 use lib.ListN.{length}
 use borrow.Author.Needs.{needs}
 use Rattle.frame.specs.declared.Layout.the-variants as layout
-use Rattle.stage.proofs.TableCode.{list-refused, list-read, placed-room}
+use Rattle.stage.proofs.ListLaws.{entry-refused, entry-read, placed-room}
 use Rattle.healths.specs.Healths.{coding, healthAt}
 use Rattle.healths.specs.declared.HealthRead.the-variants as read
 use Rattle.healths.proofs.health_at.Statement.{statement}
@@ -16,23 +17,23 @@ entry-from-requires : tie.Need-entry-from-requires
 entry-from-requires c κs =
     let p = c .before .before .before in
     let a = p .before .before .args in
-    placed-room layout.Health 24 (a .frame) (a .index) (p .entry-in .result) (p .entry-in .ensures) _ (c .before .placed .given .1)
+    placed-room layout.Health 24 (a .frame) (a .index) (p .entry-place .result) (p .entry-place .ensures) _ (c .before .place .given .1)
 
 returns : tie.Need-returns
 unfolding healthAt
 returns c =
     let p = c .before .before .before .before in
     let a = p .before .before .args in
-    list-read layout.Health coding read.Refused read.Entry (a .frame) (a .index) (p .entry-in .result) (p .entry-in .ensures) _
-    (c .before .before .placed .given .1) (full (p .before .before)) _ (c .entry-from .ensures)
+    entry-read layout.Health coding (λ e. false) read.Refused read.Entry (a .frame) (a .index) (p .entry-place .result) (p .entry-place .ensures) _
+    (c .before .before .place .given .1) (full (p .before .before)) _ (c .entry-from .ensures) refl
 
 returns-2 : tie.Need-returns-2
 unfolding healthAt
 returns-2 c =
     let p = c .before .before .before in
     let a = p .before .before .args in
-    list-refused layout.Health coding read.Refused read.Entry (a .frame) (a .index) (p .entry-in .result) (p .entry-in .ensures) _
-    (c .before .placed2 .given .1)
+    entry-refused layout.Health coding (λ e. false) read.Refused read.Entry (a .frame) (a .index) (p .entry-place .result) (p .entry-place .ensures) _
+    (c .before .place2 .given .1)
 
 pub health-at-spec : {M : Type 1} → statement M
 health-at-spec =

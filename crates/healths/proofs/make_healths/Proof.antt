@@ -5,7 +5,7 @@ use borrow.Author.Needs.{needs}
 use Rattle.frame.specs.declared.Layout.the-variants as layout
 use Rattle.pack.specs.Packing.{pushed}
 use Rattle.pack.proofs.TableLaws.{push-low}
-use Rattle.stage.proofs.TableCode.{rows-made}
+use Rattle.stage.proofs.ListLaws.{rows-made}
 use Rattle.healths.specs.Healths.{coding, fill, least, most, numbers, outOfRange, makeHealths}
 use Rattle.healths.proofs.make_healths.Statement.{statement}
 use Rattle.healths.proofs.make_healths.Tie as tie

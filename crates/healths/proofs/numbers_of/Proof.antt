@@ -1,4 +1,5 @@
 -- `numbers_of` meets its contract. Assumes nothing.
+use mathlib.Core.Path.{refl}
 use native.Mathlib.Omega.{arith}
 use borrow.Author.Needs.{needs}
 use Rattle.healths.proofs.numbers_of.Statement.{statement}
@@ -11,4 +12,4 @@ pub numbers-of-spec : {M : Type 1} → statement M
 numbers-of-spec =
     tie.close
     (tie.spec (λ c. search needs) (λ c. search needs) (λ c. search needs) (λ c. search needs) (λ c. search needs) (λ c. search needs)
-    (λ c. search needs) (λ c. search needs) (λ c. search needs) cast-t11 (λ c. search needs))
+    (λ c. search needs) (λ c. search needs) (λ c. search needs) cast-t11 (λ c. refl))

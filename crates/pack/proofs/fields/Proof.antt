@@ -1,4 +1,5 @@
--- `fields` meets its contract: the places passed hold their fields, and the rest of the row is what the rest of the table reads. Assumes nothing.
+-- `fields` meets its contract: the places passed hold their fields, the others zeros, and the rest of the row is what the rest of the
+-- table reads. Assumes nothing.
 use mathlib.Core.Path.{_≡_, refl, sym, _∙_}
 use mathlib.Core.List.{[], _++_}
 use Prim.Native.Nat.{_+_, _*_, _-_, _≤_}
@@ -11,11 +12,14 @@ use Rattle.pack.proofs.fields.Statement.{statement}
 use Rattle.pack.proofs.fields.Tie as tie
 
 abbrev Inv-loop : tie.InvT-loop
-Inv-loop at widths words out₀ o₀ i₀ out o i = (i ≤ 12) × (o ≤ 4294967295 + i * 4294967295) × (length out ≡ 12) × (drop i out ≡ padded (12 - i) [])
-    × (row (fieldsIn words widths at) ≡ take i out ++ padded (12 - i) (fieldsIn words (drop i widths) o))
+Inv-loop at widths words out₀ next₀ i₀ out next i = (i ≤ 12)
+    × (next ≤ 4294967295 + i * 4294967295)
+    × (length out ≡ 12)
+    × (drop i out ≡ padded (12 - i) [])
+    × (row (fieldsIn words widths at) ≡ take i out ++ padded (12 - i) (fieldsIn words (drop i widths) next))
 
 abbrev μ-loop : tie.MeasureT-loop
-μ-loop at widths words out₀ o₀ i₀ out o i = 12 - i
+μ-loop at widths words out₀ next₀ i₀ out next i = 12 - i
 
 loop-holds : tie.Need-loop-holds Inv-loop μ-loop
 loop-holds c = (omega arith, omega arith, refl, refl, refl)
@@ -24,13 +28,13 @@ returns : tie.Need-returns Inv-loop μ-loop
 returns c =
     let l = c .before .before .loop in
     let a = c .before .before .before .before .args in
-    sym (l .inv .4 ∙ fields-none (a .t1) (a .widths .now) (l .out) (l .i) (l .o) (c .if1 .taken) (l .inv .3))
+    sym (l .inv .4 ∙ fields-none (a .t1) (a .widths .now) (l .out) (l .i) (l .next) (c .if1 .taken) (l .inv .3))
 
-cast-o : tie.Need-cast-o Inv-loop μ-loop
-cast-o c = let k = c .before .before in omega (arith, k .shared-slice-known2 .given (k .before .before .before .loop .i))
+cast-next : tie.Need-cast-next Inv-loop μ-loop
+cast-next c = let k = c .before .before in omega (arith, k .shared-slice-known2 .given (k .before .before .before .loop .i))
 
-add-o : tie.Need-add-o Inv-loop μ-loop
-add-o c = let k = c .before .before in omega (arith, k .shared-slice-known2 .given (k .before .before .before .loop .i))
+add-next : tie.Need-add-next Inv-loop μ-loop
+add-next c = let k = c .before .before in omega (arith, k .shared-slice-known2 .given (k .before .before .before .loop .i))
 
 loop-again : tie.Need-loop-again Inv-loop μ-loop
 loop-again c =
@@ -41,7 +45,7 @@ loop-again c =
       omega (arith, k .shared-slice-known2 .given (l .i)),
       length-set (l .out) (l .i) (c .field-of .result) ∙ l .inv .2,
       zeros-next (l .out) (l .i) (c .field-of .result) (omega arith) (l .inv .3),
-      l .inv .4 ∙ fields-next (a .t1) (a .widths .now) (l .out) (l .i) (l .o) _ (c .field-of .result) (omega arith) (l .inv .2) refl
+      l .inv .4 ∙ fields-next (a .t1) (a .widths .now) (l .out) (l .i) (l .next) _ (c .field-of .result) (omega arith) (l .inv .2) refl
           (c .field-of .ensures .0),
     )
 
@@ -49,10 +53,10 @@ returns-2 : tie.Need-returns-2 Inv-loop μ-loop
 returns-2 c =
     let a = c .before .before .before .args in
     let l = c .before .loop in
-    sym (l .inv .4 ∙ fields-end (a .t1) (a .widths .now) (l .out) (l .i) (l .o) (omega arith) (omega arith) (l .inv .2))
+    sym (l .inv .4 ∙ fields-end (a .t1) (a .widths .now) (l .out) (l .i) (l .next) (omega arith) (omega arith) (l .inv .2))
 
 pub fields-spec : {M : Type 1} → statement M
 fields-spec =
     tie.close
     (tie.spec Inv-loop μ-loop loop-holds returns (λ c. search needs) (λ c. omega arith) (λ c κs. search needs) (λ c. search needs)
-    (λ c. search needs) cast-o add-o (λ c. omega arith) (λ c. omega arith) loop-again returns-2)
+    (λ c. search needs) cast-next add-next (λ c. omega arith) (λ c. omega arith) loop-again returns-2)

@@ -1,13 +1,13 @@
 -- `push_all` meets its contract: what is left of the table is to be pushed after what is there. Assumes nothing.
 use mathlib.Core.Path.{_≡_, refl, sym, _∙_}
-use Prim.Native.Nat.{_+_, _-_, _≤_}
+use Prim.Native.Nat.{_-_, _≤_}
 use native.Mathlib.Omega.{arith}
 use lib.ListN.{length, drop}
 use borrow.Author.Needs.{needs}
 use Rattle.pack.specs.Packing.{pushedAll}
 use Rattle.pack.proofs.TableLaws.{push-next, push-end}
-use Rattle.pack.proofs.push_all.Statement.{statement}
-use Rattle.pack.proofs.push_all.Tie as tie
+use Rattle.pack.proofs.table.push_all.Statement.{statement}
+use Rattle.pack.proofs.table.push_all.Tie as tie
 
 abbrev Inv-loop : tie.InvT-loop
 Inv-loop widths values p₀ i₀ p i = (i ≤ length widths) × (pushedAll widths values p₀ ≡ pushedAll (drop i widths) (drop i values) p)

@@ -2,8 +2,8 @@
 use lib.Pow.{pow-pos}
 use borrow.Author.Needs.{needs}
 use Rattle.pack.proofs.PackCode.{shifted-one}
-use Rattle.pack.proofs.pow.Statement.{statement}
-use Rattle.pack.proofs.pow.Tie as tie
+use Rattle.pack.proofs.number.pow.Statement.{statement}
+use Rattle.pack.proofs.number.pow.Tie as tie
 
 returns : tie.Need-returns
 returns c = let e = shifted-one (c .args .k) (c .pre) in (e, rw e (pow-pos (c .args .k)))

@@ -1,13 +1,13 @@
 -- `row_out` meets its contract: the values passed are in their ranges. Assumes nothing.
 use mathlib.Core.Path.{_≡_, refl, sym, _∙_}
-use Prim.Native.Nat.{_+_, _-_, _≤_}
+use Prim.Native.Nat.{_-_, _≤_}
 use native.Mathlib.Omega.{arith}
 use lib.ListN.{length, drop}
 use borrow.Author.Needs.{needs}
 use Rattle.pack.specs.Tables.{rowOut}
 use Rattle.pack.proofs.TableLaws.{out-low, out-high, out-fine, out-end}
-use Rattle.pack.proofs.row_out.Statement.{statement}
-use Rattle.pack.proofs.row_out.Tie as tie
+use Rattle.pack.proofs.table.row_out.Statement.{statement}
+use Rattle.pack.proofs.table.row_out.Tie as tie
 
 abbrev Inv-loop : tie.InvT-loop
 Inv-loop least most values i₀ i = (i ≤ length most) × (rowOut least most values ≡ rowOut (drop i least) (drop i most) (drop i values))

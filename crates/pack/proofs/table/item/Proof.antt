@@ -2,8 +2,8 @@
 use mathlib.Core.Path.{sym}
 use borrow.Author.Needs.{needs}
 use lib.ListN.{List·getD-eq-default}
-use Rattle.pack.proofs.item.Statement.{statement}
-use Rattle.pack.proofs.item.Tie as tie
+use Rattle.pack.proofs.table.item.Statement.{statement}
+use Rattle.pack.proofs.table.item.Tie as tie
 
 returns : tie.Need-returns
 returns c = sym (List·getD-eq-default (c .before .args .table .now) 0 (c .if1 .taken))

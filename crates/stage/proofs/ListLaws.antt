@@ -1,9 +1,9 @@
--- THE LIST LAYOUTS, ONCE OVER ANY LAYOUT: an entry that is placed is the layout's entry, a refusal is its refusal, and a frame that is made
--- of rows is the layout's frame. Assumes nothing.
+-- LIST LAYOUTS, ONCE FOR ALL: an entry that is placed is the layout's entry, a refusal is its refusal, and a frame that is made of rows is
+-- the layout's frame. Assumes nothing.
 use mathlib.Core.Path.{_≡_, refl, sym, ap, ap₂, subst, _∙_}
 use mathlib.Core.Bool.{Bool, true, false, _||_, cond}
-use mathlib.Core.List.{List, [], _∷_, _++_, map}
-use Prim.Native.Nat.{ℕ, suc, _+_, _*_, _≤_, _<_}
+use mathlib.Core.List.{List, [], _∷_, map}
+use Prim.Native.Nat.{ℕ, suc, _+_, _*_, _≤_}
 use native.Mathlib.Nat.{suc-mul, mul-le-mul-right}
 use native.Mathlib.Omega.{arith}
 use lib.Dec.{leb}
@@ -27,16 +27,15 @@ use Rattle.pack.proofs.Holds.{Narrow}
 use Rattle.pack.proofs.TableLaws.{rows-put}
 use Rattle.pack.proofs.Making.{fields-frame, packed-frame}
 use Rattle.stage.specs.declared.Indexed.the-variants.{Below, Past}
-use Rattle.stage.specs.declared.Ranged.the-variants.{Inside, Outside}
-use Rattle.stage.specs.declared.Placed.{Placed}
-use Rattle.stage.specs.declared.Placed.the-variants as placed
+use Rattle.stage.specs.declared.Place.{Place}
+use Rattle.stage.specs.declared.Place.the-variants as place
 use Rattle.stage.specs.declared.Made.{Made}
-use Rattle.stage.specs.Stages.{countIn, misfit, wrongCount, readOrder, makeOrder, placedBy, packedFrame, madeBy, refusedMade, doneMade}
-use Rattle.stage.specs.Lists.{listEntry, listRanged, listMade}
+use Rattle.stage.specs.Stages.{countIn, wrongCount, entryOrder, makeOrder, placeBy, packedFrame, madeBy, refusedMade, doneMade}
+use Rattle.stage.specs.Lists.{listRanged, listMade}
 use Rattle.stage.proofs.StageLaws.{last-wrong, last-fine}
 use Rattle.stage.proofs.ListCode.{held-le, told-some-few}
 
--- ---- what 9 and 10 say of their checks
+-- ---- what the stage of 9 says of its check
 
 pub told-past : (b : Bool) → Past ≡ cond b Past Below → b ≡ true
 told-past true e = refl
@@ -46,48 +45,38 @@ pub told-below : (b : Bool) → Below ≡ cond b Past Below → b ≡ false
 told-below true e = let q : _≡_ {A = ℕ} 0 1 = cc in absurd (omega arith)
 told-below false e = refl
 
-pub told-outside : (b : Bool) → Outside ≡ cond b Outside Inside → b ≡ true
-told-outside true e = refl
-told-outside false e = let q : _≡_ {A = ℕ} 0 1 = cc in absurd (omega arith)
-
-pub told-inside : (b : Bool) → Inside ≡ cond b Outside Inside → b ≡ false
-told-inside true e = let q : _≡_ {A = ℕ} 0 1 = cc in absurd (omega arith)
-told-inside false e = refl
-
 -- ---- READING
 
--- an entry of the words that there are lies in them
-pub entry-room : (w n i : ℕ) → leb (countIn w n) i ≡ false → n ≤ 31 → i * w + w ≤ 24 * n
-entry-room w n i e h =
+-- an entry below the count of N words lies in them
+pub entry-room : (w n i : ℕ) → leb (countIn w n) i ≡ false → i * w + w ≤ 24 * n
+entry-room w n i e =
     omega (arith, held-le w n, suc-mul i w, mul-le-mul-right {m = suc i} {n = countIn w n} w (leb-false (countIn w n) i e))
 
-abbrev onPlaced : {B : Type 0} → (ℕ → B) → B → Placed → B
-onPlaced refuse answer (placed.At o) = answer
-onPlaced refuse answer (placed.Refused n) = refuse n
+abbrev onPlace : {B : Type 0} → (ℕ → B) → B → Place → B
+onPlace refuse answer (place.At o) = answer
+onPlace refuse answer (place.Refused n) = refuse n
 
-module _ (l : Layout) (w : ℕ) (f : Frame) (i : ℕ) (s : Placed) (is : s ≡ placedBy l w f i) where
-  abbrev nine : List Check
-  nine = readOrder l f (misfit w (f .n)) ((leb (countIn w (f .n)) i, 9) ∷ [])
-
-  -- a refusal is the layout's, whatever it checks after 9
+module _ (l : Layout) (w : ℕ) (f : Frame) (i : ℕ) (s : Place) (is : s ≡ placeBy l w f i) where
+  -- a refusal is the layout's, and so is what it checks after 9
   module _ {B : Type 0} (more : List Check) (refuse : ℕ → B) (answer : B) where
-    after-placed : inOrder (nine ++ more) refuse answer ≡ onPlaced refuse (inOrder more refuse answer) s
-    after-placed =
-        order-append nine more refuse answer ∙ sym (order-map (onPlaced refuse (inOrder more refuse answer)) nine placed.Refused (placed.At (i * w)))
-        ∙ ap (onPlaced refuse (inOrder more refuse answer)) (sym is)
+    after-place : inOrder (entryOrder l w f i more) refuse answer ≡ onPlace refuse (inOrder more refuse answer) s
+    after-place =
+        order-append (entryOrder l w f i []) more refuse answer
+        ∙ sym (order-map (onPlace refuse (inOrder more refuse answer)) (entryOrder l w f i []) place.Refused (place.At (i * w)))
+        ∙ ap (onPlace refuse (inOrder more refuse answer)) (sym is)
 
-    pub entry-refused : (n : ℕ) → s ≡ placed.Refused n → refuse n ≡ inOrder (nine ++ more) refuse answer
-    entry-refused n e = sym (after-placed ∙ ap (onPlaced refuse (inOrder more refuse answer)) e)
+    not-placed : (n : ℕ) → s ≡ place.Refused n → refuse n ≡ inOrder (entryOrder l w f i more) refuse answer
+    not-placed n e = sym (after-place ∙ ap (onPlace refuse (inOrder more refuse answer)) e)
 
-    pub entry-on : (o : ℕ) → s ≡ placed.At o → inOrder more refuse answer ≡ inOrder (nine ++ more) refuse answer
-    entry-on o e = sym (after-placed ∙ ap (onPlaced refuse (inOrder more refuse answer)) e)
+    placed-on : (o : ℕ) → s ≡ place.At o → inOrder more refuse answer ≡ inOrder (entryOrder l w f i more) refuse answer
+    placed-on o e = sym (after-place ∙ ap (onPlace refuse (inOrder more refuse answer)) e)
 
   -- what is placed lies in the words
-  module _ (o : ℕ) (e : s ≡ placed.At o) where
-    told : NoneApplies nine × (placed.At (i * w) ≡ placed.At o)
-    told = order-told placed.Refused (placed.At (i * w)) (placed.At o) apart nine (sym is ∙ e)
+  module _ (o : ℕ) (e : s ≡ place.At o) where
+    told : NoneApplies (entryOrder l w f i []) × (place.At (i * w) ≡ place.At o)
+    told = order-told place.Refused (place.At (i * w)) (place.At o) apart (entryOrder l w f i []) (sym is ∙ e)
       where
-        apart : (n : ℕ) → placed.Refused n ≡ placed.At o → ⊥
+        apart : (n : ℕ) → place.Refused n ≡ place.At o → ⊥
         apart n q = let z : _≡_ {A = ℕ} 0 1 = cc in omega arith
 
     at-is : i * w ≡ o
@@ -97,47 +86,45 @@ module _ (l : Layout) (w : ℕ) (f : Frame) (i : ℕ) (s : Placed) (is : s ≡ p
     inside = told .0 .0
 
     room : o + w ≤ 24 * f .n
-    room = subst (λ n. n + w ≤ 24 * f .n) at-is (entry-room w (f .n) i (told .0 .1 .1 .1 .1 .0) (n-within f inside))
+    room = subst (λ n. n + w ≤ 24 * f .n) at-is (entry-room w (f .n) i (told .0 .1 .1 .1 .1 .0))
 
     pub placed-room : o + w ≤ 744
     placed-room = omega (arith, room, n-within f inside)
 
     -- its fields are those of the frame's bits
-    pub entry-is : {A : Type 0} (k : Coding A) → span (k .widths) ≡ w → length (f .words) ≡ 31
+    placed-is : {A : Type 0} (k : Coding A) → span (k .widths) ≡ w → length (f .words) ≡ 31
         → k .meant (fieldsAt (k .widths) o (dataBits (f .words))) ≡ entryIn k i (frameBits f)
-    entry-is k size full =
+    placed-is k size full =
         ap (k .meant) (fields-frame (k .widths) o f inside full (omega (arith, room, size)))
         ∙ ap (λ n. k .meant (fieldsAt (k .widths) n (frameBits f))) (sym at-is ∙ ap (λ n. i * n) (sym size))
 
--- AN ENTRY, by number, is the layout's: what is placed, with the fields that stand there, and with its ranges where the layout has them for reading
-module _ {A B : Type 0} (l : Layout) (k : Coding A) (refuse : ℕ → B) (entry : A → B) (f : Frame) (i : ℕ) (s : Placed)
-    (is : s ≡ placedBy l (span (k .widths)) f i) where
+-- AN ENTRY BY NUMBER is the layout's: refused, or placed and read there, then held to its range; a layout without a range for reading has
+-- `λ x. false` for it, and its `listEntry`
+module _ {A B : Type 0} (l : Layout) (k : Coding A) (out : A → Bool) (refuse : ℕ → B) (entry : A → B) (f : Frame) (i : ℕ) (s : Place)
+    (is : s ≡ placeBy l (span (k .widths)) f i) where
   abbrev given : A
   given = entryIn k i (frameBits f)
 
-  pub list-refused : (n : ℕ) → s ≡ placed.Refused n → refuse n ≡ listEntry l k refuse entry f i
-  list-refused n e = entry-refused l (span (k .widths)) f i s is [] refuse (entry given) n e
+  abbrev last : List Check
+  last = (out given, 10) ∷ []
 
-  pub ranged-refused : (out : A → Bool) (n : ℕ) → s ≡ placed.Refused n → refuse n ≡ listRanged l k out refuse entry f i
-  ranged-refused out n e = entry-refused l (span (k .widths)) f i s is ((out given, 10) ∷ []) refuse (entry given) n e
+  pub entry-refused : (n : ℕ) → s ≡ place.Refused n → refuse n ≡ listRanged l k out refuse entry f i
+  entry-refused n e = not-placed l (span (k .widths)) f i s is last refuse (entry given) n e
 
-  module _ (o : ℕ) (e : s ≡ placed.At o) (full : length (f .words) ≡ 31) (x : A)
+  module _ (o : ℕ) (e : s ≡ place.At o) (full : length (f .words) ≡ 31) (x : A)
       (ex : x ≡ k .meant (fieldsAt (k .widths) o (dataBits (f .words)))) where
     x-is : x ≡ given
-    x-is = ex ∙ entry-is l (span (k .widths)) f i s is o e k refl full
+    x-is = ex ∙ placed-is l (span (k .widths)) f i s is o e k refl full
 
-    pub list-read : entry x ≡ listEntry l k refuse entry f i
-    list-read = ap entry x-is ∙ entry-on l (span (k .widths)) f i s is [] refuse (entry given) o e
-
-    pub ranged-out : (out : A → Bool) → out x ≡ true → refuse 10 ≡ listRanged l k out refuse entry f i
-    ranged-out out t =
+    pub entry-out : out x ≡ true → refuse 10 ≡ listRanged l k out refuse entry f i
+    entry-out t =
         last-wrong refuse (entry given) (out given) 10 (ap out (sym x-is) ∙ t)
-        ∙ entry-on l (span (k .widths)) f i s is ((out given, 10) ∷ []) refuse (entry given) o e
+        ∙ placed-on l (span (k .widths)) f i s is last refuse (entry given) o e
 
-    pub ranged-read : (out : A → Bool) → out x ≡ false → entry x ≡ listRanged l k out refuse entry f i
-    ranged-read out t =
+    pub entry-read : out x ≡ false → entry x ≡ listRanged l k out refuse entry f i
+    entry-read t =
         ap entry x-is ∙ last-fine refuse (entry given) (out given) 10 (ap out (sym x-is) ∙ t)
-        ∙ entry-on l (span (k .widths)) f i s is ((out given, 10) ∷ []) refuse (entry given) o e
+        ∙ placed-on l (span (k .widths)) f i s is last refuse (entry given) o e
 
 -- ---- MAKING
 

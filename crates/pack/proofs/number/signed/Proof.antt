@@ -3,8 +3,8 @@ use Prim.Native.Nat.{_^_, _≤_, _<_}
 use native.Mathlib.Omega.{arith}
 use borrow.Author.Needs.{needs}
 use Rattle.pack.proofs.SignedCode.{signed-low, power-fits, apart-fits, signed-high}
-use Rattle.pack.proofs.signed.Statement.{statement}
-use Rattle.pack.proofs.signed.Tie as tie
+use Rattle.pack.proofs.number.signed.Statement.{statement}
+use Rattle.pack.proofs.number.signed.Tie as tie
 
 below : (c : tie.Then1) → c .before .before .before .args .n < 2 ^ c .before .before .before .args .half
 below c = omega (arith, c .before .pow .ensures .0)

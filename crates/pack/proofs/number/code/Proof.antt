@@ -7,8 +7,8 @@ use mir.Val.{toZ, ofZ}
 use borrow.Author.Needs.{needs}
 use Rattle.bits.specs.Signed.{code}
 use Rattle.pack.proofs.SignedCode.{sum-fits, cast-ok, cast-is, code-below, code-neg, code-pos, power}
-use Rattle.pack.proofs.code.Statement.{statement}
-use Rattle.pack.proofs.code.Tie as tie
+use Rattle.pack.proofs.number.code.Statement.{statement}
+use Rattle.pack.proofs.number.code.Tie as tie
 
 sum : (c : tie.After-pow)
     → toZ w64 (ofZ w64 (c .before .before .args .z)) +ℤ toZ w64 (c .pow .result) ≡ pos
