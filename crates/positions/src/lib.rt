@@ -5,6 +5,7 @@ ghost use Rattle.bits.specs.Fields.{fieldsAt};
 ghost use Rattle.bits.specs.Rows.{dataBits};
 ghost use Rattle.pack.specs.Packing.{emptyPacker, pushedRows, filledUp};
 ghost use Rattle.pack.specs.Coding.{rowsOf};
+ghost use Rattle.stage.specs.Stages.{rangedOf};
 ghost use Rattle.positions.specs.Positions.{widths, meant, coding, fill, tooLow, outOfRange, readPosition, makePosition};
 use frame::Clock;
 use frame::Frame;
@@ -15,6 +16,7 @@ use pack::Packer;
 use stage::Asked;
 use stage::Made;
 use stage::Making;
+use stage::Ranged;
 use stage::Size;
 use stage::Suited;
 
@@ -51,6 +53,16 @@ fn out_of_range(position: Position) -> bool
     too_low(position.z)
 }
 
+// Whether all three are in their range.
+fn range_of(position: Position) -> Ranged
+    ensures { λ r. ⌜ r ≡ rangedOf (outOfRange position) ⌝ }
+{
+    if out_of_range(position) {
+        return Ranged::Outside;
+    }
+    Ranged::Inside
+}
+
 // The three numbers of the first 96 bits.
 fn position_from(words: [u32; 31]) -> Position
     ensures { λ r. ⌜ r ≡ meant (fieldsAt widths 0 (dataBits words)) ⌝ }
@@ -80,9 +92,9 @@ pub fn read_position(frame: Frame) -> PositionRead
     };
     let words = frame.words;
     let position = position_from(words);
-    if out_of_range(position) {
+    let Ranged::Inside = range_of(position) else {
         return PositionRead::Refused(10);
-    }
+    };
     PositionRead::At(position)
 }
 

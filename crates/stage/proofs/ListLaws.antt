@@ -1,7 +1,7 @@
 -- LIST LAYOUTS, ONCE FOR ALL: an entry that is placed is the layout's entry, a refusal is its refusal, and a frame that is made of rows is
 -- the layout's frame. Assumes nothing.
 use mathlib.Core.Path.{_≡_, refl, sym, ap, ap₂, subst, _∙_}
-use mathlib.Core.Bool.{Bool, true, false, _||_, cond}
+use mathlib.Core.Bool.{Bool, true, false, _||_}
 use mathlib.Core.List.{List, [], _∷_, map}
 use Prim.Native.Nat.{ℕ, suc, _+_, _*_, _≤_}
 use native.Mathlib.Nat.{suc-mul, mul-le-mul-right}
@@ -26,7 +26,6 @@ use Rattle.pack.specs.Coding.{Coding, frameBits, entryIn, rowsOf, frameWith}
 use Rattle.pack.proofs.Holds.{Narrow}
 use Rattle.pack.proofs.TableLaws.{rows-put}
 use Rattle.pack.proofs.Making.{fields-frame, packed-frame}
-use Rattle.stage.specs.declared.Indexed.the-variants.{Below, Past}
 use Rattle.stage.specs.declared.Place.{Place}
 use Rattle.stage.specs.declared.Place.the-variants as place
 use Rattle.stage.specs.declared.Made.{Made}
@@ -34,16 +33,6 @@ use Rattle.stage.specs.Stages.{countIn, wrongCount, entryOrder, makeOrde
 use Rattle.stage.specs.Lists.{listRanged, listMade}
 use Rattle.stage.proofs.StageLaws.{last-wrong, last-fine}
 use Rattle.stage.proofs.ListCode.{held-le, told-some-few}
-
--- ---- what the stage of 9 says of its check
-
-pub told-past : (b : Bool) → Past ≡ cond b Past Below → b ≡ true
-told-past true e = refl
-told-past false e = let q : _≡_ {A = ℕ} 0 1 = cc in absurd (omega arith)
-
-pub told-below : (b : Bool) → Below ≡ cond b Past Below → b ≡ false
-told-below true e = let q : _≡_ {A = ℕ} 0 1 = cc in absurd (omega arith)
-told-below false e = refl
 
 -- ---- READING
 

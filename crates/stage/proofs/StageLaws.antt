@@ -20,10 +20,12 @@ use Rattle.frame.specs.declared.Clock.the-variants.{Hour, Late}
 use Rattle.stage.specs.declared.Asked.the-variants.{Same, Other}
 use Rattle.stage.specs.declared.Counted.the-variants.{Entries, Misfit}
 use Rattle.stage.specs.declared.Size.the-variants.{Right, Wrong}
+use Rattle.stage.specs.declared.Indexed.the-variants.{Below, Past}
+use Rattle.stage.specs.declared.Ranged.the-variants as ranged
 use Rattle.stage.specs.declared.Suited.{Suited}
 use Rattle.stage.specs.declared.Suited.the-variants as suited
 use Rattle.stage.specs.declared.Count.the-variants as count
-use Rattle.stage.specs.Stages.{layoutNumber, otherLayout, askedOf, readOrder, makeOrder, refusedMade, doneMade}
+use Rattle.stage.specs.Stages.{layoutNumber, otherLayout, askedOf, rangedOf, readOrder, makeOrder, refusedMade, doneMade}
 
 -- ---- what a stage's answer says of its check
 
@@ -50,6 +52,22 @@ told-wrong false e = let q : _≡_ {A = ℕ} 0 1 = cc in absurd (omega arith)
 pub told-right : (b : Bool) → Right ≡ cond b Wrong Right → b ≡ false
 told-right true e = let q : _≡_ {A = ℕ} 0 1 = cc in absurd (omega arith)
 told-right false e = refl
+
+pub told-past : (b : Bool) → Past ≡ cond b Past Below → b ≡ true
+told-past true e = refl
+told-past false e = let q : _≡_ {A = ℕ} 0 1 = cc in absurd (omega arith)
+
+pub told-below : (b : Bool) → Below ≡ cond b Past Below → b ≡ false
+told-below true e = let q : _≡_ {A = ℕ} 0 1 = cc in absurd (omega arith)
+told-below false e = refl
+
+pub told-out : (b : Bool) → ranged.Outside ≡ rangedOf b → b ≡ true
+told-out true e = refl
+told-out false e = let q : _≡_ {A = ℕ} 0 1 = cc in absurd (omega arith)
+
+pub told-in : (b : Bool) → ranged.Inside ≡ rangedOf b → b ≡ false
+told-in true e = let q : _≡_ {A = ℕ} 0 1 = cc in absurd (omega arith)
+told-in false e = refl
 
 -- ---- the layout asked for
 

@@ -24,6 +24,8 @@ use Rattle.stage.specs.declared.Size.{Size}
 use Rattle.stage.specs.declared.Size.the-variants.{Right, Wrong}
 use Rattle.stage.specs.declared.Indexed.{Indexed}
 use Rattle.stage.specs.declared.Indexed.the-variants.{Below, Past}
+use Rattle.stage.specs.declared.Ranged.{Ranged}
+use Rattle.stage.specs.declared.Ranged.the-variants.{Inside, Outside}
 use Rattle.stage.specs.declared.Place.{Place}
 use Rattle.stage.specs.declared.Place.the-variants as place
 use Rattle.stage.specs.declared.Count.{Count}
@@ -74,6 +76,11 @@ sizeOf wanted n = cond (wrongSize wanted n) Wrong Right
 
 abbrev pub indexOf : ℕ → ℕ → Indexed
 indexOf count i = cond (leb count i) Past Below
+
+-- ---- refusal 10 when reading: a number is outside its range
+
+abbrev pub rangedOf : Bool → Ranged
+rangedOf out = cond out Outside Inside
 
 -- ---- the orders
 

@@ -34,6 +34,12 @@ enum Indexed {
     Past,
 }
 
+// Whether every number of a record is in its range; one that is not is refusal 10.
+pub enum Ranged {
+    Inside,
+    Outside,
+}
+
 // The bit at which an entry starts, or the refusal's number.
 pub enum Place {
     At(u32),

@@ -10,7 +10,7 @@ use native.Mathlib.Omega.{arith}
 use lib.Dec.{ltb, eqb}
 use lib.ListN.{length, take, drop, getD, set, length-map, length-append, length-take, length-drop}
 use lib.Seq.{drop-cons, take-suc, set-at, length-take-le}
-use borrow.Author.Tests.{ltb-false, eqb-true, eqb-false, lt-ltb, le-ltb, eq-eqb, ne-eqb}
+use borrow.Author.Tests.{ltb-false, eqb-true, eqb-false, eq-eqb, ne-eqb}
 use Rattle.answer.specs.Order.{Check, inOrder}
 use Rattle.bits.specs.Fields.{fieldsAt}
 use Rattle.bits.specs.Rows.{dataBits, rowsAt}
@@ -31,6 +31,8 @@ use Rattle.stage.specs.declared.Count.{Count}
 use Rattle.stage.specs.declared.Count.the-variants as count
 use Rattle.stage.specs.Stages.{askedOf}
 use Rattle.stage.proofs.StageLaws.{read5, read6, read7, read8, read-on}
+use Rattle.texts.specs.declared.Characters.the-variants.{Permitted, Forbidden}
+use Rattle.texts.specs.declared.Room.the-variants.{Enough, Short}
 use Rattle.texts.specs.Texts.{widths, meant, coding, characters, textLength, lengthIn, textIn, wrongWords, forbidden, textOrder, readText, bufferAfter}
 
 -- ---- characters of bits
@@ -134,7 +136,23 @@ some-words n e = let s = both-false (eqb n 0) (ltb 30 n) e in (positive n (eqb-f
     positive zero z = absurd (z refl)
     positive (suc m) z = omega arith
 
--- ---- the last checks of making, 12 and 11
+-- ---- what the stages of 11 and 13 say of their checks
+
+pub told-forbidden : (b : Bool) → Forbidden ≡ cond b Forbidden Permitted → b ≡ true
+told-forbidden true e = refl
+told-forbidden false e = let q : _≡_ {A = ℕ} 0 1 = cc in absurd (omega arith)
+
+pub told-permitted : (b : Bool) → Permitted ≡ cond b Forbidden Permitted → b ≡ false
+told-permitted true e = let q : _≡_ {A = ℕ} 0 1 = cc in absurd (omega arith)
+told-permitted false e = refl
+
+pub told-short : (b : Bool) → Short ≡ cond b Short Enough → b ≡ true
+told-short true e = refl
+told-short false e = let q : _≡_ {A = ℕ} 0 1 = cc in absurd (omega arith)
+
+pub told-enough : (b : Bool) → Enough ≡ cond b Short Enough → b ≡ false
+told-enough true e = let q : _≡_ {A = ℕ} 0 1 = cc in absurd (omega arith)
+told-enough false e = refl
 
 -- ---- the answers of reading, with the buffer
 
@@ -177,13 +195,13 @@ module _ (f : Frame) (buffer : List ℕ) where
               at refuse answer = rw b
 
           module _ (b : anyOf forbidden (textIn f) ≡ false) where
-            pub text13 : length buffer < lengthIn f → Answers (count.Refused 13) buffer
+            pub text13 : ltb (length buffer) (lengthIn f) ≡ true → Answers (count.Refused 13) buffer
             text13 l = refuses 13 (λ A refuse answer. at refuse answer ∙ left refuse answer)
               where
                 at : {A : Type 0} (refuse : ℕ → A) (answer : A) → refuse 13 ≡ inOrder last refuse answer
-                at refuse answer = rw (b, lt-ltb (length buffer) (lengthIn f) l)
+                at refuse answer = rw (b, l)
 
-            pub text-done : lengthIn f ≤ length buffer → Answers (count.Of (lengthIn f)) (textIn f ++ drop (lengthIn f) buffer)
+            pub text-done : ltb (length buffer) (lengthIn f) ≡ false → Answers (count.Of (lengthIn f)) (textIn f ++ drop (lengthIn f) buffer)
             unfolding readText bufferAfter
             text-done l = (
               at count.Refused (count.Of (lengthIn f)) ∙ left count.Refused (count.Of (lengthIn f)),
@@ -191,4 +209,4 @@ module _ (f : Frame) (buffer : List ℕ) where
             )
               where
                 at : {A : Type 0} (refuse : ℕ → A) (answer : A) → answer ≡ inOrder last refuse answer
-                at refuse answer = rw (b, le-ltb (length buffer) (lengthIn f) l)
+                at refuse answer = rw (b, l)

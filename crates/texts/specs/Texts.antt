@@ -17,6 +17,10 @@ use Rattle.stage.specs.declared.Size.the-variants.{Right, Wrong}
 use Rattle.stage.specs.declared.Count.{Count}
 use Rattle.stage.specs.declared.Count.the-variants as count
 use Rattle.stage.specs.declared.Made.{Made}
+use Rattle.texts.specs.declared.Characters.{Characters}
+use Rattle.texts.specs.declared.Characters.the-variants.{Permitted, Forbidden}
+use Rattle.texts.specs.declared.Room.{Room}
+use Rattle.texts.specs.declared.Room.the-variants.{Enough, Short}
 use Rattle.stage.specs.Stages.{wrongCount, readOrder, makeOrder, refusedMade, doneMade, HeaderFor, FrameFor}
 
 -- THE LAYOUT: a character is 8 bits, three a word
@@ -60,6 +64,13 @@ wordsSize n = cond (wrongWords n) Wrong Right
 -- REFUSAL 11: a character not 1 to 127
 abbrev pub forbidden : ℕ → Bool
 forbidden c = ltb c 1 || ltb 127 c
+
+abbrev pub charactersOf : List ℕ → Characters
+charactersOf t = cond (anyOf forbidden t) Forbidden Permitted
+
+-- REFUSAL 13: a buffer shorter than the text
+abbrev pub roomOf : ℕ → ℕ → Room
+roomOf size count = cond (ltb size count) Short Enough
 
 -- ---- the answers
 

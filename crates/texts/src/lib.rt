@@ -7,7 +7,8 @@ ghost use Rattle.bits.specs.Rows.{dataBits};
 ghost use Rattle.frame.specs.Widths.{anyOf};
 ghost use Rattle.pack.specs.Packing.{emptyPacker, pushedRows, filledUp};
 ghost use Rattle.pack.specs.Coding.{entryIn, rowsOf};
-ghost use Rattle.texts.specs.Texts.{widths, coding, fill, characters, textLength, wordsSize, forbidden, readText, bufferAfter, makeText};
+ghost use Rattle.texts.specs.Texts.{widths, coding, fill, characters, textLength, wordsSize, forbidden, charactersOf, roomOf};
+ghost use Rattle.texts.specs.Texts.{readText, bufferAfter, makeText};
 use frame::Clock;
 use frame::Frame;
 use frame::Header;
@@ -20,6 +21,18 @@ use stage::Made;
 use stage::Making;
 use stage::Size;
 use stage::Suited;
+
+// Whether every character of a text is allowed; one that is not is refusal 11.
+enum Characters {
+    Permitted,
+    Forbidden,
+}
+
+// Whether a lent buffer has room for a text; one that is too short is refusal 13.
+enum Room {
+    Enough,
+    Short,
+}
 
 // A character is not 1 to 127.
 fn is_forbidden(character: u32) -> bool
@@ -67,19 +80,29 @@ fn text_length(words: [u32; 31], n: usize) -> usize
     all - 2
 }
 
-// One of the first `count` characters is forbidden.
-fn any_forbidden(words: [u32; 31], count: usize) -> bool
+// Whether the first `count` characters of the data are allowed.
+fn characters_of(words: [u32; 31], count: usize) -> Characters
     requires { ⌜ count ≤ 93 ⌝ }
-    ensures { λ r. ⌜ r ≡ anyOf forbidden (characters count (dataBits words)) ⌝ }
+    ensures { λ r. ⌜ r ≡ charactersOf (characters count (dataBits words)) ⌝ }
 {
     let mut i = 0;
     while i < count {
         if is_forbidden(character(words, i)) {
-            return true;
+            return Characters::Forbidden;
         }
         i += 1;
     }
-    false
+    Characters::Permitted
+}
+
+// Whether a buffer of this length has room for `count` characters.
+fn room_of(length: usize, count: usize) -> Room
+    ensures { λ r. ⌜ r ≡ roomOf length count ⌝ }
+{
+    if length < count {
+        return Room::Short;
+    }
+    Room::Enough
 }
 
 // The first `count` characters go into the buffer; what stands behind them stays.
@@ -113,12 +136,12 @@ pub fn read_text(frame: Frame, buffer: &mut [u8]) -> Count
     };
     let words = frame.words;
     let count = text_length(words, frame.n);
-    if any_forbidden(words, count) {
+    let Characters::Permitted = characters_of(words, count) else {
         return Count::Refused(11);
-    }
-    if buffer.len() < count {
+    };
+    let Room::Enough = room_of(buffer.len(), count) else {
         return Count::Refused(13);
-    }
+    };
     write_text(words, count, buffer);
     Count::Of(count)
 }

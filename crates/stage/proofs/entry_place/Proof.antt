@@ -17,8 +17,8 @@ use Rattle.stage.specs.declared.Asked.the-variants.{Same}
 use Rattle.stage.specs.declared.Place.{Place}
 use Rattle.stage.specs.declared.Place.the-variants as place
 use Rattle.stage.specs.Stages.{askedOf, countIn, misfit, entryOrder}
-use Rattle.stage.proofs.StageLaws.{read5, read6, read7, read8, read-on, told-misfit, told-entries, last-wrong, last-fine}
-use Rattle.stage.proofs.ListLaws.{told-past, told-below, entry-room}
+use Rattle.stage.proofs.StageLaws.{read5, read6, read7, read8, read-on, told-misfit, told-entries, told-past, told-below, last-wrong, last-fine}
+use Rattle.stage.proofs.ListLaws.{entry-room}
 use Rattle.stage.proofs.entry_place.Statement.{statement}
 use Rattle.stage.proofs.entry_place.Tie as tie
 

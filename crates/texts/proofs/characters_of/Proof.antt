@@ -1,15 +1,22 @@
--- `any_forbidden` meets its contract: the characters passed are allowed. Assumes nothing.
+-- `characters_of` meets its contract: the characters passed are allowed. Assumes nothing.
 use mathlib.Core.Path.{_≡_, refl, sym, ap, _∙_}
+use mathlib.Core.Bool.{Bool, cond}
 use Prim.Native.Nat.{_≤_, _-_}
 use native.Mathlib.Omega.{arith}
 use lib.ListN.{drop}
 use Rattle.bits.specs.Rows.{dataBits}
 use Rattle.frame.specs.Widths.{anyOf}
 use Rattle.frame.proofs.WidthLaws.{any-hit, any-miss, any-end}
+use Rattle.texts.specs.declared.Characters.{Characters}
+use Rattle.texts.specs.declared.Characters.the-variants.{Permitted, Forbidden}
 use Rattle.texts.specs.Texts.{characters, forbidden}
 use Rattle.texts.proofs.TextCode.{length-characters, character-at}
-use Rattle.texts.proofs.any_forbidden.Statement.{statement}
-use Rattle.texts.proofs.any_forbidden.Tie as tie
+use Rattle.texts.proofs.characters_of.Statement.{statement}
+use Rattle.texts.proofs.characters_of.Tie as tie
+
+-- what a test of all characters says
+abbrev judged : Bool → Characters
+judged bad = cond bad Forbidden Permitted
 
 abbrev Inv-loop : tie.InvT-loop
 Inv-loop words count i₀ i = (i ≤ count)
@@ -29,10 +36,10 @@ returns c =
     let i = c4 .loop .i in
     let cs = characters (a .count) (dataBits (a .words)) in
     let l = length-characters (a .count) (dataBits (a .words)) in
-    sym (c4 .loop .inv .1
+    ap judged (sym (c4 .loop .inv .1
     ∙ any-hit forbidden i cs (omega (arith, l))
     (ap forbidden (character-at (a .count) i (dataBits (a .words)) (omega arith) ∙ sym (c .before .before .character .ensures .0))
-    ∙ sym (c .before .is-forbidden .ensures) ∙ c .if1 .taken))
+    ∙ sym (c .before .is-forbidden .ensures) ∙ c .if1 .taken)))
 
 loop-again : tie.Need-loop-again Inv-loop μ-loop
 loop-again c =
@@ -52,12 +59,12 @@ loop-again c =
 returns-2 : tie.Need-returns-2 Inv-loop μ-loop
 returns-2 c =
     let a = c .before .before .args in
-    sym (c .before .loop .inv .1
+    ap judged (sym (c .before .loop .inv .1
     ∙ any-end forbidden (c .before .loop .i) (characters (a .count) (dataBits (a .words)))
-    (omega (arith, length-characters (a .count) (dataBits (a .words)))))
+    (omega (arith, length-characters (a .count) (dataBits (a .words))))))
 
-pub any-forbidden-spec : {M : Type 1} → statement M
-any-forbidden-spec =
+pub characters-of-spec : {M : Type 1} → statement M
+characters-of-spec =
     tie.close
     (tie.spec Inv-loop μ-loop loop-holds (λ c κs. omega arith) (λ c κs. tt) returns (λ c. omega arith)
     (λ c. omega arith) loop-again returns-2)
