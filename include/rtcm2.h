@@ -59,7 +59,8 @@ enum {
 };
 
 /* ---- Reading the line. The reader's state lies in RTCM2_STATE_SIZE bytes that the caller lends; bytes past them are not
- * looked at. Bytes that hold no state (too few, or never started) are refused with 5 and left alone. */
+ * looked at. Bytes that hold no state (too few, never started, or with counts past what a reader can hold) are refused with 5
+ * and left alone. */
 
 /* How many bytes a state takes: RTCM2_STATE_SIZE. */
 size_t rtcm2_state_size(void);
@@ -78,7 +79,8 @@ uint8_t rtcm2_feed_all(uint8_t *state, size_t state_size, const uint8_t *bytes, 
 uint8_t rtcm2_end(uint8_t *state, size_t state_size);
 
 /* Takes the frame that waits: its record of `length` bytes at the start of `frame`, and the position `at` of its first bit in
- * the line bits taken, modulo 2^32. Another may wait at once. Refusals: 5, 4, 13. */
+ * the line bits taken, modulo 2^32. Another may wait at once. Only a frame that stands in the bits held is handed out: where a
+ * state says that one waits and none stands, the refusal is 4. Refusals: 5, 4, 13. */
 uint8_t rtcm2_take(uint8_t *state, size_t state_size, uint8_t *frame, size_t frame_size, size_t *length, uint32_t *at);
 
 /* ---- Writing the line. Two bits are carried from frame to frame, D29* and D30*; after opening both are 0. */

@@ -7,7 +7,7 @@ use Prim.Native.Nat.{ℕ, _≤_}
 use lib.ListN.{length}
 use Rattle.frame.specs.Frames.{blank}
 use Rattle.stream.specs.Standing.{frameAt}
-use Rattle.reader.specs.Reading.{bitsOf, past, busy, endTo, takeTo, endedBy, takenBy}
+use Rattle.reader.specs.Reading.{bitsOf, past, frameWaits, busy, endTo, takeTo, endedBy, takenBy}
 use Rattle.reader.specs.declared.Reader.{Reader}
 use Rattle.reader.specs.declared.Answer.{Answer}
 use Rattle.reader.specs.declared.Answer.the-variants.{Done, Refused}
@@ -31,7 +31,7 @@ module _ (r : Reader) where
   taken-cells : takenBy r .reader .cells ≡ r .cells
   unfolding takenBy
   taken-cells =
-      order-holds (λ (x : Taken). x .reader .cells ≡ r .cells) ((past r, 5) ∷ (not (r .candidate .waits), 4) ∷ [])
+      order-holds (λ (x : Taken). x .reader .cells ≡ r .cells) ((past r, 5) ∷ (not (frameWaits r), 4) ∷ [])
       (λ n. record { answer = Refused n; at = 0; frame = blank; reader = r }) (record {
         answer = Done;
         at = r .candidate .at;

@@ -12,7 +12,7 @@ use Rattle.frame.specs.Widths.{outside}
 use Rattle.frame.specs.declared.Frame.{Frame}
 use Rattle.stream.specs.Standing.{frameAt}
 use Rattle.stream.proofs.Data.{frame-within}
-use Rattle.reader.specs.Reading.{bitsOf, past, takeTo, takenBy}
+use Rattle.reader.specs.Reading.{bitsOf, past, frameWaits, takeTo, takenBy}
 use Rattle.reader.specs.declared.Reader.{Reader}
 use Rattle.reader.specs.declared.Answer.the-variants.{Done, Refused}
 use Rattle.reader.specs.declared.Taken.{Taken}
@@ -36,7 +36,7 @@ taken r = record {
 
 -- the reader's own checks
 abbrev waiting : Reader → List Check
-waiting r = (past r, 5) ∷ (not (r .candidate .waits), 4) ∷ []
+waiting r = (past r, 5) ∷ (not (frameWaits r), 4) ∷ []
 
 -- a frame within its widths is refused by a short buffer alone
 kept-order : (f : Frame) (frame : List ℕ) (t : Taken) → outside f ≡ false

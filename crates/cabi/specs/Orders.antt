@@ -13,7 +13,7 @@ use Rattle.frame.specs.declared.Header.{Header}
 use Rattle.frame.specs.declared.Layout.{Layout}
 use Rattle.frame.specs.declared.Layout.the-variants as layout
 use Rattle.stream.specs.Standing.{frameAt}
-use Rattle.reader.specs.Reading.{bitsOf, past}
+use Rattle.reader.specs.Reading.{bitsOf, past, frameWaits}
 use Rattle.journal.specs.Bytes.{wordsFrom}
 use Rattle.journal.specs.Forms.{wordsAfter}
 use Rattle.journal.specs.Journal.{recallOrder}
@@ -48,7 +48,7 @@ shortFor f buffer = (ltb (length buffer) (3 * f .n + 9), 13)
 abbrev pub takeOrder : List ℕ → List ℕ → List Check
 takeOrder state frame =
     let r = stateIn state in
-    heldOrder state ((past r, 5) ∷ (not (r .candidate .waits), 4) ∷ shortFor (frameAt (bitsOf r)) frame ∷ [])
+    heldOrder state ((past r, 5) ∷ (not (frameWaits r), 4) ∷ shortFor (frameAt (bitsOf r)) frame ∷ [])
 
 -- ---- a frame comes in: 14, 15, 16, 15, 16, and no 5 for the frame
 

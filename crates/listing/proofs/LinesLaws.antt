@@ -16,7 +16,7 @@ use Rattle.frame.specs.Frames.{framed, frameOf, blank}
 use Rattle.frame.specs.Widths.{stateOutside}
 use Rattle.frame.proofs.StateLaws.{state-inside}
 use Rattle.stream.specs.Standing.{frameAt}
-use Rattle.reader.specs.Reading.{bitsOf, past, stepCells, stepTo, spent, runTo, ranBy, fedAllBy, takeTo, takenBy}
+use Rattle.reader.specs.Reading.{bitsOf, past, frameWaits, stepCells, stepTo, spent, runTo, ranBy, fedAllBy, takeTo, takenBy}
 use Rattle.reader.specs.declared.Candidate.{Candidate}
 use Rattle.reader.specs.declared.Reader.{Reader}
 use Rattle.reader.specs.declared.Answer.the-variants.{Done, Refused}
@@ -75,7 +75,7 @@ frame-inside d = state-inside _
 
 taken-by-inside : (r : Reader) → stateOutside (takenBy r .frame .header .state) ≡ false
 unfolding takenBy
-taken-by-inside r = go (past r) (not (r .candidate .waits))
+taken-by-inside r = go (past r) (not (frameWaits r))
   where
     go : (p w : Bool) → stateOutside (inOrder {A = Taken} ((p, 5) ∷ (w, 4) ∷ []) (λ n. record { answer = Refused n; at = 0; frame = blank; reader = r })
         (record { answer = Done; at = r .candidate .at; frame = frameAt (bitsOf r); reader = record { cells = r .cells; candidate = takeTo (r .cells) (r .candidate) (r .ended); ended = r .ended } }) .frame .header .state) ≡ false

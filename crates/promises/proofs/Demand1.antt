@@ -6,7 +6,7 @@ use Rattle.promises.proofs.StreamCalls.{stream-calls}
 use Rattle.promises.proofs.RecordCalls.{record-calls}
 use Rattle.promises.proofs.CarriesItsNumber.{carries-its-number}
 use Rattle.promises.proofs.ChangesNeither.{changes-neither, number-alone, only-its-bytes}
-use Rattle.promises.proofs.EveryReader.{next-is-accepted}
+use Rattle.promises.proofs.EveryReader.{next-is-accepted, takes-only-frames}
 
 pub demand-1 : Demand1
 demand-1 = record {
@@ -19,4 +19,5 @@ demand-1 = record {
   alone = number-alone;
   own-bytes = only-its-bytes;
   accepted = next-is-accepted;
+  taken = takes-only-frames;
 }

@@ -22,7 +22,7 @@ use Rattle.stream.proofs.Prefix.{decided-undecided, decided-begins}
 use Rattle.stream.proofs.InTime as stream
 use Rattle.stream.proofs.Hunting.{MayCome, Idle}
 use Rattle.stream.proofs.Damage.{damaged-nowhere}
-use Rattle.reader.specs.Reading.{bitsOf, started, past, fedBy, endedBy, steppedBy, saysNext, saysFedAll, saysTaken}
+use Rattle.reader.specs.Reading.{bitsOf, started, past, frameWaits, fedBy, endedBy, steppedBy, saysNext, saysFedAll, saysTaken}
 use Rattle.reader.specs.declared.Reader.{Reader}
 use Rattle.reader.specs.declared.Answer.the-variants.{Done}
 use Rattle.reader.specs.declared.Next.{Next}
@@ -215,12 +215,12 @@ answer-not-5 r p ends e = go (r .ended) refl (r .candidate .waits) refl
     go true ex y ey = refused-other 3 (sym (ap saysNext (ended-by r false true y p ex ey)) ∙ e) (λ q. omega arith)
     go false ex true ey = refused-other 2 (sym (ap saysNext (ended-by r false false true p ex ey)) ∙ e) (λ q. omega arith)
     go false ex false ey = done-other (sym (ap saysNext (ended-by r false false false p ex ey)) ∙ e)
-answer-not-5 r p takes e = go (r .candidate .waits) refl
+answer-not-5 r p takes e = go (frameWaits r) refl
   where
     A : Taken → Says (Unit {0})
     A f = answerOf (took (saysTaken f))
 
-    go : (y : Bool) → r .candidate .waits ≡ y → ⊥
+    go : (y : Bool) → frameWaits r ≡ y → ⊥
     go false ey = refused-other 4 (sym (ap A (taken-by r false false p ey)) ∙ e) (λ q. omega arith)
     go true ey = done-other (sym (ap A (taken-by r false true p ey) ∙ (unfold given in refl)) ∙ e)
 

@@ -9,10 +9,15 @@ use native.Mathlib.Numerals.{one-add}
 use native.Mathlib.Omega.{arith}
 use lib.ListN.{length, take}
 use Rattle.answer.specs.Order.{refuses, answers}
+use Rattle.answer.proofs.OrderLaws.{refuses-apart}
 use Rattle.bits.specs.Bits.{number}
 use Rattle.line.specs.Line.{isData, six, without}
+use Rattle.frame.specs.declared.Frame.{Frame}
+use Rattle.stream.specs.Standing.{stands, frameAt}
+use Rattle.stream.proofs.Words.{both-right}
+use Rattle.stream.proofs.Stand.{test-stands}
 use Rattle.reader.specs.Cells.{roomEnd}
-use Rattle.reader.specs.Reading.{past, movedTo, stepCells, stepTo, steppedBy, fedBy, Run, runTo, fedAllBy, endTo, takeTo, saysAnswer, saysNext, saysFedAll}
+use Rattle.reader.specs.Reading.{candidateBits, bitsOf, past, frameWaits, movedTo, stepCells, stepTo, steppedBy, fedBy, Run, runTo, fedAllBy, endTo, takeTo, saysAnswer, saysNext, saysFedAll, saysTaken}
 use Rattle.reader.specs.declared.Candidate.{Candidate}
 use Rattle.reader.specs.declared.Reader.{Reader}
 use Rattle.reader.specs.declared.Answer.the-variants.{Done, Refused}
@@ -20,9 +25,11 @@ use Rattle.reader.specs.declared.Next.{Next}
 use Rattle.reader.specs.declared.FedAll.{FedAll}
 use Rattle.reader.specs.declared.Taken.{Taken}
 use Rattle.reader.proofs.Accepted.{Accepted, to-accepted, from-accepted, left-le, length-step, step-top, step-low, accepted-step, accepted-end, accepted-take}
+use Rattle.reader.proofs.Buffer.{length-held}
 use Rattle.reader.proofs.Running.{run-waits, run-on, run-over}
 use Rattle.promises.specs.Calls.{feeds, feedsAll, ends, takes, after}
-use Rattle.promises.specs.Demand3.{feedEach, FeedAllIsFeed, NextIsAccepted}
+use Rattle.promises.specs.Demand3.{feedEach, FeedAllIsFeed, NextIsAccepted, Handed, TakesOnlyFrames}
+use Rattle.promises.proofs.CarriesItsNumber.{says-inj}
 use Rattle.promises.proofs.Runs.{not-done, says-done, says-refused, going, given, fed-by, all-by, ended-by, taken-by}
 
 -- ---- a run over bytes
@@ -31,7 +38,7 @@ record RunFeeds (cells : List ℕ) (c : Candidate) (bs : List ℕ) (x : Run) : T
   reader : going (x .cells) (x .candidate) ≡ feedEach (going cells c) (take (x .used) bs)
   passed : x .passed ≡ without (take (x .used) bs)
   all : (x .used ≡ length bs) ⊎ (x .candidate .waits ≡ true)
-  accepted : Accepted (x .cells) (x .candidate)
+  accepted : Accepted (x .candidate)
   held : x .candidate .held ≤ c .held + 6 * x .used
   free : (k : ℕ) → k < x .used → feedEach (going cells c) (take k bs) .candidate .waits ≡ false
 
@@ -43,7 +50,7 @@ free-first r b bs next e w u later zero h = w
 free-first r b bs next e w u later (suc k) h = ap (λ (t : Reader). feedEach t (take k bs) .candidate .waits) e ∙ later k (omega arith)
 
 -- six bits more are held at most
-step-held : (cells : List ℕ) → length cells ≡ 40 → (c : Candidate) → Accepted cells c → c .waits ≡ false → (x : ℕ) → stepTo cells c x .held ≤ c .held + 6
+step-held : (cells : List ℕ) → length cells ≡ 40 → (c : Candidate) → Accepted c → c .waits ≡ false → (x : ℕ) → stepTo cells c x .held ≤ c .held + 6
 unfolding stepTo movedTo
 step-held cells l c a w x =
     left-le (stepCells cells c x) (length-step cells l c a w x) (roomEnd (c .end) (c .held) + 6) (c .held + 6) (step-top cells l c a w x) (step-low cells l c a w x) (c .words) false
@@ -57,7 +64,7 @@ module _ (b : ℕ) (bs : List ℕ) (u : ℕ) where
   unfolding without
   count-first z e = ap (λ n. without (take n (b ∷ bs))) (one-add u) ∙ ap (λ t. cond t 0 1 + without (take u bs)) e
 
-run-feeds : (bs : List ℕ) (cells : List ℕ) → length cells ≡ 40 → (c : Candidate) → Accepted cells c → RunFeeds cells c bs (runTo cells c bs)
+run-feeds : (bs : List ℕ) (cells : List ℕ) → length cells ≡ 40 → (c : Candidate) → Accepted c → RunFeeds cells c bs (runTo cells c bs)
 run-feeds [] cells l c a = unfold runTo feedEach without in record { reader = refl; passed = refl; all = inl refl; accepted = a; held = omega arith; free = λ k h. absurd (omega arith) }
 run-feeds (b ∷ bs) cells l c a =
     go (c .waits) refl (isData b) refl
@@ -72,8 +79,8 @@ run-feeds (b ∷ bs) cells l c a =
     one u f (inr e) = inr e
 
     fed : (z : Bool) → isData b ≡ z → c .waits ≡ false → fedBy (going cells c) b .reader ≡ cond z (steppedBy (going cells c) b) (going cells c)
-    fed true d w = ap (λ (f : Next). f .reader) (fed-by (going cells c) false false false (from-accepted cells c a) refl w b true d)
-    fed false d w = ap (λ (f : Next). f .reader) (fed-by (going cells c) false false false (from-accepted cells c a) refl w b false d)
+    fed true d w = ap (λ (f : Next). f .reader) (fed-by (going cells c) false false false (from-accepted c a) refl w b true d)
+    fed false d w = ap (λ (f : Next). f .reader) (fed-by (going cells c) false false false (from-accepted c a) refl w b false d)
 
     fed-on : isData b ≡ true → c .waits ≡ false → fedBy (going cells c) b .reader ≡ going (stepCells cells c (number (six b))) (stepTo cells c (number (six b)))
     fed-on d w = unfold steppedBy in fed true d w
@@ -133,7 +140,7 @@ fed-parts r bs l = go (past r) refl (r .ended) refl (r .candidate .waits) refl
     go false ep true ex y ey = subst (FedParts r bs) (sym (all-by r false true y ep ex ey bs)) (none 3 (λ b. ap saysNext (fed-by r false true y ep ex ey b (isData b) refl)))
     go false ep false ex true ey = subst (FedParts r bs) (sym (all-by r false false true ep ex ey bs)) (none 2 (λ b. ap saysNext (fed-by r false false true ep ex ey b (isData b) refl)))
     go false ep false ex false ey =
-        let f = run-feeds bs (r .cells) l (r .candidate) (to-accepted (r .cells) (r .candidate) ep) in
+        let f = run-feeds bs (r .cells) l (r .candidate) (to-accepted (r .candidate) ep) in
         subst (FedParts r bs) (sym (all-by r false false false ep ex ey bs)) (record {
           reader = ap (λ e. record { cells = x .cells; candidate = x .candidate; ended = e }) ex ∙ f .reader
               ∙ ap (λ e. feedEach (record { cells = r .cells; candidate = r .candidate; ended = e }) (take (x .used) bs)) (sym ex);
@@ -171,8 +178,8 @@ feed-all-is-feed r bs l = record {
 pub next-is-accepted : (r : Reader) → NextIsAccepted r
 next-is-accepted r l p (feeds b) = go (r .ended) refl (r .candidate .waits) refl (isData b) refl
   where
-    a : Accepted (r .cells) (r .candidate)
-    a = to-accepted (r .cells) (r .candidate) p
+    a : Accepted (r .candidate)
+    a = to-accepted (r .candidate) p
 
     P : Next → Type 0
     P f = past (f .reader) ≡ false
@@ -183,7 +190,7 @@ next-is-accepted r l p (feeds b) = go (r .ended) refl (r .candidate .waits) refl
     go false ex false ey false ez = unfold after in subst P (sym (fed-by r false false false p ex ey b false ez)) p
     go false ex false ey true ez =
         unfold after in subst P (sym (fed-by r false false false p ex ey b true ez))
-        (unfold steppedBy in from-accepted (stepCells (r .cells) (r .candidate) (number (six b))) (stepTo (r .cells) (r .candidate) (number (six b))) (accepted-step (r .cells) l (r .candidate) a ey (number (six b))))
+        (unfold steppedBy in from-accepted (stepTo (r .cells) (r .candidate) (number (six b))) (accepted-step (r .cells) l (r .candidate) a ey (number (six b))))
 next-is-accepted r l p (feedsAll bs) = go (r .ended) refl (r .candidate .waits) refl
   where
     P : FedAll → Type 0
@@ -194,7 +201,7 @@ next-is-accepted r l p (feedsAll bs) = go (r .ended) refl (r .candidate .waits) 
     go false ex true ey = unfold after in subst P (sym (all-by r false false true p ex ey bs)) p
     go false ex false ey =
         unfold after in subst P (sym (all-by r false false false p ex ey bs))
-        (from-accepted (runTo (r .cells) (r .candidate) bs .cells) (runTo (r .cells) (r .candidate) bs .candidate) (run-feeds bs (r .cells) l (r .candidate) (to-accepted (r .cells) (r .candidate) p) .accepted))
+        (from-accepted (runTo (r .cells) (r .candidate) bs .candidate) (run-feeds bs (r .cells) l (r .candidate) (to-accepted (r .candidate) p) .accepted))
 next-is-accepted r l p ends = go (r .ended) refl (r .candidate .waits) refl
   where
     P : Next → Type 0
@@ -205,14 +212,35 @@ next-is-accepted r l p ends = go (r .ended) refl (r .candidate .waits) refl
     go false ex true ey = unfold after in subst P (sym (ended-by r false false true p ex ey)) p
     go false ex false ey =
         unfold after in subst P (sym (ended-by r false false false p ex ey))
-        (from-accepted (r .cells) (endTo (r .cells) (r .candidate)) (accepted-end (r .cells) l (r .candidate) (to-accepted (r .cells) (r .candidate) p)))
-next-is-accepted r l p takes = go (r .candidate .waits) refl
+        (from-accepted (endTo (r .cells) (r .candidate)) (accepted-end (r .cells) l (r .candidate) (to-accepted (r .candidate) p)))
+next-is-accepted r l p takes = go (frameWaits r) refl
   where
     P : Taken → Type 0
     P f = past (f .reader) ≡ false
 
-    go : (y : Bool) → r .candidate .waits ≡ y → past (after r takes) ≡ false
+    go : (y : Bool) → frameWaits r ≡ y → past (after r takes) ≡ false
     go false ey = unfold after in subst P (sym (taken-by r false false p ey)) p
     go true ey =
         unfold after in subst P (sym (taken-by r false true p ey))
-        (unfold given in from-accepted (r .cells) (takeTo (r .cells) (r .candidate) (r .ended)) (accepted-take (r .cells) l (r .candidate) (to-accepted (r .cells) (r .candidate) p) (r .ended)))
+        (unfold given in from-accepted (takeTo (r .cells) (r .candidate) (r .ended)) (accepted-take (r .cells) l (r .candidate) (to-accepted (r .candidate) p) (r .ended)))
+
+-- ---- WHAT TAKING HANDS OUT stands in the bits held, whatever the state claims
+
+pub takes-only-frames : (r : Reader) → TakesOnlyFrames r
+takes-only-frames r l at f e = go (past r) refl (frameWaits r) refl
+  where
+    go : (u : Bool) → past r ≡ u → (y : Bool) → frameWaits r ≡ y → Handed r at f
+    go true eu y ey = absurd (refuses-apart 5 (at, f) (sym (ap saysTaken (taken-by r true y eu ey)) ∙ e))
+    go false eu false ey = absurd (refuses-apart 4 (at, f) (sym (ap saysTaken (taken-by r false false eu ey)) ∙ e))
+    go false eu true ey = record {
+      long = unfold candidateBits in length-held (r .cells) (r .candidate .end) (r .candidate .held) l (a .top) (a .low);
+      stands = unfold frameWaits in test-stands (bitsOf r) (both-right (r .candidate .waits) (stands (bitsOf r)) ey);
+      frame = sym (ap (λ (v : ℕ × Frame). v .1) same);
+      place = sym (ap (λ (v : ℕ × Frame). v .0) same);
+    }
+      where
+        a : Accepted (r .candidate)
+        a = to-accepted (r .candidate) eu
+
+        same : _≡_ {A = ℕ × Frame} (r .candidate .at, frameAt (bitsOf r)) (at, f)
+        same = says-inj (sym (ap saysTaken (taken-by r false true eu ey) ∙ (unfold given in refl)) ∙ e)

@@ -27,7 +27,7 @@ use Rattle.reader.specs.Reading.{candidateBits, bitsOf, started, movedTo, stepC
 use Rattle.reader.specs.declared.Candidate.{Candidate}
 use Rattle.reader.specs.declared.Reader.{Reader}
 use Rattle.reader.proofs.Buffer.{length-held, held-part, held-none}
-use Rattle.reader.proofs.Accepted.{Accepted, room-free, room-all, rest-bits, accepted-stop, length-step, step-top, step-low, step-bits}
+use Rattle.reader.proofs.Accepted.{Accepted, room-free, room-all, so-far-known, rest-bits, accepted-stop, length-step, step-top, step-low, step-bits}
 use Rattle.promises.specs.Calls.{reported}
 
 -- where the hunt is after `hits` in the stream s, with d left: at position 2 + gone
@@ -39,7 +39,7 @@ pub record Stage (s : List Bool) (hits : List Placed) (ended : Bool) (gone : ℕ
 
 pub record Kept (s : List Bool) (out : List (ℕ × Frame)) (r : Reader) : Type 0 where
   pub len : length (r .cells) ≡ 40
-  pub accepted : Accepted (r .cells) (r .candidate)
+  pub accepted : Accepted (r .candidate)
   pub hits : List Placed
   pub given : out ≡ map reported hits
   pub gone : ℕ
@@ -48,7 +48,7 @@ pub record Kept (s : List Bool) (out : List (ℕ × Frame)) (r : Reader) : Type 
   pub found : r .candidate .waits ≡ true → Stands (bitsOf r)
   pub idle : r .candidate .waits ≡ false → Idle (r .ended) (r .candidate .words) (bitsOf r)
 
-pub held-long : (r : Reader) → length (r .cells) ≡ 40 → Accepted (r .cells) (r .candidate) → length (bitsOf r) ≡ r .candidate .held
+pub held-long : (r : Reader) → length (r .cells) ≡ 40 → Accepted (r .candidate) → length (bitsOf r) ≡ r .candidate .held
 unfolding candidateBits
 held-long r l a = length-held (r .cells) (r .candidate .end) (r .candidate .held) l (a .top) (a .low)
 
@@ -82,7 +82,7 @@ module _ (s : List Bool) (out : List (ℕ × Frame)) (hits : List Placed) (given
   unfolding movedTo candidateBits huntOf stopOf
   settled = record {
     len = len;
-    accepted = accepted-stop cells len end n top low k ended at held room few;
+    accepted = accepted-stop cells len end n top low k ended at held room few (omega (arith, so-far-known k (heldBits cells end n) p, length-held cells end n len top low));
     hits = hits;
     given = given;
     gone = gone + h .gone;
@@ -103,7 +103,7 @@ pub kept-started : Kept [] [] started
 unfolding started candidateBits
 kept-started = record {
   len = refl;
-  accepted = record { top = omega arith; low = omega arith; few = omega arith; room = omega arith; come = λ w. unlike false w refl };
+  accepted = record { top = omega arith; low = omega arith; room = omega arith; few = omega arith; known = omega arith };
   hits = [];
   given = refl;
   gone = 0;
@@ -133,7 +133,7 @@ kept-pushed s out r b k e w =
     subst (λ x. Kept (s ++ six b) out (record { cells = cells; candidate = stepTo (r .cells) (r .candidate) (number (six b)); ended = x })) (sym e)
     (settled (s ++ six b) out (k .hits) (k .given) false cells (length-step (r .cells) (k .len) c a w (number (six b)))
     (roomEnd (c .end) (c .held) + 6) (c .held + 6) (step-top (r .cells) (k .len) c a w (number (six b))) (step-low (r .cells) (k .len) c a w (number (six b)))
-    (omega (arith, room-free (r .cells) c a w)) (c .words) (k .gone)
+    (omega (arith, room-free c a w)) (c .words) (k .gone)
     (subst (Stage (s ++ six b) (k .hits) false (k .gone)) (sym bits-are) (stage-more s (k .hits) (k .gone) (bitsOf r) (six b) (rw e at (k .stage))))
     (subst (RightSoFar (c .words)) (sym bits-are) (so-far-append (c .words) (bitsOf r) (six b) (quiet .0)))
     (a .few) (c .at) (c .held + 6) (omega arith) here)
@@ -141,7 +141,7 @@ kept-pushed s out r b k e w =
     c : Candidate
     c = r .candidate
 
-    a : Accepted (r .cells) (r .candidate)
+    a : Accepted (r .candidate)
     a = k .accepted
 
     cells : List ℕ
@@ -162,7 +162,7 @@ pub kept-ended : (s : List Bool) (out : List (ℕ × Frame)) (r : Reader) → Ke
     → Kept s out (record { cells = r .cells; candidate = endTo (r .cells) (r .candidate); ended = true })
 unfolding endTo candidateBits
 kept-ended s out r k e w =
-    settled s out (k .hits) (k .given) true (r .cells) (k .len) (c .end) (c .held) (a .top) (a .low) (room-all (r .cells) c a) (c .words) (k .gone)
+    settled s out (k .hits) (k .given) true (r .cells) (k .len) (c .end) (c .held) (a .top) (a .low) (room-all c a) (c .words) (k .gone)
     (record {
       split = k .stage .split;
       long = k .stage .long;
@@ -174,7 +174,7 @@ kept-ended s out r k e w =
     c : Candidate
     c = r .candidate
 
-    a : Accepted (r .cells) (r .candidate)
+    a : Accepted (r .candidate)
     a = k .accepted
 
     quiet : Idle false (c .words) (heldBits (r .cells) (c .end) (c .held))
@@ -244,5 +244,5 @@ module _ (s : List Bool) (out : List (ℕ × Frame)) (r : Reader) (k : Kept s ou
       settled s (out ++ ((r .candidate .at, frameAt (bitsOf r)) ∷ [])) (k .hits ++ (hit ∷ []))
       (rw (map-append reported (k .hits) (hit ∷ [])) (ap₂ (λ a b. a ++ (b ∷ [])) (k .given) given-is))
       (r .ended) (r .cells) (k .len) (r .candidate .end) (r .candidate .held - m) (k .accepted .top) (omega (arith, k .accepted .low))
-      (omega (arith, room-all (r .cells) (r .candidate) (k .accepted))) 0 (k .gone + m) stage (none-so-far _) (omega arith)
+      (omega (arith, room-all (r .candidate) (k .accepted))) 0 (k .gone + m) stage (none-so-far _) (omega arith)
       (r .candidate .at) (r .candidate .held) (omega arith) place

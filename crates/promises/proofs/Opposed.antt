@@ -57,8 +57,8 @@ module _ (cells cells′ : List ℕ) (len : length cells ≡ 40) (len′ : lengt
 
 -- ---- the calls
 
-module _ (cells : List ℕ) (len : length cells ≡ 40) (c : Candidate) (a : Accepted cells c)
-    (cells′ : List ℕ) (len′ : length cells′ ≡ 40) (c′ : Candidate) (a′ : Accepted cells′ c′) (o : Opposed cells c cells′ c′) where
+module _ (cells : List ℕ) (len : length cells ≡ 40) (c : Candidate) (a : Accepted c)
+    (cells′ : List ℕ) (len′ : length cells′ ≡ 40) (c′ : Candidate) (a′ : Accepted c′) (o : Opposed cells c cells′ c′) where
   -- six bits more, turned over against each other
   pub step-opposed : c .waits ≡ false → (b d : ℕ) → six d ≡ map not (six b)
       → Opposed (stepCells cells c (number (six b))) (stepTo cells c (number (six b))) (stepCells cells′ c′ (number (six d))) (stepTo cells′ c′ (number (six d)))

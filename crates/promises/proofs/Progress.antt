@@ -20,13 +20,14 @@ use Rattle.reader.specs.declared.Taken.{Taken}
 use Rattle.reader.specs.declared.Answer.{Answer}
 use Rattle.reader.specs.declared.Answer.the-variants.{Done, Refused}
 use Rattle.promises.specs.Calls.{feedsAll, after}
-use Rattle.promises.proofs.Runs.{not-done, says-done, all-by, taken-by, never-past}
+use Rattle.promises.proofs.Kept.{held-long}
+use Rattle.promises.proofs.Runs.{not-done, says-done, all-by, sound-taken, Sound, kept-sound, never-past}
 use Rattle.promises.proofs.EveryReader.{fed-parts, next-is-accepted}
 use Rattle.listing.specs.Text.{frameLine}
 use Rattle.listing.specs.Listing.{begun, fedOn, handedOn, Lines, lineThen, linesOf, lineRoom, endRoom, refusedListing, listed, pieceBy, finalLines, endOrder, finishBy, saysListed}
 use Rattle.promises.specs.Course.{Piece, courseOf, Answered, NothingLeft, PieceTaken, Roomy, Reached, TextComes}
 use Rattle.promises.proofs.Telling.{Told, told-none, line-some, none-there, told-fed, told-taken, fed-held, taken-less, lines-go}
-use Rattle.promises.proofs.Pieces.{done-answered, piece-is, piece-tells, course-tells, piece-ended, course-goes}
+use Rattle.promises.proofs.Pieces.{CourseTells, done-answered, piece-is, piece-tells, course-tells, piece-ended, course-goes}
 use Rattle.promises.proofs.Whole.{idle-takes, lines-takes, text-is-whole}
 use Rattle.listing.specs.declared.Listing.{Listing}
 use Rattle.listing.specs.declared.Listed.{Listed}
@@ -59,11 +60,11 @@ module _ (l : Listing) (bs : List ℕ) (len : length (l .reader .cells) ≡ 40) 
       go false ew = settle (fed-parts (l .reader) bs len .all (ap (λ (f : FedAll). f .answer) (all-by (l .reader) false false false fine goes ew bs)))
 
   -- at least one line was allowed, and none was written
-  idle-lines : (k : ℕ) → 0 < k → length (linesOf k l bs .text) ≡ 0
+  idle-lines : Sound (fedAllBy (l .reader) bs .reader) → (k : ℕ) → 0 < k → length (linesOf k l bs .text) ≡ 0
       → (linesOf k l bs .used ≡ length bs) × (past (linesOf k l bs .listing .reader) ≡ false) × (linesOf k l bs .listing .reader .ended ≡ false)
       × (linesOf k l bs .listing .reader .candidate .waits ≡ false)
-  idle-lines zero h e = absurd (omega arith)
-  idle-lines (suc k) h e = unfold linesOf fedOn in go (takenBy (fedAllBy (l .reader) bs .reader) .answer) refl e
+  idle-lines fit zero h e = absurd (omega arith)
+  idle-lines fit (suc k) h e = unfold linesOf fedOn in go (takenBy (fedAllBy (l .reader) bs .reader) .answer) refl e
     where
       rest : Lines
       rest = linesOf k (handedOn (fedOn l bs .listing) (takenBy (fedOn l bs .listing .reader) .reader)) (drop (fedOn l bs .used) bs)
@@ -77,7 +78,7 @@ module _ (l : Listing) (bs : List ℕ) (len : length (l .reader .cells) ≡ 40) 
       go Done ea none =
           absurd (omega (arith, length-append line (rest .text), line-some (takenBy (fedOn l bs .listing .reader) .at) (takenBy (fedOn l bs .listing .reader) .frame)))
       go (Refused n) ea none =
-          let quiet = none-there (fedAllBy (l .reader) bs .reader) accepted n ea in
+          let quiet = none-there (fedAllBy (l .reader) bs .reader) fit n ea in
           unfold fedOn in (all-used quiet, accepted, fed-goes, quiet)
 
 finish-answers : (l : Listing) (room : ℕ) → past (l .reader) ≡ false → l .reader .ended ≡ false → l .reader .candidate .waits ≡ false → endRoom ≤ room → finishBy l room .answer ≡ Done
@@ -85,10 +86,10 @@ unfolding finishBy
 finish-answers l room p e w h =
     ap (λ (x : Listed). x .answer) (order-answers (refusedListing l) (listed (finalLines l)) (endOrder l room) (p, (e, (w, (le-ltb room endRoom h, tt)))))
 
-idle-piece : (l : Listing) (bs : List ℕ) (room : ℕ) → length (l .reader .cells) ≡ 40 → pieceBy l bs room .answer ≡ Done → pieceBy l bs room .written ≡ 0
+idle-piece : (l : Listing) (bs : List ℕ) (room : ℕ) → length (l .reader .cells) ≡ 40 → Sound (fedAllBy (l .reader) bs .reader) → pieceBy l bs room .answer ≡ Done → pieceBy l bs room .written ≡ 0
     → (pieceBy l bs room .used ≡ length bs) × ((n : ℕ) → endRoom ≤ n → finishBy (pieceBy l bs room .listing) n .answer ≡ Done)
 unfolding pieceBy
-idle-piece l bs room len = go (past (l .reader)) refl (l .reader .ended) refl (ltb room lineRoom) refl
+idle-piece l bs room len fit = go (past (l .reader)) refl (l .reader .ended) refl (ltb room lineRoom) refl
   where
     go : (p : Bool) → past (l .reader) ≡ p → (e : Bool) → l .reader .ended ≡ e → (s : Bool) → ltb room lineRoom ≡ s
         → inOrder ((p, 5) ∷ (e, 3) ∷ (s, 13) ∷ []) (refusedListing l) (listed (linesOf (room / lineRoom) l bs)) .answer ≡ Done
@@ -99,18 +100,8 @@ idle-piece l bs room len = go (past (l .reader)) refl (l .reader .ended) refl (l
     go false ep true ee s es d w = not-done 3 d
     go false ep false ee true es d w = not-done 13 d
     go false ep false ee false es d w =
-        let x = idle-lines l bs len ep ee (room / lineRoom) (omega (arith, ltb-false room lineRoom es)) w in
+        let x = idle-lines l bs len ep ee fit (room / lineRoom) (omega (arith, ltb-false room lineRoom es)) w in
         (x .0, λ n h. finish-answers (linesOf (room / lineRoom) l bs .listing) n (x .1) (x .2) (x .3) h)
-
-pub nothing-left : (l : Listing) (bs : List ℕ) (room : ℕ) → NothingLeft l bs room
-nothing-left l bs room len u e =
-    (sym (ap (λ (v : ℕ × ℕ). v .0) (says .1)) ∙ q .0, λ n h. done-answered _ (finishBy (pieceBy l bs room .listing) n .answer) (q .1 n h))
-  where
-    says : (pieceBy l bs room .answer ≡ Done) × (_≡_ {A = ℕ × ℕ} (pieceBy l bs room .used, pieceBy l bs room .written) (u, 0))
-    says = says-done (pieceBy l bs room .used, pieceBy l bs room .written) (u, 0) (pieceBy l bs room .answer) e
-
-    q : (pieceBy l bs room .used ≡ length bs) × ((n : ℕ) → endRoom ≤ n → finishBy (pieceBy l bs room .listing) n .answer ≡ Done)
-    q = idle-piece l bs room len (says .0) (ap (λ (v : ℕ × ℕ). v .1) (says .1))
 
 -- ---- A CALLER WHO GOES ON
 
@@ -144,7 +135,7 @@ lines-less (suc k) h l bs used out t g some =
         → 1 + lineThen a (fedOn l bs) line rest .listing .reader .candidate .held ≤ l .reader .candidate .held + 7 * lineThen a (fedOn l bs) line rest .used
     go Done e later = unfold handedOn in omega (arith, later e, taken-less used out l t bs e, fed-held used out l t bs)
     go (Refused n) e later =
-        let none = none-there (fedOn l bs .listing .reader) (never-past _ _ _ (told-fed used out l t bs .kept)) n e in
+        let none = none-there (fedOn l bs .listing .reader) (kept-sound _ _ _ (told-fed used out l t bs .kept)) n e in
         let one : 1 ≤ fedOn l bs .used = unfold fedOn in byte some none in
         omega (arith, fed-held used out l t bs)
 
@@ -197,7 +188,7 @@ module _ (used : List ℕ) (out : List (ℕ × Frame)) (l : Listing) (t : Told u
     ap (drop (r .used)) (o .0) ∙ drop-nil (r .used),
     ap (λ (y : Listed). y .listing .reader .candidate .waits) step-is
         ∙ ap (λ b. linesOf k l b .listing .reader .candidate .waits) (ap (take (p .0)) (o .0) ∙ take-nil (p .0))
-        ∙ ap (λ (y : Reader). y .candidate .waits) (lines-takes k l ∙ idle-takes k (l .reader) (ap (λ (y : Taken). y .reader) (taken-by (l .reader) false false fine (o .1)))) ∙ o .1,
+        ∙ ap (λ (y : Reader). y .candidate .waits) (lines-takes k l ∙ idle-takes k (l .reader) (ap (λ (y : Taken). y .reader) (sound-taken (l .reader) (kept-sound _ _ _ (t .kept)) false (o .1)))) ∙ o .1,
   )
 
 goes-on : (ps : List Piece) (l : Listing) (bs used : List ℕ) (out : List (ℕ × Frame)) → Told used out l → l .reader .ended ≡ false → Roomy ps
@@ -212,7 +203,7 @@ goes-on [] l bs used out t g f (inl h) = (none (empty-or bs), quiet (l .reader .
 
     quiet : (w : Bool) → l .reader .candidate .waits ≡ w → w ≡ false
     quiet false ew = refl
-    quiet true ew = absurd (omega (arith, t .kept .accepted .come ew))
+    quiet true ew = absurd (omega (arith, t .kept .found ew .taken, held-long (l .reader) (t .kept .len) (t .kept .accepted)))
 goes-on (p ∷ ps) l bs used out t g f h =
     goes-on ps _ (drop (pieceBy l (take (p .0) bs) (length (p .1)) .used) bs) _ _ (piece-tells used out l t (take (p .0) bs) (p .1) .is) (step-goes used out l t g p (f .1) bs) (f .2) (next h)
   where
@@ -248,3 +239,22 @@ module _ (bs : List ℕ) (ps : List Piece) where
 
   pub text-comes : (out : List ℕ) → TextComes bs ps out
   text-comes out f h e = let g = reached f h in text-is-whole bs ps out (g .0) (g .1 (length out) e)
+
+pub nothing-left : (bs : List ℕ) (ps : List Piece) → NothingLeft bs ps
+nothing-left bs ps lent room u e =
+    (sym (ap (λ (v : ℕ × ℕ). v .0) (says .1)) ∙ q .0, λ n h. done-answered _ (finishBy (pieceBy l lent room .listing) n .answer) (q .1 n h))
+  where
+    l : Listing
+    l = courseOf ps begun bs .listing
+
+    t : CourseTells [] [] bs (courseOf ps begun bs)
+    t = course-tells ps begun bs [] [] told-none
+
+    says : (pieceBy l lent room .answer ≡ Done) × (_≡_ {A = ℕ × ℕ} (pieceBy l lent room .used, pieceBy l lent room .written) (u, 0))
+    says = says-done (pieceBy l lent room .used, pieceBy l lent room .written) (u, 0) (pieceBy l lent room .answer) e
+
+    fit : Sound (fedAllBy (l .reader) lent .reader)
+    fit = unfold fedOn in kept-sound _ _ _ (told-fed _ _ l (t .is) lent .kept)
+
+    q : (pieceBy l lent room .used ≡ length lent) × ((n : ℕ) → endRoom ≤ n → finishBy (pieceBy l lent room .listing) n .answer ≡ Done)
+    q = idle-piece l lent room (t .is .kept .len) fit (says .0) (ap (λ (v : ℕ × ℕ). v .1) (says .1))

@@ -1,6 +1,6 @@
 -- Any calls on a fresh reader, in any order and however many were refused: `Kept` holds after each. Assumes nothing.
 use mathlib.Core.Path.{_≡_, refl, sym, ap, subst, subst₂, _∙_}
-use mathlib.Core.Bool.{Bool, true, false, cond, not}
+use mathlib.Core.Bool.{Bool, true, false, cond, not, _&&_}
 use mathlib.Core.List.{List, [], _∷_, _++_, append-nil, append-assoc}
 use Prim.Native.Nat.{ℕ, _+_}
 use native.Mathlib.Numerals.{one-add}
@@ -11,8 +11,9 @@ use Rattle.bits.specs.Bits.{number}
 use Rattle.line.specs.Line.{isData, six, lineBits}
 use Rattle.frame.specs.Frames.{blank}
 use Rattle.frame.specs.declared.Frame.{Frame}
-use Rattle.stream.specs.Standing.{frameAt}
-use Rattle.reader.specs.Reading.{bitsOf, started, past, stepCells, stepTo, steppedBy, fedBy, Run, runTo, ranBy, fedAllBy, endTo, endedBy, takeTo, takenBy, saysAnswer, carrying, saysNext, saysFedAll, saysTaken}
+use Rattle.stream.specs.Standing.{stands, frameAt}
+use Rattle.stream.proofs.Stand.{stands-test}
+use Rattle.reader.specs.Reading.{bitsOf, started, past, frameWaits, stepCells, stepTo, steppedBy, fedBy, Run, runTo, ranBy, fedAllBy, endTo, endedBy, takeTo, takenBy, saysAnswer, carrying, saysNext, saysFedAll, saysTaken}
 use Rattle.reader.specs.declared.Candidate.{Candidate}
 use Rattle.reader.specs.declared.Reader.{Reader}
 use Rattle.reader.specs.declared.Answer.{Answer}
@@ -69,13 +70,30 @@ given r = record {
   reader = record { cells = r .cells; candidate = takeTo (r .cells) (r .candidate) (r .ended); ended = r .ended };
 }
 
-pub taken-by : (r : Reader) (p y : Bool) → past r ≡ p → r .candidate .waits ≡ y
+pub taken-by : (r : Reader) (p y : Bool) → past r ≡ p → frameWaits r ≡ y
     → takenBy r ≡ inOrder ((p, 5) ∷ (not y, 4) ∷ []) (λ n. record { answer = Refused n; at = 0; frame = blank; reader = r }) (given r)
 unfolding takenBy given
 taken-by r p y ep ey = λ i. inOrder ((ep i, 5) ∷ (not (ey i), 4) ∷ []) (λ n. record { answer = Refused n; at = 0; frame = blank; reader = r }) (given r)
 
 pub never-past : (s : List Bool) (out : List (ℕ × Frame)) (r : Reader) → Kept s out r → past r ≡ false
-never-past s out r k = from-accepted (r .cells) (r .candidate) (k .accepted)
+never-past s out r k = from-accepted (r .candidate) (k .accepted)
+
+-- a reader whose counts are not past, and that says that a frame waits only where one stands
+pub record Sound (r : Reader) : Type 0 where
+  pub fine : past r ≡ false
+  pub told : (y : Bool) → r .candidate .waits ≡ y → frameWaits r ≡ y
+
+pub kept-sound : (s : List Bool) (out : List (ℕ × Frame)) (r : Reader) → Kept s out r → Sound r
+unfolding frameWaits
+kept-sound s out r k = record { fine = never-past s out r k; told = told }
+  where
+    told : (y : Bool) → r .candidate .waits ≡ y → (r .candidate .waits && stands (bitsOf r)) ≡ y
+    told false e = ap (λ t. t && stands (bitsOf r)) e
+    told true e = ap (λ t. t && stands (bitsOf r)) e ∙ stands-test (bitsOf r) (k .found e)
+
+pub sound-taken : (r : Reader) → Sound r → (y : Bool) → r .candidate .waits ≡ y
+    → takenBy r ≡ inOrder ((false, 5) ∷ (not y, 4) ∷ []) (λ n. record { answer = Refused n; at = 0; frame = blank; reader = r }) (given r)
+sound-taken r v y e = taken-by r false y (v .fine) (v .told y e)
 
 -- ---- bytes fed
 
@@ -175,9 +193,9 @@ module _ (s : List Bool) (out : List (ℕ × Frame)) (r : Reader) (k : Kept s ou
       P f = Kept (s ++ []) (out ++ frameGiven (took (saysTaken f))) (f .reader)
 
       go : (y : Bool) → r .candidate .waits ≡ y → P (takenBy r)
-      go false ey = subst P (sym (taken-by r false false fine ey)) (unfold frameGiven in same)
+      go false ey = subst P (sym (sound-taken r (kept-sound s out r k) false ey)) (unfold frameGiven in same)
       go true ey =
-          subst P (sym (taken-by r false true fine ey))
+          subst P (sym (sound-taken r (kept-sound s out r k) true ey))
           (unfold given frameGiven in subst (λ a. Kept a (out ++ ((r .candidate .at, frameAt (bitsOf r)) ∷ []))
           (record { cells = r .cells; candidate = takeTo (r .cells) (r .candidate) (r .ended); ended = r .ended })) (sym (append-nil s)) (kept-taken s out r k ey))
 

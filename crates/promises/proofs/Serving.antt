@@ -18,7 +18,7 @@ use Rattle.stream.proofs.Scanning.{only, complete}
 use Rattle.stream.proofs.Verdicts.{so-far-append}
 use Rattle.stream.proofs.Hunting.{Idle, Hunts, hunts}
 use Rattle.reader.specs.Cells.{heldBits, roomEnd}
-use Rattle.reader.specs.Reading.{candidateBits, bitsOf, past, movedTo, stepCells, stepTo, steppedBy, fedBy, takeTo, takenBy, saysNext}
+use Rattle.reader.specs.Reading.{candidateBits, bitsOf, past, frameWaits, movedTo, stepCells, stepTo, steppedBy, fedBy, takeTo, takenBy, saysNext}
 use Rattle.reader.specs.declared.Candidate.{Candidate}
 use Rattle.reader.specs.declared.Reader.{Reader}
 use Rattle.reader.specs.declared.Answer.the-variants.{Done, Refused}
@@ -27,8 +27,8 @@ use Rattle.reader.specs.declared.Taken.{Taken}
 use Rattle.reader.proofs.Accepted.{room-all, left-le, rest-bits, length-step, step-top, step-low, step-bits}
 use Rattle.promises.specs.Calls.{Call, feeds, takes, replied, replyTo, after, bitsGiven, afterAll, bitsTaken, takesAll, served}
 use Rattle.promises.specs.Demand3.{RuledOutTo}
-use Rattle.promises.proofs.Kept.{Kept}
-use Rattle.promises.proofs.Runs.{fed-by, given, taken-by, never-past, kept-call, kept-calls}
+use Rattle.promises.proofs.Kept.{Kept, held-long}
+use Rattle.promises.proofs.Runs.{fed-by, given, taken-by, sound-taken, kept-sound, never-past, kept-call, kept-calls}
 
 -- ---- one list of calls after another
 
@@ -51,9 +51,9 @@ takes-no-bit zero r = refl
 takes-no-bit (suc n) r = takes-no-bit n (after r takes)
 
 pub take-ended : (r : Reader) → takenBy r .reader .ended ≡ r .ended
-take-ended r = go (past r) refl (r .candidate .waits) refl
+take-ended r = go (past r) refl (frameWaits r) refl
   where
-    go : (p : Bool) → past r ≡ p → (y : Bool) → r .candidate .waits ≡ y → takenBy r .reader .ended ≡ r .ended
+    go : (p : Bool) → past r ≡ p → (y : Bool) → frameWaits r ≡ y → takenBy r .reader .ended ≡ r .ended
     go true ep y ey = ap (λ (t : Taken). t .reader .ended) (taken-by r true y ep ey)
     go false ep false ey = ap (λ (t : Taken). t .reader .ended) (taken-by r false false ep ey)
     go false ep true ey = unfold given in ap (λ (t : Taken). t .reader .ended) (taken-by r false true ep ey)
@@ -66,14 +66,14 @@ takes-ended (suc n) r = takes-ended n (after r takes) ∙ take-ended r
 -- where none waits, taking changes nothing
 idle-take : (s : List Bool) (out : List (ℕ × Frame)) (r : Reader) → Kept s out r → r .candidate .waits ≡ false → after r takes ≡ r
 unfolding after
-idle-take s out r k w = ap (λ (t : Taken). t .reader) (taken-by r false false (never-past s out r k) w)
+idle-take s out r k w = ap (λ (t : Taken). t .reader) (sound-taken r (kept-sound s out r k) false w)
 
 -- a frame has at least 60 bits
 pub fewer : (s : List Bool) (out : List (ℕ × Frame)) (r : Reader) → Kept s out r → r .candidate .waits ≡ true → after r takes .candidate .held + 60 ≤ r .candidate .held
 fewer s out r k w = subst (λ (t : Reader). t .candidate .held + 60 ≤ r .candidate .held) (sym is) less
   where
     is : after r takes ≡ given r .reader
-    is = unfold after in ap (λ (t : Taken). t .reader) (taken-by r false true (never-past s out r k) w)
+    is = unfold after in ap (λ (t : Taken). t .reader) (sound-taken r (kept-sound s out r k) true w)
 
     n : ℕ
     n = r .candidate .held - 30 * size (bitsOf r)
@@ -81,7 +81,7 @@ fewer s out r k w = subst (λ (t : Reader). t .candidate .held + 60 ≤ r .candi
     less : given r .reader .candidate .held + 60 ≤ r .candidate .held
     less =
         unfold given takeTo movedTo in
-        omega (arith, left-le (r .cells) (k .len) (r .candidate .end) (r .candidate .held - 30 * size (bitsOf r)) (k .accepted .top) (omega (arith, k .accepted .low)) 0 (r .ended), k .accepted .come w)
+        omega (arith, left-le (r .cells) (k .len) (r .candidate .end) (r .candidate .held - 30 * size (bitsOf r)) (k .accepted .top) (omega (arith, k .accepted .low)) 0 (r .ended), k .found w .taken, held-long r (k .len) (k .accepted))
 
 pub drained : (n : ℕ) (s : List Bool) (out : List (ℕ × Frame)) (r : Reader) → Kept s out r → r .candidate .held < 62 + 60 * n
     → afterAll r (replicate n takes) .candidate .waits ≡ false
@@ -89,7 +89,7 @@ unfolding afterAll
 drained zero s out r k h = go (r .candidate .waits) refl
   where
     go : (y : Bool) → r .candidate .waits ≡ y → y ≡ false
-    go true w = absurd (omega (arith, k .accepted .come w))
+    go true w = absurd (omega (arith, k .found w .taken, held-long r (k .len) (k .accepted)))
     go false w = refl
 drained (suc n) s out r k h = go (r .candidate .waits) refl (λ l. drained n _ _ (after r takes) (kept-call s out r takes k) l)
   where
@@ -104,7 +104,7 @@ drained (suc n) s out r k h = go (r .candidate .waits) refl (λ l. drained n _ _
 
 -- every waiting frame taken
 pub none-waits : (s : List Bool) (out : List (ℕ × Frame)) (r : Reader) → Kept s out r → afterAll r takesAll .candidate .waits ≡ false
-none-waits s out r k = drained 16 s out r k (omega (arith, room-all (r .cells) (r .candidate) (k .accepted)))
+none-waits s out r k = drained 16 s out r k (omega (arith, room-all (r .candidate) (k .accepted)))
 
 -- ---- a byte fed, and every waiting frame taken
 

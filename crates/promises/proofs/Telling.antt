@@ -17,7 +17,7 @@ use Rattle.reader.specs.declared.Answer.{Answer}
 use Rattle.reader.specs.declared.Answer.the-variants.{Done, Refused}
 use Rattle.promises.specs.Calls.{feedsAll, takes, took, replyTo, after, bitsGiven, frameGiven, reported}
 use Rattle.promises.proofs.Kept.{Kept, kept-started}
-use Rattle.promises.proofs.Runs.{not-done, given, taken-by, never-past, all-bits, kept-call}
+use Rattle.promises.proofs.Runs.{not-done, given, sound-taken, Sound, kept-sound, never-past, all-bits, kept-call}
 use Rattle.promises.proofs.Serving.{take-ended, fewer}
 use Rattle.promises.proofs.EveryReader.{fed-parts}
 use Rattle.listing.specs.Text.{decimal, spaced, frameLine, linesIn}
@@ -163,20 +163,20 @@ line-some at f =
     omega (arith, length-append (decimal at) (32 ∷ spaced (h .kind ∷ h .station ∷ h .z ∷ h .sequence ∷ f .n ∷ codeOf (h .state) ∷ [])))
 
 -- where taking is refused none waits
-pub none-there : (r : Reader) → past r ≡ false → (n : ℕ) → takenBy r .answer ≡ Refused n → r .candidate .waits ≡ false
+pub none-there : (r : Reader) → Sound r → (n : ℕ) → takenBy r .answer ≡ Refused n → r .candidate .waits ≡ false
 none-there r p n e = go (r .candidate .waits) refl
   where
     go : (w : Bool) → r .candidate .waits ≡ w → w ≡ false
     go false ew = refl
-    go true ew = unfold given in not-done n (sym e ∙ ap (λ (t : Taken). t .answer) (taken-by r false true p ew))
+    go true ew = unfold given in not-done n (sym e ∙ ap (λ (t : Taken). t .answer) (sound-taken r p true ew))
 
 -- a frame taken was there
-some-there : (r : Reader) → past r ≡ false → takenBy r .answer ≡ Done → r .candidate .waits ≡ true
+some-there : (r : Reader) → Sound r → takenBy r .answer ≡ Done → r .candidate .waits ≡ true
 some-there r p e = go (r .candidate .waits) refl
   where
     go : (w : Bool) → r .candidate .waits ≡ w → w ≡ true
     go true ew = refl
-    go false ew = not-done 4 (sym (ap (λ (t : Taken). t .answer) (taken-by r false false p ew)) ∙ e)
+    go false ew = not-done 4 (sym (ap (λ (t : Taken). t .answer) (sound-taken r p false ew)) ∙ e)
 
 module _ (used : List ℕ) (out : List (ℕ × Frame)) (l : Listing) (t : Told used out l) (bs : List ℕ) where
   fed-ended : fedOn l bs .listing .reader .ended ≡ l .reader .ended
@@ -190,7 +190,7 @@ module _ (used : List ℕ) (out : List (ℕ × Frame)) (l : Listing) (t : Told u
   pub taken-less : takenBy (fedOn l bs .listing .reader) .answer ≡ Done
       → takenBy (fedOn l bs .listing .reader) .reader .candidate .held + 60 ≤ fedOn l bs .listing .reader .candidate .held
   unfolding after
-  taken-less e = fewer _ _ (fedOn l bs .listing .reader) k (some-there (fedOn l bs .listing .reader) (never-past _ _ _ k) e)
+  taken-less e = fewer _ _ (fedOn l bs .listing .reader) k (some-there (fedOn l bs .listing .reader) (kept-sound _ _ _ k) e)
     where
       k : Kept (lineBits (used ++ take (fedOn l bs .used) bs)) out (fedOn l bs .listing .reader)
       k = told-fed used out l t bs .kept

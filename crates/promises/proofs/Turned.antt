@@ -25,7 +25,7 @@ use Rattle.reader.proofs.Running.{run-waits, run-on, run-over}
 use Rattle.promises.specs.Calls.{Call, feeds, feedsAll, ends, takes, replied, used, took, replyTo, after, replies}
 use Rattle.promises.specs.Demand3.{OppositeByte, OppositeBytes, no-bytes, byte-and, OppositeCalls, no-calls, fed-and, all-and, end-and, take-and, TurnedIsSame}
 use Rattle.promises.proofs.Kept.{Kept, kept-started}
-use Rattle.promises.proofs.Runs.{given, fed-by, all-by, ended-by, taken-by, never-past, kept-call}
+use Rattle.promises.proofs.Runs.{given, fed-by, all-by, ended-by, sound-taken, kept-sound, never-past, kept-call}
 use Rattle.promises.proofs.Opposed.{Opposed, step-opposed, end-opposed, take-opposed}
 
 -- ---- bytes fed
@@ -39,7 +39,7 @@ more : (u p : ℕ) (x x′ : Run) → SameRun x x′ → SameRun (spent u p x) (
 more u p x x′ s = record { used = ap (λ n. u + n) (s .used); passed = ap (λ n. p + n) (s .passed); opposed = s .opposed }
 
 run-opposed : {bs ds : List ℕ} → OppositeBytes bs ds
-    → (cells : List ℕ) → length cells ≡ 40 → (c : Candidate) → Accepted cells c → (cells′ : List ℕ) → length cells′ ≡ 40 → (c′ : Candidate) → Accepted cells′ c′
+    → (cells : List ℕ) → length cells ≡ 40 → (c : Candidate) → Accepted c → (cells′ : List ℕ) → length cells′ ≡ 40 → (c′ : Candidate) → Accepted c′
     → Opposed cells c cells′ c′ → SameRun (runTo cells c bs) (runTo cells′ c′ ds)
 run-opposed no-bytes cells l c a cells′ l′ c′ a′ o = unfold runTo in record { used = refl; passed = refl; opposed = o }
 run-opposed (byte-and {b = b} {c = d} {bs = bs} {cs = ds} t rest) cells l c a cells′ l′ c′ a′ o =
@@ -154,9 +154,9 @@ module _ (s s′ : List Bool) (out out′ : List (ℕ × Frame)) (r r′ : Reade
       alike q = record { reply = unfold replyTo in q .0; facing = unfold after in q .1 }
 
       go : (y : Bool) → r .candidate .waits ≡ y → Alike r r′ takes takes
-      go false ey = alike (subst₂ P (sym (taken-by r false false p ey)) (sym (taken-by r′ false false p′ (o .waits ∙ ey))) (refl, f))
+      go false ey = alike (subst₂ P (sym (sound-taken r (kept-sound s out r k) false ey)) (sym (sound-taken r′ (kept-sound s′ out′ r′ k′) false (o .waits ∙ ey))) (refl, f))
       go true ey =
-          alike (subst₂ P (sym (taken-by r false true p ey)) (sym (taken-by r′ false true p′ (o .waits ∙ ey)))
+          alike (subst₂ P (sym (sound-taken r (kept-sound s out r k) true ey)) (sym (sound-taken r′ (kept-sound s′ out′ r′ k′) true (o .waits ∙ ey)))
           (unfold given in (
             ap₂ (λ a v. took (answers (a, v))) (o .at) (ap frameAt (o .bits) ∙ frame-turned (bitsOf r) (k .found ey)),
             record {

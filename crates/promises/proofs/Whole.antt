@@ -14,7 +14,7 @@ use Rattle.stream.specs.Standing.{frameAt, scan, framesIn}
 use Rattle.stream.proofs.Hunting.{MayCome, Idle}
 use Rattle.frame.specs.Frames.{blank}
 use Rattle.frame.specs.declared.Frame.{Frame}
-use Rattle.reader.specs.Reading.{bitsOf, past, runTo, fedAllBy, endedBy, takeTo, takenBy}
+use Rattle.reader.specs.Reading.{bitsOf, past, frameWaits, runTo, fedAllBy, endedBy, takeTo, takenBy}
 use Rattle.reader.specs.declared.Reader.{Reader}
 use Rattle.reader.specs.declared.Next.{Next}
 use Rattle.reader.specs.declared.FedAll.{FedAll}
@@ -38,7 +38,7 @@ use Rattle.promises.proofs.Pieces.{answered-done, CourseTells, course-t
 -- taking from a reader that refuses leaves it
 refused-stays : (r : Reader) (n : ℕ) → takenBy r .answer ≡ Refused n → takenBy r .reader ≡ r
 unfolding takenBy
-refused-stays r n e = go (past r) (not (r .candidate .waits)) e
+refused-stays r n e = go (past r) (not (frameWaits r)) e
   where
     go : (p w : Bool) → inOrder {A = Taken} ((p, 5) ∷ (w, 4) ∷ []) (λ m. record { answer = Refused m; at = 0; frame = blank; reader = r })
         (record { answer = Done; at = r .candidate .at; frame = frameAt (bitsOf r); reader = record { cells = r .cells; candidate = takeTo (r .cells) (r .candidate) (r .ended); ended = r .ended } }) .answer ≡ Refused n

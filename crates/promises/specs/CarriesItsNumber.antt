@@ -18,7 +18,7 @@ use Rattle.frame.specs.declared.Header.{Header}
 use Rattle.frame.specs.declared.Frame.{Frame}
 use Rattle.frame.specs.declared.Layout.{Layout}
 use Rattle.frame.specs.declared.Layout.the-variants as layout
-use Rattle.reader.specs.Reading.{past, busy, fedBy, fedAllBy, endedBy, takenBy, saysAnswer}
+use Rattle.reader.specs.Reading.{past, frameWaits, busy, fedBy, fedAllBy, endedBy, takenBy, saysAnswer}
 use Rattle.reader.specs.declared.Reader.{Reader}
 use Rattle.writer.specs.Answer.{openChecks, openedBy, writeChecks, writtenBy, saysOpened, saysWritten}
 use Rattle.writer.specs.declared.Carried.{Carried}
@@ -57,7 +57,7 @@ pub record CarriesItsNumber : Type 0 where
   pub feed : (r : Reader) (b : ℕ) → Ordered (5 ∷ 3 ∷ 2 ∷ 1 ∷ []) (busy r ++ ((not (isData b), 1) ∷ [])) (saysAnswer (fedBy r b .answer))
   pub feed-all : (r : Reader) (bs : List ℕ) → Ordered (5 ∷ 3 ∷ 2 ∷ []) (busy r) (saysAnswer (fedAllBy r bs .answer))
   pub reader-end : (r : Reader) → Ordered (5 ∷ 3 ∷ 2 ∷ []) (busy r) (saysAnswer (endedBy r .answer))
-  pub reader-take : (r : Reader) → Ordered (5 ∷ 4 ∷ []) ((past r, 5) ∷ (not (r .candidate .waits), 4) ∷ []) (saysAnswer (takenBy r .answer))
+  pub reader-take : (r : Reader) → Ordered (5 ∷ 4 ∷ []) ((past r, 5) ∷ (not (frameWaits r), 4) ∷ []) (saysAnswer (takenBy r .answer))
   -- reading a record: 5, 6, 7, 8; 9 of an entry; 10 of a field; 11, then 13 of a text
   pub count-corrections : (f : Frame)
       → Ordered (5 ∷ 6 ∷ 7 ∷ 8 ∷ []) (readOrder layout.Correction f (misfit 40 (f .n)) []) (saysCount (corrections.countCorrections f))

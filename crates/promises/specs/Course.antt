@@ -44,13 +44,13 @@ TextIsWhole bs ps out =
     let c = courseOf ps begun bs in
     c .left ≡ [] → Answered (saysListed (finishBy (c .listing) (length out))) → listedText bs ps out ≡ textOf bs
 
--- a caller who goes on until a piece writes nothing has all the bytes lent used, and with room for `endRoom` bytes the end is carried out. A
--- reader's array has forty cells.
-abbrev pub NothingLeft : Listing → List ℕ → ℕ → Type 0
-NothingLeft l bs room =
-    let r = pieceBy l bs room in
-    length (l .reader .cells) ≡ 40 → (u : ℕ) → saysListed r ≡ answers (u, 0)
-    → (u ≡ length bs) × ((n : ℕ) → endRoom ≤ n → Answered (saysListed (finishBy (r .listing) n)))
+-- a caller who goes on until a piece writes nothing has all the bytes lent used, and with room for `endRoom` bytes the end is carried out: of a
+-- listing begun fresh and changed only by pieces
+abbrev pub NothingLeft : List ℕ → List Piece → Type 0
+NothingLeft bs ps = (lent : List ℕ) (room : ℕ) →
+    let r = pieceBy (courseOf ps begun bs .listing) lent room in
+    (u : ℕ) → saysListed r ≡ answers (u, 0)
+    → (u ≡ length lent) × ((n : ℕ) → endRoom ≤ n → Answered (saysListed (finishBy (r .listing) n)))
 
 -- a listing begun fresh and changed only by pieces takes the next one wherever there is room for a line
 abbrev pub PieceTaken : List ℕ → List Piece → Type 0

@@ -6,7 +6,7 @@ use Rattle.promises.specs.StreamCalls.{StreamCalls}
 use Rattle.promises.specs.RecordCalls.{RecordCalls}
 use Rattle.promises.specs.CarriesItsNumber.{CarriesItsNumber}
 use Rattle.promises.specs.ChangesNeither.{ChangesNeither, NumberAlone, OnlyItsBytes}
-use Rattle.promises.specs.Demand3.{NextIsAccepted}
+use Rattle.promises.specs.Demand3.{NextIsAccepted, TakesOnlyFrames}
 
 pub record Demand1 : Type 2 where
   -- "Every byte sequence, frame and buffer gets a defined answer." "No call trusts its caller." "Every call ends.": of every public function the
@@ -24,3 +24,5 @@ pub record Demand1 : Type 2 where
   pub own-bytes : OnlyItsBytes
   -- and a reader that is not refused with 5 is left as one that is not
   pub accepted : (r : Reader) → NextIsAccepted r
+  -- and taking believes no state: what it hands out stands in the bits held
+  pub taken : (r : Reader) → TakesOnlyFrames r

@@ -9,11 +9,12 @@ use lib.ListN.{length, take, drop}
 use Rattle.answer.specs.Order.{refuses, answers}
 use Rattle.line.specs.Line.{isData, six, lineBits, without}
 use Rattle.frame.specs.Widths.{outside}
+use Rattle.frame.specs.declared.Frame.{Frame}
 use Rattle.stream.specs.Standing.{Stands, frameAt, Placed, placed, scan, framesIn}
 use Rattle.stream.specs.Verdict.{RightSoFar, decided}
 use Rattle.stream.specs.Places.{StandsIn, FoundOrCovered, Apart, Damaged}
 use Rattle.pack.specs.Coding.{Each}
-use Rattle.reader.specs.Reading.{bitsOf, started, past, fedBy, fedAllBy, saysNext, saysFedAll}
+use Rattle.reader.specs.Reading.{bitsOf, started, past, fedBy, fedAllBy, takenBy, saysNext, saysFedAll, saysTaken}
 use Rattle.reader.specs.declared.Reader.{Reader}
 use Rattle.promises.specs.Calls.{Call, feeds, feedsAll, ends, takes, Reply, replied, answerOf, replyTo, after, afterAll, replies, bitsTaken, handedOut, reported, takesAll, served, inSlices, unused}
 
@@ -140,6 +141,16 @@ FeedAllIsFeed r bs = length (r .cells) ≡ 40 → FedOneByOne r bs
 -- ---- no call leaves a reader that is refused with 5, where the one that it was given is not
 abbrev pub NextIsAccepted : Reader → Type 0
 NextIsAccepted r = length (r .cells) ≡ 40 → past r ≡ false → (c : Call) → past (after r c) ≡ false
+
+-- ---- what taking hands out, of every reader, forged or not: a frame that stands in the bits held, at the position that the state says
+pub record Handed (r : Reader) (at : ℕ) (f : Frame) : Type 0 where
+  pub long : length (bitsOf r) ≡ r .candidate .held
+  pub stands : Stands (bitsOf r)
+  pub frame : f ≡ frameAt (bitsOf r)
+  pub place : at ≡ r .candidate .at
+
+abbrev pub TakesOnlyFrames : Reader → Type 0
+TakesOnlyFrames r = length (r .cells) ≡ 40 → (at : ℕ) (f : Frame) → saysTaken (takenBy r) ≡ answers (at, f) → Handed r at f
 
 -- ---- THE DEMAND
 pub record Demand3 : Type 0 where

@@ -1,7 +1,6 @@
 -- EVERYTHING PROMISED, in one record: the three demands, the listing and the worked values. Assumes nothing.
 use mathlib.Core.List.{List}
 use Prim.Native.Nat.{ℕ}
-use Rattle.listing.specs.declared.Listing.{Listing}
 use Rattle.promises.specs.Demand1.{Demand1}
 use Rattle.promises.specs.Demand2.{Demand2}
 use Rattle.promises.specs.Demand3.{Demand3}
@@ -16,7 +15,7 @@ pub record Demands : Type 2 where
   pub text : (bs : List ℕ) (ps : List Piece) (out : List ℕ) → TextIsWhole bs ps out
   -- a piece that writes nothing used all bytes lent; every piece with room for a line is taken; after enough of them nothing is left, and the whole
   -- text has come
-  pub nothing-left : (l : Listing) (bs : List ℕ) (room : ℕ) → NothingLeft l bs room
+  pub nothing-left : (bs : List ℕ) (ps : List Piece) → NothingLeft bs ps
   pub taken : (bs : List ℕ) (ps : List Piece) → PieceTaken bs ps
   pub reached : (bs : List ℕ) (ps : List Piece) → Reached bs ps
   pub comes : (bs : List ℕ) (ps : List Piece) (out : List ℕ) → TextComes bs ps out

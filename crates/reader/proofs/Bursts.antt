@@ -184,7 +184,7 @@ module _ (cells : List ℕ) (c : Candidate) (len : length cells ≡ 40) (top : c
 
 pub record Goes (whole : Run) (bytes : List ℕ) (cells : List ℕ) (c : Candidate) (used passed : ℕ) : Type 0 where
   pub long : length cells ≡ 40
-  pub fine : Accepted cells c
+  pub fine : Accepted c
   pub is : whole ≡ spent used passed (runTo cells c (drop used bytes))
 
 goes-one : (whole : Run) (bytes : List ℕ) (s : ℕ) (cells : List ℕ) (c : Candidate) (used passed : ℕ) → Goes whole bytes cells c used passed → c .waits ≡ false

@@ -8,4 +8,4 @@ pub mod Accepted
 pub mod Stepping
 pub mod Running
 pub mod Bursts
-pub mod Taking
+pub mod TakeLaws

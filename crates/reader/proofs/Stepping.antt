@@ -26,7 +26,7 @@ abbrev onReady : {A : Type 0} → (ℕ → A) → A → Ready → A
 onReady refuse answer Yes = answer
 onReady refuse answer (Refused n) = refuse n
 
-module _ {A : Type 0} (refuse : ℕ → A) (done : A) (r : Reader) (state : Ready) (is : state ≡ readyOf (r .cells) (r .candidate) (r .ended)) where
+module _ {A : Type 0} (refuse : ℕ → A) (done : A) (r : Reader) (state : Ready) (is : state ≡ readyOf (r .candidate) (r .ended)) where
   staged : inOrder (busy r) refuse done ≡ onReady refuse done state
   staged =
       sym (order-map (onReady refuse done) (busy r) Refused Yes) ∙ ap (onReady refuse done) (sym is)
@@ -39,14 +39,14 @@ module _ {A : Type 0} (refuse : ℕ → A) (done : A) (r : Reader) (state : Read
 
 -- a reader that is ready: not past, not ended, nothing waits
 pub record Free (r : Reader) : Type 0 where
-  pub fine : pastOf (r .cells) (r .candidate) ≡ false
+  pub fine : pastOf (r .candidate) ≡ false
   pub goes : r .ended ≡ false
   pub none : r .candidate .waits ≡ false
 
-pub free : (r : Reader) (state : Ready) → state ≡ readyOf (r .cells) (r .candidate) (r .ended) → state ≡ Yes → Free r
-free r state is e = go (pastOf (r .cells) (r .candidate)) refl (r .ended) refl (r .candidate .waits) refl (sym is ∙ e)
+pub free : (r : Reader) (state : Ready) → state ≡ readyOf (r .candidate) (r .ended) → state ≡ Yes → Free r
+free r state is e = go (pastOf (r .candidate)) refl (r .ended) refl (r .candidate .waits) refl (sym is ∙ e)
   where
-    go : (p : Bool) → pastOf (r .cells) (r .candidate) ≡ p → (x : Bool) → r .ended ≡ x → (w : Bool) → r .candidate .waits ≡ w
+    go : (p : Bool) → pastOf (r .candidate) ≡ p → (x : Bool) → r .ended ≡ x → (w : Bool) → r .candidate .waits ≡ w
         → inOrder ((p, 5) ∷ (x, 3) ∷ (w, 2) ∷ []) Refused Yes ≡ Yes → Free r
     go true ep x ex w ew f = absurd (let z : _≡_ {A = ℕ} 0 1 = cc in omega arith)
     go false ep true ex w ew f = absurd (let z : _≡_ {A = ℕ} 0 1 = cc in omega arith)
@@ -72,7 +72,7 @@ module _ (r : Reader) (b : ℕ) where
   unfolding fedBy refused
   fed-order = order-append (busy r) ((not (isData b), 1) ∷ []) refused (record { answer = answer.Done; reader = steppedBy r b })
 
-  module _ (state : Ready) (is : state ≡ readyOf (r .cells) (r .candidate) (r .ended)) where
+  module _ (state : Ready) (is : state ≡ readyOf (r .candidate) (r .ended)) where
     pub fed-refused : (n : ℕ) → state ≡ Refused n → record { answer = answer.Refused n; reader = r } ≡ fedBy r b
     unfolding refused
     fed-refused n e = not-ready refused _ r state is n e ∙ sym fed-order
@@ -90,7 +90,7 @@ module _ (r : Reader) (b : ℕ) where
 
 -- ---- bytes fed, and the end
 
-module _ (r : Reader) (bs : List ℕ) (state : Ready) (is : state ≡ readyOf (r .cells) (r .candidate) (r .ended)) where
+module _ (r : Reader) (bs : List ℕ) (state : Ready) (is : state ≡ readyOf (r .candidate) (r .ended)) where
   pub all-refused : (n : ℕ) → state ≡ Refused n → record { answer = answer.Refused n; used = 0; passed = 0; reader = r } ≡ fedAllBy r bs
   unfolding fedAllBy
   all-refused n e = not-ready (λ m. record { answer = answer.Refused m; used = 0; passed = 0; reader = r }) _ r state is n e
@@ -99,7 +99,7 @@ module _ (r : Reader) (bs : List ℕ) (state : Ready) (is : state ≡ readyOf (r
   unfolding fedAllBy
   all-done e x h = ap (ranBy r) h ∙ is-ready (λ m. record { answer = answer.Refused m; used = 0; passed = 0; reader = r }) _ r state is e
 
-module _ (r : Reader) (state : Ready) (is : state ≡ readyOf (r .cells) (r .candidate) (r .ended)) where
+module _ (r : Reader) (state : Ready) (is : state ≡ readyOf (r .candidate) (r .ended)) where
   pub end-refused : (n : ℕ) → state ≡ Refused n → record { answer = answer.Refused n; reader = r } ≡ endedBy r
   unfolding endedBy
   end-refused n e = not-ready (λ m. record { answer = answer.Refused m; reader = r }) _ r state is n e

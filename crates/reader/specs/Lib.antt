@@ -1,3 +1,4 @@
 pub mod Cells
 pub mod Hunting
 pub mod Reading
+pub mod Taking

@@ -2,7 +2,7 @@
 use mathlib.Core.Bool.{Bool, true, false, cond, _&&_, _||_, not}
 use mathlib.Core.List.{List, [], _∷_, _++_}
 use mathlib.Core.Path.{_≡_}
-use Prim.Native.Nat.{ℕ, suc, _+_, _-_, _*_, _%_, _^_, _≤_, _<_}
+use Prim.Native.Nat.{ℕ, zero, suc, _+_, _-_, _*_, _%_, _^_, _≤_, _<_}
 use lib.Dec.{ltb}
 use lib.ListN.{replicate, length, getD}
 use Rattle.answer.specs.Order.{Says, refuses, answers, Check, inOrder}
@@ -10,7 +10,7 @@ use Rattle.bits.specs.Bits.{number}
 use Rattle.line.specs.Line.{isData, six}
 use Rattle.frame.specs.Frames.{blank}
 use Rattle.frame.specs.declared.Frame.{Frame}
-use Rattle.stream.specs.Standing.{size, frameAt}
+use Rattle.stream.specs.Standing.{size, stands, frameAt}
 use Rattle.reader.specs.Cells.{heldBits, roomEnd, pushedCells}
 use Rattle.reader.specs.Hunting.{huntOf}
 use Rattle.reader.specs.declared.hunt.Stop.{Stop}
@@ -37,17 +37,26 @@ bitsOf r = candidateBits (r .cells) (r .candidate)
 unfoldable pub started : Reader
 started = record { cells = replicate 40 0; candidate = record { end = 0; held = 0; words = 0; at = 2; waits = false }; ended = false }
 
--- REFUSAL 5: counts past what a reader can hold. The buffer has 1280 bits, and a frame 33 words; an undecided position has at most 991 bits with
--- the two before it, and one byte brings six more; a frame that waits, `whole` bits with the two before it, is among the bits held.
-unfoldable pub pastBy : ℕ → ℕ → ℕ → Bool → ℕ → Bool
-pastBy end held words waits whole =
-    ltb 1280 end || ltb end held || ltb 32 words || ltb (cond waits 997 991) held || waits && ltb held whole
+-- the bits that so many words take, with the two before them
+abbrev pub knownBits : ℕ → ℕ
+knownBits zero = 0
+knownBits (suc k) = 32 + 30 * k
 
-unfoldable pub pastOf : List ℕ → Candidate → Bool
-pastOf cells c = pastBy (c .end) (c .held) (c .words) (c .waits) (2 + 30 * size (candidateBits cells c))
+-- REFUSAL 5: counts past what a reader can hold. The buffer has 1280 bits; an undecided position has at most 991 bits with the two before it, and one
+-- byte brings six more; of its words at most 32 are known right, and these are among the bits held.
+unfoldable pub pastBy : ℕ → ℕ → ℕ → Bool → Bool
+pastBy end held words waits =
+    ltb 1280 end || ltb end held || ltb (cond waits 997 991) held || ltb 32 words || ltb held (knownBits words)
+
+unfoldable pub pastOf : Candidate → Bool
+pastOf c = pastBy (c .end) (c .held) (c .words) (c .waits)
 
 abbrev pub past : Reader → Bool
-past r = pastOf (r .cells) (r .candidate)
+past r = pastOf (r .candidate)
+
+-- A FRAME WAITS to be taken: the reader says so, and one stands in the bits held
+unfoldable pub frameWaits : Reader → Bool
+frameWaits r = r .candidate .waits && stands (bitsOf r)
 
 -- ---- the hunt goes on
 
@@ -93,14 +102,14 @@ FiveIn c bytes at Fewer = Unit {0}
 -- ---- FEED: 5, 3, 2, 1
 
 -- what feeding and ending have in common: 5, 3, 2
-abbrev pub busyBy : List ℕ → Candidate → Bool → List Check
-busyBy cells c ended = (pastOf cells c, 5) ∷ (ended, 3) ∷ (c .waits, 2) ∷ []
+abbrev pub busyBy : Candidate → Bool → List Check
+busyBy c ended = (pastOf c, 5) ∷ (ended, 3) ∷ (c .waits, 2) ∷ []
 
 abbrev pub busy : Reader → List Check
-busy r = busyBy (r .cells) (r .candidate) (r .ended)
+busy r = busyBy (r .candidate) (r .ended)
 
-abbrev pub readyOf : List ℕ → Candidate → Bool → Ready
-readyOf cells c ended = inOrder (busyBy cells c ended) ready.Refused ready.Yes
+abbrev pub readyOf : Candidate → Bool → Ready
+readyOf c ended = inOrder (busyBy c ended) ready.Refused ready.Yes
 
 unfoldable pub fedBy : Reader → ℕ → Next
 fedBy r b =
@@ -151,6 +160,9 @@ takeTo cells c ended =
     let n = 30 * size (candidateBits cells c) in
     movedTo (c .at) (c .end) (c .held) (huntOf cells (c .end) (c .held - n) 0 ended)
 
+abbrev pub refusedTaking : Reader → ℕ → Taken
+refusedTaking r n = record { answer = Refused n; at = 0; frame = blank; reader = r }
+
 unfoldable pub takenBy : Reader → Taken
 takenBy r =
     let next : Taken = record {
@@ -159,7 +171,7 @@ takenBy r =
       frame = frameAt (bitsOf r);
       reader = record { cells = r .cells; candidate = takeTo (r .cells) (r .candidate) (r .ended); ended = r .ended };
     } in
-    inOrder ((past r, 5) ∷ (not (r .candidate .waits), 4) ∷ []) (λ n. record { answer = Refused n; at = 0; frame = blank; reader = r }) next
+    inOrder ((past r, 5) ∷ (not (frameWaits r), 4) ∷ []) (refusedTaking r) next
 
 -- ---- an answer in the table's terms
 

@@ -1,20 +1,16 @@
-// The hunt goes on: by six bits, by bytes, and at the frame that waits.
+// The hunt goes on: by six bits and by bytes.
 ghost use mathlib.Core.Path.{_≡_};
 ghost use mathlib.Core.Bool.{false};
 ghost use mathlib.Core.List.{[], _∷_};
 ghost use Prim.Native.Nat.{_+_, _*_, _≤_, _<_};
 ghost use lib.ListN.{length};
-ghost use Rattle.stream.specs.Standing.{nAt, frameAt};
-ghost use Rattle.reader.specs.Cells.{heldBits};
-ghost use Rattle.reader.specs.Reading.{movedTo, stepCells, stepTo, manyCells, manyTo, FiveIn, runTo};
+ghost use Rattle.reader.specs.Reading.{knownBits, movedTo, stepCells, stepTo, manyCells, manyTo, FiveIn, runTo};
 use crate::Candidate;
 use crate::cells::push;
 use crate::cells::put_five;
-use crate::cells::window;
 use crate::hunt::Stop;
 use crate::hunt::hunt;
 use crate::hunt::seek;
-use frame::Frame;
 use line::Six;
 
 // What a run over bytes left beside the cells.
@@ -141,7 +137,7 @@ fn burst(cells: &mut [u32; 40], c: Candidate, a: u32, b: u32, d: u32, e: u32, f:
 
 // Bytes fed until a frame waits or none is left.
 pub(crate) fn run(cells: &mut [u32; 40], from: Candidate, bytes: &[u8]) -> Ran
-    requires { ⌜ (length (now cells) ≡ 40) × (from .end ≤ 1280) × (from .held ≤ from .end) × (from .held ≤ 991) × (from .words ≤ 32) × (from .waits ≡ false) ⌝ }
+    requires { ⌜ (length (now cells) ≡ 40) × (from .end ≤ 1280) × (from .held ≤ from .end) × (from .held ≤ 991) × (from .words ≤ 32) × (from .waits ≡ false) × (knownBits (from .words) ≤ from .held) ⌝ }
     ensures { λ r. ⌜ record { cells = now (cells .exit); candidate = r .candidate; used = r .used; passed = r .passed } ≡ runTo (now (cells .entry)) from (now (bytes .entry)) ⌝ }
 {
     let mut c = from;
@@ -178,22 +174,4 @@ pub(crate) fn run(cells: &mut [u32; 40], from: Candidate, bytes: &[u8]) -> Ran
         used,
         passed,
     }
-}
-
-// The frame of the bits held, its N known.
-pub(crate) fn frame_from(cells: &[u32; 40], end: usize, held: usize, n: usize) -> Frame
-    requires { ⌜ (length (now cells) ≡ 40) × (end ≤ 1280) × (held ≤ end) × (n ≡ nAt (heldBits (now cells) end held)) × (62 + 30 * n ≤ held) ⌝ }
-    ensures { λ r. ⌜ r ≡ frameAt (heldBits (now (cells .entry)) end held) ⌝ }
-{
-    let first = end - held;
-    let one = word::data_of(window(cells, first));
-    let two = word::data_of(window(cells, first + 30));
-    let header = frame::header_of(one, two);
-    let mut words = [0u32; 31];
-    let mut k: usize = 0;
-    while k < n {
-        words[k] = word::data_of(window(cells, first + 60 + 30 * k));
-        k += 1;
-    }
-    Frame { header, n, words }
 }

@@ -1,10 +1,8 @@
 // The checks that the reader's calls share: 5, 3, 2.
 ghost use mathlib.Core.Path.{_≡_};
-ghost use lib.ListN.{length};
+ghost use mathlib.Core.Bool.{cond};
 ghost use Rattle.reader.specs.Reading.{pastOf, readyOf};
 use crate::Candidate;
-use crate::cells::window;
-use crate::hunt::n_in;
 
 // Whether a reader takes bits.
 pub(crate) enum Ready {
@@ -12,41 +10,45 @@ pub(crate) enum Ready {
     Refused(u8),
 }
 
+// The most bits that can be held.
+fn most(waits: bool) -> usize
+    ensures { λ r. ⌜ r ≡ cond waits 997 991 ⌝ }
+{
+    if waits {
+        return 997;
+    }
+    991
+}
+
 // The counts go past what a reader can hold.
-pub(crate) fn past(cells: &[u32; 40], c: Candidate) -> bool
-    requires { ⌜ length (now cells) ≡ 40 ⌝ }
-    ensures { λ r. ⌜ r ≡ pastOf (now (cells .entry)) c ⌝ }
+pub(crate) fn past(c: Candidate) -> bool
+    ensures { λ r. ⌜ r ≡ pastOf c ⌝ }
 {
     let held = c.held;
-    let end = c.end;
-    if 1280 < end {
+    let words = c.words;
+    if 1280 < c.end {
         return true;
     }
-    if end < held {
+    if c.end < held {
         return true;
     }
-    if 32 < c.words {
+    if most(c.waits) < held {
         return true;
     }
-    if !c.waits {
-        return 991 < held;
+    if words == 0 {
+        return false;
     }
-    if 997 < held {
+    if 32 < words {
         return true;
     }
-    if held < 62 {
-        return true;
-    }
-    let n = n_in(window(cells, end - held + 30));
-    held < 62 + 30 * n
+    held < 2 + 30 * words
 }
 
 // Whether a reader takes bits: 5, 3, 2.
-pub(crate) fn readiness(cells: &[u32; 40], c: Candidate, ended: bool) -> Ready
-    requires { ⌜ length (now cells) ≡ 40 ⌝ }
-    ensures { λ r. ⌜ r ≡ readyOf (now (cells .entry)) c ended ⌝ }
+pub(crate) fn readiness(c: Candidate, ended: bool) -> Ready
+    ensures { λ r. ⌜ r ≡ readyOf c ended ⌝ }
 {
-    if past(cells, c) {
+    if past(c) {
         return Ready::Refused(5);
     }
     if ended {

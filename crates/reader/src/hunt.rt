@@ -18,7 +18,7 @@ pub struct Stop {
 }
 
 // Word k of a candidate is right: its parity, and of the first word the preamble, which is looked at before.
-fn right(k: usize, window: u32) -> bool
+pub(crate) fn right(k: usize, window: u32) -> bool
     ensures { λ r. ⌜ r ≡ rightly k (bits 32 window) ⌝ }
 {
     if k != 0 {

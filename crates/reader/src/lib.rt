@@ -1,24 +1,23 @@
 // The reader: line bytes in, frames out. No slip, turned line or false start costs a frame that stands.
 ghost use mathlib.Core.Path.{_≡_};
-ghost use Rattle.reader.specs.Reading.{started, fedBy, fedAllBy, endedBy, takenBy};
+ghost use Rattle.reader.specs.Reading.{started, fedBy, fedAllBy, endedBy, refusedTaking, takenBy};
 
 mod advance;
 mod cells;
 mod checks;
 mod hunt;
+mod taking;
 
-use advance::frame_from;
 use advance::moved;
 use advance::run;
 use advance::step;
-use cells::window;
 use checks::Ready;
 use checks::past;
 use checks::readiness;
 use frame::Frame;
 use hunt::hunt;
-use hunt::n_in;
 use line::Six;
+use taking::standing;
 
 // The position that is looked at: the bits held are the `held` ones before bit `end` of the buffer and start two bits before it; `words` of its
 // words are known right; `at` is its position in the stream modulo 2^32; `waits` says that a frame stands there and waits to be taken.
@@ -88,7 +87,7 @@ pub fn feed(reader: Reader, byte: u8) -> Next
 {
     let mut next = reader;
     let candidate = next.candidate;
-    let ready = readiness(&next.cells, candidate, next.ended);
+    let ready = readiness(candidate, next.ended);
     if let Ready::Refused(n) = ready {
         return Next {
             answer: Answer::Refused(n),
@@ -116,7 +115,7 @@ pub fn feed_all(reader: Reader, bytes: &[u8]) -> FedAll
 {
     let mut next = reader;
     let candidate = next.candidate;
-    let ready = readiness(&next.cells, candidate, next.ended);
+    let ready = readiness(candidate, next.ended);
     if let Ready::Refused(n) = ready {
         return FedAll {
             answer: Answer::Refused(n),
@@ -141,7 +140,7 @@ pub fn end(reader: Reader) -> Next
     ensures { λ r. ⌜ r ≡ endedBy reader ⌝ }
 {
     let candidate = reader.candidate;
-    let ready = readiness(&reader.cells, candidate, reader.ended);
+    let ready = readiness(candidate, reader.ended);
     if let Ready::Refused(n) = ready {
         return Next {
             answer: Answer::Refused(n),
@@ -165,32 +164,43 @@ pub fn end(reader: Reader) -> Next
     }
 }
 
+// Taking is refused: there is no frame beside the number.
+fn untaken(reader: Reader, n: u8) -> Taken
+    ensures { λ r. ⌜ r ≡ refusedTaking reader n ⌝ }
+{
+    Taken {
+        answer: Answer::Refused(n),
+        at: 0,
+        frame: frame::no_frame(),
+        reader,
+    }
+}
+
 // The frame that waits, and the hunt goes on at the bit after it: 5, 4.
 pub fn take(reader: Reader) -> Taken
     ensures { λ r. ⌜ r ≡ takenBy reader ⌝ }
 {
-    let c = reader.candidate;
-    if past(&reader.cells, c) {
-        return Taken {
-            answer: Answer::Refused(5),
-            at: 0,
-            frame: frame::no_frame(),
-            reader,
-        };
+    let mut next = reader;
+    let c = next.candidate;
+    if past(c) {
+        return untaken(next, 5);
     }
     if !c.waits {
-        return Taken {
-            answer: Answer::Refused(4),
-            at: 0,
-            frame: frame::no_frame(),
-            reader,
-        };
+        return untaken(next, 4);
     }
-    let n = n_in(window(&reader.cells, c.end - c.held + 30));
-    let frame = frame_from(&reader.cells, c.end, c.held, n);
-    let stop = hunt(&reader.cells, c.end, c.held - 30 * (n + 2), 0, reader.ended);
+    let there = standing(&next.cells, c.end, c.held);
+    if !there.stands {
+        return untaken(next, 4);
+    }
+    let frame = there.frame;
+    let stop = hunt(
+        &next.cells,
+        c.end,
+        c.held - 30 * (frame.n + 2),
+        0,
+        next.ended,
+    );
     let last = moved(c.at, c.end, c.held, stop);
-    let mut next = reader;
     next.candidate = last;
     Taken {
         answer: Answer::Done,

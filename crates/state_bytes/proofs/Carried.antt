@@ -22,6 +22,8 @@ use Rattle.reader.specs.Reading.{
   busy,
   started,
   movedTo,
+  past,
+  frameWaits,
   stepCells,
   stepTo,
   steppedBy,
@@ -102,7 +104,7 @@ small-step cells c x s = small-put (roomCells cells (c .end) (c .held)) (roomEnd
 pub record Carried (cells : List ℕ) (c : Candidate) : Type 0 where
   pub count : length cells ≡ 40
   pub small : Small cells
-  pub fine : Accepted cells c
+  pub fine : Accepted c
   pub place : c .at < 2 ^ 32
 
 abbrev pub CarriedBy : Reader → Type 0
@@ -140,7 +142,7 @@ unfolding started
 carried-started = record {
   count = length-replicate {A = ℕ} 40 0;
   small = small-zeros 40;
-  fine = accept-free (replicate 40 0) (record { end = 0; held = 0; words = 0; at = 2; waits = false }) refl (omega arith) (omega arith) (omega arith) (omega arith);
+  fine = accept-free (record { end = 0; held = 0; words = 0; at = 2; waits = false }) refl (omega arith) (omega arith) (omega arith) (omega arith) (omega arith);
   place = omega arith;
 }
 
@@ -231,7 +233,7 @@ module _ (r : Reader) (k : CarriedBy r) where
   pub carried-taken : CarriedBy (takenBy r .reader)
   unfolding takenBy
   carried-taken =
-      order-holds (λ (x : Taken). CarriedBy (x .reader)) ((past r, 5) ∷ (not (r .candidate .waits), 4) ∷ [])
+      order-holds (λ (x : Taken). CarriedBy (x .reader)) ((past r, 5) ∷ (not (frameWaits r), 4) ∷ [])
       (λ n. record { answer = Refused n; at = 0; frame = blank; reader = r }) (record {
         answer = Done;
         at = r .candidate .at;

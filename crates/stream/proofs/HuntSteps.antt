@@ -102,10 +102,10 @@ hunt-suffix e k (b ∷ d) = go (verdictFrom (33 - k) k (b ∷ d)) e (up (hunt-su
     go (undecided j) true h = h
     go (undecided j) false h = none (b ∷ d)
 
--- WHERE THE HUNT STOPS, whatever it began with: at a frame that has come whole, or with less than 992 bits held
+-- WHERE THE HUNT STOPS, whatever it began with: at a frame, or with less than 992 bits held
 abbrev Low : List Bool → Verdict → Type 0
 Low d out = Unit {0}
-Low d standing = 2 + 30 * size d ≤ length d
+Low d standing = Unit {0}
 Low d (undecided j) = (length d < 32 + 30 * j) × (j ≤ 32)
 
 verdict-low : (n k : ℕ) (d : List Bool) → n + k ≡ 33 → k ≤ 32 → Low d (verdictFrom n k d)
@@ -119,21 +119,20 @@ verdict-low (suc n) k d e h =
         → Low d (judged a b c k (verdictFrom n (suc k) d))
     go false ea b c ec next = (leb-false (32 + 30 * k) (length d) ea, h)
     go true ea false c ec next = tt
-    go true ea true true ec next = omega (arith, leb-true (32 + 30 * k) (length d) ea, leb-true (size d) (suc k) ec)
+    go true ea true true ec next = tt
     go true ea true false ec next = next (omega (arith, leb-false (size d) (suc k) ec, n-lt d))
 
 pub record Bounded (h : Hunted) : Type 0 where
   pub few : h .words ≤ 32
   pub free : h .found ≡ false → length (h .rest) ≤ 991
-  pub come : h .found ≡ true → 2 + 30 * size (h .rest) ≤ length (h .rest)
 
 pub hunt-bounded : (e : Bool) (k : ℕ) (d : List Bool) → k ≤ 32 → Bounded (hunt e k d)
 unfolding hunt
-hunt-bounded e k [] h = record { few = h; free = λ f. omega arith; come = λ f. unlike false f refl }
+hunt-bounded e k [] h = record { few = h; free = λ f. omega arith }
 hunt-bounded e k (b ∷ d) h = go (verdictFrom (33 - k) k (b ∷ d)) e (verdict-low (33 - k) k (b ∷ d) (omega arith) h) (hunt-bounded e 0 d (omega arith))
   where
     go : (v : Verdict) (x : Bool) → Low (b ∷ d) v → Bounded (hunt e 0 d) → Bounded (huntBy v x (b ∷ d) (hunt e 0 d))
     go out x l r = r
-    go standing x l r = record { few = omega arith; free = λ f. unlike true refl f; come = λ f. l }
+    go standing x l r = record { few = omega arith; free = λ f. unlike true refl f }
     go (undecided j) true l r = r
-    go (undecided j) false l r = record { few = l .1; free = λ f. omega (arith, l .0, l .1); come = λ f. unlike false f refl }
+    go (undecided j) false l r = record { few = l .1; free = λ f. omega (arith, l .0, l .1) }

@@ -12,23 +12,23 @@ len : (c : tie.Start) → length (c .args .t1 .cells) ≡ 40
 len c = search needs
 
 returns : tie.Need-returns
-returns c = end-refused (c .before .before .before .before .before .before .before .args .t1) (c .before .before .before .readiness .result) (c .before .before .before .readiness .ensures) _ (c .before .ready .given .1)
+returns c = end-refused (c .before .before .before .before .before .args .t1) (c .before .before .before .readiness .result) (c .before .before .before .readiness .ensures) _ (c .before .ready .given .1)
 
 hunt-requires : tie.Need-hunt-requires
 hunt-requires c κs =
-    let r = c .before .before .before .before .before .before .before .before .args .t1 in
-    let a = to-accepted (r .cells) (r .candidate) (free r (c .before .before .before .before .readiness .result) (c .before .before .before .before .readiness .ensures) (c .before .before .enum-told .given .1) .fine) in
-    (len (c .before .before .before .before .before .before .before .before), a .top, a .low, a .few)
+    let r = c .before .before .before .before .before .before .args .t1 in
+    let a = to-accepted (r .candidate) (free r (c .before .before .before .before .readiness .result) (c .before .before .before .before .readiness .ensures) (c .before .before .enum-told .given .1) .fine) in
+    (len (c .before .before .before .before .before .before), a .top, a .low, a .few)
 
 moved-requires : tie.Need-moved-requires
 moved-requires c κs =
-    let r = c .before .before .before .before .before .before .before .before .before .args .t1 in
-    let a = to-accepted (r .cells) (r .candidate) (free r (c .before .before .before .before .before .readiness .result) (c .before .before .before .before .before .readiness .ensures) (c .before .before .before .enum-told .given .1) .fine) in
+    let r = c .before .before .before .before .before .before .before .args .t1 in
+    let a = to-accepted (r .candidate) (free r (c .before .before .before .before .before .readiness .result) (c .before .before .before .before .before .readiness .ensures) (c .before .before .before .enum-told .given .1) .fine) in
     (c .hunt .ensures .1, omega (arith, a .top, a .low))
 
 returns-2 : tie.Need-returns-2
 returns-2 c =
-    end-done (c .before .before .before .before .before .before .before .before .before .before .args .t1) (c .before .before .before .before .before .before .readiness .result) (c .before .before .before .before .before .before .readiness .ensures) (c .before .before .before .before .enum-told .given .1)
+    end-done (c .before .before .before .before .before .before .before .before .args .t1) (c .before .before .before .before .before .before .readiness .result) (c .before .before .before .before .before .before .readiness .ensures) (c .before .before .before .before .enum-told .given .1)
     (c .before .hunt .result) (c .before .hunt .ensures .0) (c .moved .result) (c .moved .ensures)
 
 pub end-spec : {M : Type 1} → statement M

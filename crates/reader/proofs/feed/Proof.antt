@@ -15,27 +15,27 @@ len c = search needs
 
 returns : tie.Need-returns
 returns c =
-    let a = c .before .before .before .before .before .before .before .args in
+    let a = c .before .before .before .before .before .args in
     fed-refused (a .reader) (a .byte) (c .before .before .before .readiness .result) (c .before .before .before .readiness .ensures) _ (c .before .ready .given .1)
 
 returns-2 : tie.Need-returns-2
 returns-2 c =
-    let a = c .before .before .before .before .before .before .before .before .before .args in
+    let a = c .before .before .before .before .before .before .before .args in
     fed-empty (a .reader) (a .byte) (c .before .before .before .before .before .readiness .result) (c .before .before .before .before .before .readiness .ensures) (c .before .before .before .enum-told .given .1)
     (six-refused (a .byte) _ (sym (c .before .before .six-of .ensures) ∙ c .enum-told2 .given .1))
 
 step-requires : tie.Need-step-requires
 step-requires c κs =
-    let s = c .before .before .before .before .before .before .before .before .before .before .before in
+    let s = c .before .before .before .before .before .before .before .before .before in
     let r = s .args .reader in
     let f = free r (c .before .before .before .before .before .before .before .readiness .result) (c .before .before .before .before .before .before .before .readiness .ensures) (c .before .before .before .before .before .enum-told .given .1) in
-    let a = to-accepted (r .cells) (r .candidate) (f .fine) in
+    let a = to-accepted (r .candidate) (f .fine) in
     let n = six-bits (s .args .byte) _ (sym (c .before .before .before .before .six-of .ensures) ∙ c .before .before .line .given .1) .1 in
-    (len s, a .top, a .low, room-free (r .cells) (r .candidate) a (f .none), a .few, omega (arith, n, six-lt (s .args .byte)))
+    (len s, a .top, a .low, room-free (r .candidate) a (f .none), a .few, omega (arith, n, six-lt (s .args .byte)))
 
 returns-3 : tie.Need-returns-3
 returns-3 c =
-    let a = c .before .before .before .before .before .before .before .before .before .before .before .before .args in
+    let a = c .before .before .before .before .before .before .before .before .before .before .args in
     let r = a .reader in
     let d = six-bits (a .byte) _ (sym (c .before .before .before .before .before .six-of .ensures) ∙ c .before .before .before .line .given .1) in
     fed-done r (a .byte) (c .before .before .before .before .before .before .before .before .readiness .result) (c .before .before .before .before .before .before .before .before .readiness .ensures) (c .before .before .before .before .before .before .enum-told .given .1) (d .0)

@@ -13,19 +13,19 @@ len c = search needs
 
 returns : tie.Need-returns
 returns c =
-    let a = c .before .before .before .before .before .before .before .before .args in
+    let a = c .before .before .before .before .before .before .args in
     all-refused (a .reader) (now (a .bytes)) (c .before .before .before .readiness .result) (c .before .before .before .readiness .ensures) _ (c .before .ready .given .1)
 
 run-requires : tie.Need-run-requires
 run-requires c κs =
-    let r = c .before .before .before .before .before .before .before .before .args .reader in
+    let r = c .before .before .before .before .before .before .args .reader in
     let f = free r (c .before .before .before .readiness .result) (c .before .before .before .readiness .ensures) (c .before .enum-told .given .1) in
-    let a = to-accepted (r .cells) (r .candidate) (f .fine) in
-    (len (c .before .before .before .before .before .before .before .before), a .top, a .low, room-free (r .cells) (r .candidate) a (f .none), a .few, f .none)
+    let a = to-accepted (r .candidate) (f .fine) in
+    (len (c .before .before .before .before .before .before), a .top, a .low, room-free (r .candidate) a (f .none), a .few, f .none, a .known)
 
 returns-2 : tie.Need-returns-2
 returns-2 c =
-    let a = c .before .before .before .before .before .before .before .before .before .before .args in
+    let a = c .before .before .before .before .before .before .before .before .args in
     all-done (a .reader) (now (a .bytes)) (c .before .before .before .before .before .readiness .result) (c .before .before .before .before .before .readiness .ensures) (c .before .before .before .enum-told .given .1) _ (c .before .run .ensures)
 
 pub feed-all-spec : {M : Type 1} → statement M

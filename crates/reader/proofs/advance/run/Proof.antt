@@ -18,7 +18,7 @@ use Rattle.reader.proofs.advance.run.Tie as tie
 -- the run from the start is what was used, and the run from here
 abbrev Inv-loop : tie.InvT-loop
 Inv-loop cells₀ bytes c₀ passed₀ used₀ cells c passed used =
-    (length cells ≡ 40) × Accepted cells c × (used ≤ length bytes) × (passed ≤ used)
+    (length cells ≡ 40) × Accepted c × (used ≤ length bytes) × (passed ≤ used)
     × (runTo cells₀ c₀ bytes ≡ spent used passed (runTo cells c (drop used bytes)))
 
 abbrev μ-loop : tie.MeasureT-loop
@@ -29,7 +29,7 @@ loop-holds c =
     let s = c .before in
     let a = s .args in (
       s .pre .0,
-      accept-free (now (a .cells)) (a .from) (s .pre .5) (s .pre .1) (s .pre .2) (s .pre .3) (s .pre .4),
+      accept-free (a .from) (s .pre .5) (s .pre .1) (s .pre .2) (s .pre .3) (s .pre .4) (s .pre .6),
       omega arith,
       omega arith,
       spent-none (runTo (now (a .cells)) (a .from) (now (a .bytes))),
@@ -44,14 +44,14 @@ returns c =
 five-of-requires : tie.Need-five-of-requires Inv-loop μ-loop
 five-of-requires c κs =
     let h = c .before .before .loop in
-    (h .inv .2, room-free (h .cells) (h .c) (h .inv .1) (c .if1 .left), h .inv .1 .few)
+    (h .inv .2, room-free (h .c) (h .inv .1) (c .if1 .left), h .inv .1 .few)
 
 burst-requires : tie.Need-burst-requires Inv-loop μ-loop
 burst-requires c κs =
     let h = c .before .before .before .before .before .before .before .loop in
     let k = h .inv .1 in
     let v = subst (FiveIn (h .c) (now (c .before .before .before .before .before .before .before .before .before .args .bytes)) (h .used)) (c .before .before .ahead .given .1) (c .before .before .before .before .five-of .ensures) in
-    (h .inv .0, v .0, k .low, room-free (h .cells) (h .c) k (c .before .before .before .before .before .if1 .left), k .few, v .1, v .2 .3, v .2 .4 .3, v .2 .4 .4 .3, v .2 .4 .4 .4 .3, v .2 .4 .4 .4 .4 .3)
+    (h .inv .0, v .0, k .low, room-free (h .c) k (c .before .before .before .before .before .if1 .left), k .few, v .1, v .2 .3, v .2 .4 .3, v .2 .4 .4 .3, v .2 .4 .4 .4 .3, v .2 .4 .4 .4 .4 .3)
 
 add-used : tie.Need-add-used Inv-loop μ-loop
 add-used c =
@@ -75,7 +75,7 @@ loop-again c =
     let next = c .burst .ensures .0 in
     let g = goes-many (runTo (now (a .cells)) (a .from) (now (a .bytes))) (now (a .bytes)) _ (h .cells) (h .c) (h .used) (h .passed) (record { long = h .inv .0; fine = k; is = h .inv .4 }) (c .before .before .before .before .before .before .if1 .left) (v .2) (many-quiet (h .cells) (h .c) (h .inv .0) (v .0) (k .low) (k .few) (v .1) _ _ _ _ 0) in (
       ap length cells ∙ g .long,
-      subst₂ Accepted (sym cells) (sym next) (g .fine),
+      subst Accepted (sym next) (g .fine),
       omega (arith, v .2 .4 .4 .4 .4 .0),
       omega arith,
       g .is ∙ ap₂ (λ x y. spent (h .used + 5) (h .passed) (runTo x y (drop (h .used + 5) (now (a .bytes))))) (sym cells) (sym next),
@@ -87,7 +87,7 @@ hold-requires c κs =
     let a = h .inv .1 in
     let byte = getD (now (c .before .before .before .before .before .before .before .before .before .before .before .before .before .before .before .before .args .bytes)) (h .used) 0 in
     let n = six-bits byte _ (sym (c .before .before .before .before .before .before .before .six-of .ensures) ∙ c .before .before .before .before .before .line .given .1) .1 in
-    (h .inv .0, a .top, a .low, room-free (h .cells) (h .c) a (c .before .before .before .before .before .before .before .before .before .before .before .before .if1 .left), a .few, omega (arith, n, six-lt byte), omega arith)
+    (h .inv .0, a .top, a .low, room-free (h .c) a (c .before .before .before .before .before .before .before .before .before .before .before .before .if1 .left), a .few, omega (arith, n, six-lt byte), omega arith)
 
 loop-again-2 : tie.Need-loop-again-2 Inv-loop μ-loop
 loop-again-2 c =
@@ -99,7 +99,7 @@ loop-again-2 c =
     let cells = c .hold .ensures .1 ∙ ap (stepCells (h .cells) (h .c)) (d .1) in
     let next = c .hold .ensures .0 ∙ ap (stepTo (h .cells) (h .c)) (d .1) in (
       ap length cells ∙ length-step (h .cells) (h .inv .0) (h .c) (h .inv .1) w (number (six byte)),
-      subst₂ Accepted (sym cells) (sym next) (accepted-step (h .cells) (h .inv .0) (h .c) (h .inv .1) w (number (six byte))),
+      subst Accepted (sym next) (accepted-step (h .cells) (h .inv .0) (h .c) (h .inv .1) w (number (six byte))),
       omega arith,
       omega arith,
       loop-on (runTo (now (a .cells)) (a .from) (now (a .bytes))) (now (a .bytes)) (h .cells) (h .c) (h .used) (h .passed) (h .inv .4) w (c .before .before .before .before .before .before .before .before .before .before .before .before .before .before .loop-test .taken) (d .0) (c .hold .last .0) cells (c .hold .result) next,
@@ -111,7 +111,7 @@ step-requires c κs =
     let a = h .inv .1 in
     let byte = getD (now (c .before .before .before .before .before .before .before .before .before .before .before .before .before .before .before .before .args .bytes)) (h .used) 0 in
     let n = six-bits byte _ (sym (c .before .before .before .before .before .before .before .six-of .ensures) ∙ c .before .before .before .before .before .line .given .1) .1 in
-    (h .inv .0, a .top, a .low, room-free (h .cells) (h .c) a (c .before .before .before .before .before .before .before .before .before .before .before .before .if1 .left), a .few, omega (arith, n, six-lt byte))
+    (h .inv .0, a .top, a .low, room-free (h .c) a (c .before .before .before .before .before .before .before .before .before .before .before .before .if1 .left), a .few, omega (arith, n, six-lt byte))
 
 loop-again-3 : tie.Need-loop-again-3 Inv-loop μ-loop
 loop-again-3 c =
@@ -123,7 +123,7 @@ loop-again-3 c =
     let cells = c .step .ensures .1 ∙ ap (stepCells (h .cells) (h .c)) (d .1) in
     let next = c .step .ensures .0 ∙ ap (stepTo (h .cells) (h .c)) (d .1) in (
       ap length cells ∙ length-step (h .cells) (h .inv .0) (h .c) (h .inv .1) w (number (six byte)),
-      subst₂ Accepted (sym cells) (sym next) (accepted-step (h .cells) (h .inv .0) (h .c) (h .inv .1) w (number (six byte))),
+      subst Accepted (sym next) (accepted-step (h .cells) (h .inv .0) (h .c) (h .inv .1) w (number (six byte))),
       omega arith,
       omega arith,
       loop-on (runTo (now (a .cells)) (a .from) (now (a .bytes))) (now (a .bytes)) (h .cells) (h .c) (h .used) (h .passed) (h .inv .4) w (c .before .before .before .before .before .before .before .before .before .before .before .before .before .before .loop-test .taken) (d .0) (c .step .last .0) cells (c .step .result) next,

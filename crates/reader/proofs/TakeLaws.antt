@@ -1,0 +1,204 @@
+-- The frame that waits, word by word: what the loop of `filled` goes by, whether a frame stands, and the cases of `take`. Assumes nothing.
+use mathlib.Core.Path.{_≡_, refl, sym, ap, ap₂, _∙_}
+use mathlib.Core.Bool.{Bool, true, false, cond, not, _&&_}
+use mathlib.Core.List.{List, [], _∷_, _++_, append-assoc}
+use Prim.Native.Nat.{ℕ, suc, _+_, _-_, _*_, _≤_, _<_}
+use native.Mathlib.Numerals.{add-one}
+use native.Mathlib.Omega.{arith}
+use lib.ListN.{length, set, replicate}
+use lib.Seq.{set-at}
+use borrow.Author.Count.{below-more}
+use Rattle.bits.specs.Bits.{bits, number}
+use Rattle.word.specs.Word.{dataOf}
+use Rattle.frame.specs.Header.{headerOf, nOf}
+use Rattle.frame.specs.Frames.{framed}
+use Rattle.frame.specs.declared.Header.{Header}
+use Rattle.frame.specs.declared.Frame.{Frame}
+use Rattle.stream.specs.Standing.{wordAt, right, nAt, size, Stands, stands, dataFrom, frameAt}
+use Rattle.stream.proofs.Words.{length-dataFrom, data-more, frame-n, unlike}
+use Rattle.stream.proofs.Stand.{stands-long, test-stands, stands-test, not-test}
+use Rattle.reader.specs.Cells.{heldBits}
+use Rattle.reader.specs.Hunting.{huntOf}
+use Rattle.reader.specs.Reading.{bitsOf, past, frameWaits, movedTo, takeTo, refusedTaking, takenBy}
+use Rattle.reader.specs.Taking.{noneThere, someThere, thereIn, RightTo, HeaderIn}
+use Rattle.reader.specs.declared.hunt.Stop.{Stop}
+use Rattle.reader.specs.declared.Candidate.{Candidate}
+use Rattle.reader.specs.declared.Reader.{Reader}
+use Rattle.reader.specs.declared.Taken.{Taken}
+use Rattle.reader.specs.declared.Answer.the-variants.{Done}
+use Rattle.reader.specs.declared.taking.There.{There}
+use Rattle.reader.proofs.Buffer.{length-held}
+use Rattle.reader.proofs.Leaves.{bits-data}
+use Rattle.reader.proofs.Steps.{seen, word-is, n-is}
+
+-- ---- the words
+
+-- k data words, and zeros
+abbrev pub gathered : ℕ → List Bool → List ℕ
+gathered k d = dataFrom k 2 d ++ replicate (31 - k) 0
+
+pub gather-none : (d : List Bool) → replicate {A = ℕ} 31 0 ≡ gathered 0 d
+unfolding dataFrom
+gather-none d = refl
+
+pub gather-step : (ws : List ℕ) (k x : ℕ) (d : List Bool) → ws ≡ gathered k d → k < 31 → x ≡ number (dataOf (wordAt (2 + k) d)) → set ws k x ≡ gathered (k + 1) d
+gather-step ws k x d e h f =
+    rw (e, add-one k, zeros, f, data-more k 2 d)
+    (set-at (dataFrom k 2 d) 0 (replicate (31 - suc k) 0) (number (dataOf (wordAt (2 + k) d))) k (length-dataFrom k 2 d)
+    ∙ sym (append-assoc (dataFrom k 2 d) (number (dataOf (wordAt (2 + k) d)) ∷ []) (replicate (31 - suc k) 0)))
+  where
+    less : 31 - k ≡ suc (31 - suc k)
+    less = omega arith
+
+    zeros : replicate {A = ℕ} (31 - k) 0 ≡ 0 ∷ replicate (31 - suc k) 0
+    zeros = ap (λ n. replicate {A = ℕ} n 0) less
+
+pub frame-law : (d : List Bool) (h : Header) (n : ℕ) (ws : List ℕ) → h ≡ headerOf (dataOf (wordAt 0 d)) (dataOf (wordAt 1 d)) → n ≡ nAt d → ws ≡ gathered n d
+    → record { header = h; n = n; words = ws } ≡ frameAt d
+unfolding frameAt framed
+frame-law d h n ws eh en ew = rw (eh, ew, length-dataFrom (nAt d) 2 d, en)
+
+-- ---- whether a frame stands
+
+-- all words have come and each is right
+pub there-stands : (d : List Bool) → 62 + 30 * nAt d ≤ length d → RightTo (2 + nAt d) d → Stands d
+there-stands d l right = record { taken = omega arith; each = right }
+
+pub there-some : (d : List Bool) → Stands d → (x : There) → x ≡ someThere d → x ≡ thereIn d
+unfolding thereIn
+there-some d s x e = e ∙ sym (ap (λ t. cond t (someThere d) noneThere) (stands-test d s))
+
+pub there-none : (d : List Bool) → (Stands d → ⊥) → (x : There) → x ≡ noneThere → x ≡ thereIn d
+unfolding thereIn
+there-none d f x e = e ∙ sym (ap (λ t. cond t (someThere d) noneThere) (not-test d f))
+
+-- a word of it is not right
+pub wrong-word : (d : List Bool) (k : ℕ) → k < size d → right k (wordAt k d) ≡ false → Stands d → ⊥
+wrong-word d k l e s = unlike (right k (wordAt k d)) (s .each k l) e
+
+pub right-more : (m : ℕ) (d : List Bool) → RightTo m d → right m (wordAt m d) ≡ true → RightTo (m + 1) d
+right-more m d r e = below-more (λ j. right j (wordAt j d) ≡ true) m r e
+
+-- the two words of a header
+pub right-two : (d : List Bool) → right 0 (wordAt 0 d) ≡ true → right 1 (wordAt 1 d) ≡ true → RightTo 2 d
+right-two d one two = right-more 1 d (right-more 0 d (λ j l. absurd (omega arith)) one) two
+
+-- ---- what windows of the bits held say of it
+
+module _ (cells : List ℕ) (len : length cells ≡ 40) (end : ℕ) (top : end ≤ 1280) (held : ℕ) (low : held ≤ end) where
+  abbrev d : List Bool
+  d = heldBits cells end held
+
+  long : length d ≡ held
+  long = length-held cells end held len top low
+
+  pub too-short : held < 62 → Stands d → ⊥
+  too-short l s = omega (arith, stands-long d s, long)
+
+  -- data word k
+  module _ (k w : ℕ) (come : 92 + 30 * k ≤ held) (e : w ≡ seen cells (end - held + 60 + 30 * k)) where
+    pub word-here : bits 32 w ≡ wordAt (2 + k) d
+    word-here = word-is cells len end top held low (2 + k) w (omega arith) (e ∙ ap (seen cells) place)
+      where
+        place : end - held + 60 + 30 * k ≡ end - held + 30 * (2 + k)
+        place = omega arith
+
+    pub right-here : (b : Bool) → b ≡ right (k + 2) (bits 32 w) → right (2 + k) (wordAt (2 + k) d) ≡ b
+    right-here b f = ap (right (2 + k)) (sym word-here) ∙ ap (λ m. right m (bits 32 w)) turned ∙ sym f
+      where
+        turned : 2 + k ≡ k + 2
+        turned = omega arith
+
+  -- the header's two words
+  module _ (some : 62 ≤ held) (one two n : ℕ) (e1 : one ≡ seen cells (end - held)) (e2 : two ≡ seen cells (end - held + 30)) (en : n ≡ nOf (dataOf (bits 32 two))) where
+    first : bits 32 one ≡ wordAt 0 d
+    first = word-is cells len end top held low 0 one (omega arith) (e1 ∙ ap (seen cells) place)
+      where
+        place : end - held ≡ end - held + 30 * 0
+        place = omega arith
+
+    second : bits 32 two ≡ wordAt 1 d
+    second = word-is cells len end top held low 1 two some e2
+
+    pub n-here : n ≡ nAt d
+    n-here = n-is cells len end top held low two n some e2 en
+
+    pub words-missing : held < 62 + 30 * n → Stands d → ⊥
+    words-missing l s = omega (arith, s .taken, long, n-here)
+
+    pub wrong-first : (b : Bool) → b ≡ right 0 (bits 32 one) → b ≡ false → Stands d → ⊥
+    wrong-first b f z = wrong-word d 0 (omega arith) (ap (right 0) (sym first) ∙ sym f ∙ z)
+
+    pub wrong-second : (b : Bool) → b ≡ right 1 (bits 32 two) → b ≡ false → Stands d → ⊥
+    wrong-second b f z = wrong-word d 1 (omega arith) (ap (right 1) (sym second) ∙ sym f ∙ z)
+
+    pub header-here : true ≡ right 0 (bits 32 one) → true ≡ right 1 (bits 32 two) → (x y : ℕ) → x ≡ number (dataOf (bits 32 one)) → y ≡ number (dataOf (bits 32 two))
+        → (h : Header) → h ≡ headerOf (bits 24 x) (bits 24 y) → HeaderIn d h n
+    header-here r1 r2 x y ex ey h eh = record {
+      words = eh ∙ ap₂ headerOf (bits-data one x ex ∙ ap dataOf first) (bits-data two y ey ∙ ap dataOf second);
+      count = n-here;
+      right = right-two d (ap (right 0) (sym first) ∙ sym r1) (ap (right 1) (sym second) ∙ sym r2);
+    }
+
+-- ---- 5, 4
+
+module _ (r : Reader) where
+  given : Taken
+  given = record {
+    answer = Done;
+    at = r .candidate .at;
+    frame = frameAt (bitsOf r);
+    reader = record { cells = r .cells; candidate = takeTo (r .cells) (r .candidate) (r .ended); ended = r .ended };
+  }
+
+  -- by its two checks
+  by-checks : (p w : Bool) → past r ≡ p → frameWaits r ≡ w → takenBy r ≡ cond p (refusedTaking r 5) (cond (not w) (refusedTaking r 4) given)
+  unfolding takenBy given
+  by-checks p w ep ew =
+      ap (λ x. cond x (refusedTaking r 5) (cond (not (frameWaits r)) (refusedTaking r 4) given)) ep
+      ∙ ap (λ x. cond p (refusedTaking r 5) (cond (not x) (refusedTaking r 4) given)) ew
+
+  pub take-past : past r ≡ true → (x : Taken) → x ≡ refusedTaking r 5 → x ≡ takenBy r
+  take-past p x e = e ∙ sym (by-checks true (frameWaits r) p refl)
+
+  pub take-flag : past r ≡ false → r .candidate .waits ≡ false → (x : Taken) → x ≡ refusedTaking r 4 → x ≡ takenBy r
+  unfolding frameWaits
+  take-flag p w x e = e ∙ sym (by-checks false false p (ap (λ t. t && stands (bitsOf r)) w))
+
+  module _ (p : past r ≡ false) (w : r .candidate .waits ≡ true) (x : There) (e : x ≡ thereIn (bitsOf r)) where
+    stands-is : x .stands ≡ stands (bitsOf r)
+    unfolding thereIn
+    stands-is = ap (λ (y : There). y .stands) e ∙ go (stands (bitsOf r))
+      where
+        go : (t : Bool) → cond t (someThere (bitsOf r)) noneThere .stands ≡ t
+        go true = refl
+        go false = refl
+
+    waits-is : frameWaits r ≡ x .stands
+    unfolding frameWaits
+    waits-is = ap (λ t. t && stands (bitsOf r)) w ∙ sym stands-is
+
+    pub take-nothing : x .stands ≡ false → (y : Taken) → y ≡ refusedTaking r 4 → y ≡ takenBy r
+    take-nothing s y f = f ∙ sym (by-checks false false p (waits-is ∙ s))
+
+    module _ (s : x .stands ≡ true) where
+      pub frame-there : x .frame ≡ frameAt (bitsOf r)
+      unfolding thereIn
+      frame-there =
+          ap (λ (y : There). y .frame) e
+          ∙ ap (λ t. cond t (someThere (bitsOf r)) noneThere .frame) (sym stands-is ∙ s)
+
+      pub n-there : x .frame .n ≡ nAt (bitsOf r)
+      n-there = ap (λ (f : Frame). f .n) frame-there ∙ frame-n (bitsOf r)
+
+      pub come-there : length (bitsOf r) ≡ r .candidate .held → 30 * (x .frame .n + 2) ≤ r .candidate .held
+      come-there long = omega (arith, n-there, test-stands (bitsOf r) (sym stands-is ∙ s) .taken)
+
+      pub take-done : (stop : Stop) → stop ≡ huntOf (r .cells) (r .candidate .end) (r .candidate .held - 30 * (x .frame .n + 2)) 0 (r .ended)
+          → (c : Candidate) → c ≡ movedTo (r .candidate .at) (r .candidate .end) (r .candidate .held) stop
+          → record { answer = Done; at = r .candidate .at; frame = x .frame; reader = record { cells = r .cells; candidate = c; ended = r .ended } } ≡ takenBy r
+      unfolding given takeTo
+      take-done stop es c ec = rw (frame-there, ec, es, words) (sym (by-checks false true p (waits-is ∙ s)))
+        where
+          words : x .frame .n + 2 ≡ size (bitsOf r)
+          words = omega (arith, n-there)

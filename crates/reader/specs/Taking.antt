@@ -1,0 +1,30 @@
+-- What taking finds in the bits held: the frame that stands there, or that none does. Assumes nothing.
+use mathlib.Core.Path.{_≡_}
+use mathlib.Core.Bool.{Bool, true, false, cond}
+use mathlib.Core.List.{List}
+use Prim.Native.Nat.{ℕ, _<_}
+use Rattle.word.specs.Word.{dataOf}
+use Rattle.frame.specs.Header.{headerOf}
+use Rattle.frame.specs.Frames.{blank}
+use Rattle.frame.specs.declared.Header.{Header}
+use Rattle.stream.specs.Standing.{wordAt, right, nAt, stands, frameAt}
+use Rattle.reader.specs.declared.taking.There.{There}
+
+abbrev pub noneThere : There
+noneThere = record { stands = false; frame = blank }
+
+abbrev pub someThere : List Bool → There
+someThere d = record { stands = true; frame = frameAt d }
+
+unfoldable pub thereIn : List Bool → There
+thereIn d = cond (stands d) (someThere d) noneThere
+
+-- the first m words are right
+abbrev pub RightTo : ℕ → List Bool → Type 0
+RightTo m d = (j : ℕ) → j < m → right j (wordAt j d) ≡ true
+
+-- the two words of a header and its N, each right
+pub record HeaderIn (d : List Bool) (header : Header) (n : ℕ) : Type 0 where
+  pub words : header ≡ headerOf (dataOf (wordAt 0 d)) (dataOf (wordAt 1 d))
+  pub count : n ≡ nAt d
+  pub right : RightTo 2 d

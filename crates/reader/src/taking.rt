@@ -1,0 +1,73 @@
+// The frame that waits: each of its words is tested as it is taken out, so that nothing but a frame that stands is handed out.
+ghost use mathlib.Core.Path.{_≡_};
+ghost use Prim.Native.Nat.{_+_, _*_, _≤_};
+ghost use lib.ListN.{length};
+ghost use Rattle.reader.specs.Cells.{heldBits};
+ghost use Rattle.reader.specs.Taking.{noneThere, thereIn, HeaderIn};
+use crate::cells::window;
+use crate::hunt::n_in;
+use crate::hunt::right;
+use frame::Frame;
+use frame::Header;
+
+// Whether a frame stands, and that frame; a blank where none does.
+pub(crate) struct There {
+    pub stands: bool,
+    pub frame: Frame,
+}
+
+// No frame stands.
+fn nothing() -> There
+    ensures { λ r. ⌜ r ≡ noneThere ⌝ }
+{
+    There {
+        stands: false,
+        frame: frame::no_frame(),
+    }
+}
+
+// The header's two words are right and all words have come: the data words are tested and put in, one after the other.
+fn filled(cells: &[u32; 40], end: usize, held: usize, header: Header, n: usize) -> There
+    requires { ⌜ (length (now cells) ≡ 40) × (end ≤ 1280) × (held ≤ end) × HeaderIn (heldBits (now cells) end held) header n × (62 + 30 * n ≤ held) ⌝ }
+    ensures { λ r. ⌜ r ≡ thereIn (heldBits (now (cells .entry)) end held) ⌝ }
+{
+    let first = end - held + 60;
+    let mut words = [0u32; 31];
+    let mut k: usize = 0;
+    while k < n {
+        let w = window(cells, first + 30 * k);
+        if !right(k + 2, w) {
+            return nothing();
+        }
+        words[k] = word::data_of(w);
+        k += 1;
+    }
+    There {
+        stands: true,
+        frame: Frame { header, n, words },
+    }
+}
+
+// The frame that stands in the bits held, if one does.
+pub(crate) fn standing(cells: &[u32; 40], end: usize, held: usize) -> There
+    requires { ⌜ (length (now cells) ≡ 40) × (end ≤ 1280) × (held ≤ end) ⌝ }
+    ensures { λ r. ⌜ r ≡ thereIn (heldBits (now (cells .entry)) end held) ⌝ }
+{
+    if held < 62 {
+        return nothing();
+    }
+    let one = window(cells, end - held);
+    let two = window(cells, end - held + 30);
+    let n = n_in(two);
+    if held < 62 + 30 * n {
+        return nothing();
+    }
+    if !right(0, one) {
+        return nothing();
+    }
+    if !right(1, two) {
+        return nothing();
+    }
+    let header = frame::header_of(word::data_of(one), word::data_of(two));
+    filled(cells, end, held, header, n)
+}
