@@ -107,7 +107,8 @@ uint8_t rtcm2_recall(const uint8_t *frame, size_t frame_size, uint8_t *type, uin
                      uint8_t *health, uint8_t *n, size_t *length);
 
 /* ---- Corrections, types 1 and 9. A correction is RTCM2_CORRECTION_SIZE bytes: scale 0 to 1, UDRE 0 to 3, satellite 1 to 32,
- * PRC in two bytes (two's complement, low byte first), RRC (two's complement), IOD. */
+ * PRC in two bytes (two's complement, low byte first), RRC (two's complement), IOD. PRC -32768 or RRC -128 says to stop using
+ * the satellite. */
 
 /* How many corrections the frame holds. Refusals: 14, 15, 16, 15, 16, then 6, 7, 8. */
 uint8_t rtcm2_count_corrections(const uint8_t *frame, size_t frame_size, size_t *count);
@@ -162,11 +163,17 @@ uint8_t rtcm2_make_text(uint8_t type, uint16_t station, uint16_t z, uint8_t sequ
 
 /* ---- What a record's numbers stand for. */
 
-/* PRC in mm: `stop` is 1 for -32768 (stop using this satellite; `mm` is then 0), else 0. Refusal: 10 for a scale over 1. */
+/* PRC in mm: `stop` is 1 for -32768 (`mm` is then 0), else 0. This looks at PRC alone, and RRC -128 stops the satellite too:
+ * ask rtcm2_stops before `mm` is used. Refusal: 10 for a scale over 1. */
 uint8_t rtcm2_prc_mm(uint8_t scale, int16_t prc, uint8_t *stop, int32_t *mm);
 
-/* RRC in mm/s: `stop` is 1 for -128 (`mm_s` is then 0), else 0. Refusal: 10 for a scale over 1. */
+/* RRC in mm/s: `stop` is 1 for -128 (`mm_s` is then 0), else 0. This looks at RRC alone, and PRC -32768 stops the satellite
+ * too: ask rtcm2_stops before `mm_s` is used. Refusal: 10 for a scale over 1. */
 uint8_t rtcm2_rrc_mm_s(uint8_t scale, int8_t rrc, uint8_t *stop, int32_t *mm_s);
+
+/* Whether a correction says to stop using its satellite: `stop` is 1 for PRC -32768 or RRC -128, either by itself and in
+ * either scale; else 0, and PRC and RRC both have values. No refusal. */
+uint8_t rtcm2_stops(int16_t prc, int8_t rrc, uint8_t *stop);
 
 /* The upper limit of a UDRE code under the station's health, in mm: `limited` is 0 for code 3, which has none (`mm` is then 0),
  * else 1. Refusals: 5 for a health over 7, 10 for a code over 3. */

@@ -1,5 +1,6 @@
 /* Prints the corrections of a line from standard input, one a line: position of the frame, station, Z count, satellite,
- * PRC in mm, RRC in mm/s, UDRE limit in mm, IOD; then how many frames and corrections there were.
+ * PRC in mm, RRC in mm/s, UDRE limit in mm, IOD; then how many frames and corrections there were. A satellite that is not to
+ * be used has "stop" for PRC and RRC.
  *
  *   rt staticlib cabi
  *   cc -std=c11 -O2 -Wall -Wextra -Iinclude examples/c/corrections.c target/staticlib/libcabi.a -o corrections
@@ -26,13 +27,20 @@ static void check(uint8_t answer, const char *call)
     }
 }
 
-/* A number, or "stop". */
-static void print_or_stop(uint8_t stop, int32_t number)
+/* PRC in mm and RRC in mm/s, or "stop" for both: either number stops the satellite. */
+static void print_values(uint8_t scale, int16_t prc, int8_t rrc)
 {
-    if (stop)
-        printf(" stop");
-    else
-        printf(" %" PRId32, number);
+    uint8_t stop;
+    int32_t mm, mm_s;
+
+    check(rtcm2_stops(prc, rrc, &stop), "rtcm2_stops");
+    if (stop) {
+        printf(" stop stop");
+        return;
+    }
+    check(rtcm2_prc_mm(scale, prc, &stop, &mm), "rtcm2_prc_mm");
+    check(rtcm2_rrc_mm_s(scale, rrc, &stop, &mm_s), "rtcm2_rrc_mm_s");
+    printf(" %" PRId32 " %" PRId32, mm, mm_s);
 }
 
 /* The values of a correction of RTCM2_CORRECTION_SIZE bytes. */
@@ -41,15 +49,11 @@ static void print_correction(const uint8_t *correction, uint8_t health)
     uint8_t scale = correction[0], udre = correction[1], satellite = correction[2], iod = correction[6];
     int16_t prc = (int16_t)(correction[3] | correction[4] << 8);
     int8_t rrc = (int8_t)correction[5];
-    uint8_t stop, limited;
-    int32_t mm, mm_s;
+    uint8_t limited;
     uint32_t limit;
 
     printf(" %u", (unsigned)satellite);
-    check(rtcm2_prc_mm(scale, prc, &stop, &mm), "rtcm2_prc_mm");
-    print_or_stop(stop, mm);
-    check(rtcm2_rrc_mm_s(scale, rrc, &stop, &mm_s), "rtcm2_rrc_mm_s");
-    print_or_stop(stop, mm_s);
+    print_values(scale, prc, rrc);
     check(rtcm2_udre_limit_mm(health, udre, &limited, &limit), "rtcm2_udre_limit_mm");
     if (limited)
         printf(" %" PRIu32, limit);

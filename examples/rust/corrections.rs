@@ -1,6 +1,7 @@
 //! Prints the corrections of a line from standard input, one a line: position of
 //! the frame, station, Z count, satellite, PRC in mm, RRC in mm/s, UDRE limit in
-//! mm, IOD; then how many frames and corrections there were.
+//! mm, IOD; then how many frames and corrections there were. A satellite that is
+//! not to be used has "stop" for PRC and RRC.
 //!
 //!     rt staticlib cabi
 //!     rustc --edition 2021 -O -L target/staticlib -l static=cabi examples/rust/corrections.rs

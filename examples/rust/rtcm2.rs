@@ -49,6 +49,7 @@ extern "C" {
     ) -> u8;
     fn rtcm2_prc_mm(scale: u8, prc: i16, stop: *mut u8, mm: *mut i32) -> u8;
     fn rtcm2_rrc_mm_s(scale: u8, rrc: i8, stop: *mut u8, mm_s: *mut i32) -> u8;
+    fn rtcm2_stops(prc: i16, rrc: i8, stop: *mut u8) -> u8;
     fn rtcm2_udre_limit_mm(health: u8, udre: u8, limited: *mut u8, mm: *mut u32) -> u8;
 }
 
@@ -225,18 +226,25 @@ pub struct Correction {
 }
 
 impl Correction {
-    /// PRC in mm; none for stop.
+    /// Whether the satellite is not to be used: PRC or RRC says stop.
+    pub fn stops(&self) -> Result<bool, Refusal> {
+        let mut stop = 0;
+        checked(unsafe { rtcm2_stops(self.prc, self.rrc, &mut stop) })?;
+        Ok(stop == 1)
+    }
+
+    /// PRC in mm; none where the correction stops the satellite.
     pub fn prc_mm(&self) -> Result<Option<i32>, Refusal> {
         let (mut stop, mut mm) = (0, 0);
         checked(unsafe { rtcm2_prc_mm(self.scale, self.prc, &mut stop, &mut mm) })?;
-        Ok((stop == 0).then_some(mm))
+        Ok((!self.stops()?).then_some(mm))
     }
 
-    /// RRC in mm/s; none for stop.
+    /// RRC in mm/s; none where the correction stops the satellite.
     pub fn rrc_mm_s(&self) -> Result<Option<i32>, Refusal> {
         let (mut stop, mut mm_s) = (0, 0);
         checked(unsafe { rtcm2_rrc_mm_s(self.scale, self.rrc, &mut stop, &mut mm_s) })?;
-        Ok((stop == 0).then_some(mm_s))
+        Ok((!self.stops()?).then_some(mm_s))
     }
 
     /// The UDRE limit in mm under the station's health; none for code 3.

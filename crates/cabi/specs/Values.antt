@@ -1,11 +1,12 @@
 -- What a record's numbers stand for, as a flag and a number: stop, no upper limit and not tracked have no number. Assumes nothing.
+use mathlib.Core.Bool.{Bool}
 use mathlib.Core.List.{[], _∷_}
 use Prim.Native.Nat.{ℕ}
 use lib.Dec.{ltb}
 use lib.IntN.{ℤ, pos}
-use Rattle.answer.specs.Order.{Says, refuses, inOrder}
+use Rattle.answer.specs.Order.{Says, refuses, answers, inOrder}
 use Rattle.frame.specs.Header.{stateOf}
-use Rattle.value.specs.Values.{Reading, exactly, stop, Bound, upTo, noLimit, Signal, dbHz, notTracked}
+use Rattle.value.specs.Values.{Reading, exactly, stop, stopsUse, Bound, upTo, noLimit, Signal, dbHz, notTracked}
 use Rattle.value.specs.Answer.{prcMm, rrcMmS, udreLimit, cn0DbHz, saysDistance, saysRate, saysLimit, saysStrength}
 
 -- ---- what each call says
@@ -15,6 +16,10 @@ prcSaid scale prc = saysDistance (prcMm scale prc)
 
 abbrev pub rrcSaid : ℕ → ℤ → Says Reading
 rrcSaid scale rrc = saysRate (rrcMmS scale rrc)
+
+-- whether the correction stops its satellite: never refused
+abbrev pub stopsSaid : ℤ → ℤ → Says Bool
+stopsSaid prc rrc = answers (stopsUse prc rrc)
 
 -- 5 for a health over 7, which no state has
 abbrev pub limitSaid : ℕ → ℕ → Says Bound

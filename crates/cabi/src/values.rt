@@ -1,7 +1,8 @@
 // What a record's numbers stand for; a meaning that has no number has a flag beside it, and the number is then 0.
 ghost use mathlib.Core.Path.{_≡_};
+ghost use Rattle.bits.specs.Bits.{val};
 ghost use Rattle.cabi.specs.Answer.{numberOf, left};
-ghost use Rattle.cabi.specs.Values.{prcSaid, rrcSaid, limitSaid, strengthSaid, stopFlag, exactOr0, limitFlag, limitOr0, trackedFlag, dbHzOr0};
+ghost use Rattle.cabi.specs.Values.{prcSaid, rrcSaid, stopsSaid, limitSaid, strengthSaid, stopFlag, exactOr0, limitFlag, limitOr0, trackedFlag, dbHzOr0};
 use value::Distance;
 use value::Limit;
 use value::Rate;
@@ -49,6 +50,20 @@ pub extern "C" fn rtcm2_rrc_mm_s(scale: u8, rrc: i8, stop: &mut u8, rate: &mut i
         }
         Rate::Refused(number) => number,
     }
+}
+
+// Whether a correction with these two numbers stops its satellite. No refusal.
+#[no_mangle]
+pub extern "C" fn rtcm2_stops(prc: i16, rrc: i8, stop: &mut u8) -> u8
+    ensures { λ r. ⌜ r ≡ numberOf (stopsSaid prc rrc) ⌝ }
+    ensures { λ _. ⌜ now (stop .exit) ≡ left (stopsSaid prc rrc) val (now (stop .entry)) ⌝ }
+{
+    if value::stops(prc, rrc) {
+        *stop = 1;
+        return 0;
+    }
+    *stop = 0;
+    0
 }
 
 // The upper limit of a UDRE code under the station's health, in mm. Order 5, 10.

@@ -73,6 +73,7 @@ library-numbers = record {
       ordered (in-order.textMadeOrder kind station z sequence code t buffer) _ (makes.text-made kind station z sequence code buffer t) refl refl;
   prc-mm = λ scale prc. ordered ((ltb 1 scale, 10) ∷ []) _ (prc-says scale prc) refl refl;
   rrc-mm-s = λ scale rrc. ordered ((ltb 1 scale, 10) ∷ []) _ (rrc-says scale rrc) refl refl;
+  stops = λ prc rrc. ordered [] _ refl refl refl;
   udre-limit-mm = λ code udre. ordered (in-order.limitOrder code udre) _ (limit-order code udre) refl refl;
   cn0-dbhz = λ code. ordered ((ltb 31 code, 10) ∷ []) _ (cn0-says code) refl refl;
   put-entry = λ row lent. ordered (putOrder row lent) _ (says-order saysPut put.Refused (λ n. refl) put.Done (putOrder row lent) refl) refl refl;

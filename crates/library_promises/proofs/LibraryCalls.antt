@@ -41,6 +41,7 @@ library-calls = record {
   make-text = record { asks-nothing = λ κs a. tt; settles = λ κs a z e p. p .0; leaves = λ κs a z e p. place-and (p .1 .0) (p .1 .1); ends = cabi.text.rtcm2_make_text.Met.met };
   prc-mm = record { asks-nothing = λ κs a. tt; settles = λ κs a z e p. p .0; leaves = λ κs a z e p. place-and (p .1 .0) (p .1 .1); ends = cabi.values.rtcm2_prc_mm.Met.met };
   rrc-mm-s = record { asks-nothing = λ κs a. tt; settles = λ κs a z e p. p .0; leaves = λ κs a z e p. place-and (p .1 .0) (p .1 .1); ends = cabi.values.rtcm2_rrc_mm_s.Met.met };
+  stops = record { asks-nothing = λ κs a. tt; settles = λ κs a z e p. p .0; leaves = λ κs a z e p. p .1; ends = cabi.values.rtcm2_stops.Met.met };
   udre-limit-mm = record { asks-nothing = λ κs a. tt; settles = λ κs a z e p. p .0; leaves = λ κs a z e p. place-and (p .1 .0) (p .1 .1); ends = cabi.values.rtcm2_udre_limit_mm.Met.met };
   cn0-dbhz = record { asks-nothing = λ κs a. tt; settles = λ κs a z e p. p .0; leaves = λ κs a z e p. place-and (p .1 .0) (p .1 .1); ends = cabi.values.rtcm2_cn0_dbhz.Met.met };
 }

@@ -26,7 +26,7 @@ use Rattle.cabi.specs.Healths as healths
 use Rattle.cabi.specs.Positions as positions
 use Rattle.cabi.specs.Nulls as nulls
 use Rattle.cabi.specs.Texts as texts
-use Rattle.cabi.specs.Values.{prcSaid, rrcSaid, limitSaid, strengthSaid}
+use Rattle.cabi.specs.Values.{prcSaid, rrcSaid, stopsSaid, limitSaid, strengthSaid}
 use Rattle.cabi.specs.Orders as in-order
 use Rattle.promises.specs.CarriesItsNumber.{Ordered}
 
@@ -38,7 +38,7 @@ afterRecord numbers = 14 ∷ 15 ∷ 16 ∷ 15 ∷ 16 ∷ 16 ∷ numbers
 abbrev pub afterHeader : List ℕ → List ℕ
 afterHeader numbers = 5 ∷ 5 ∷ 6 ∷ 7 ∷ numbers
 
--- every exported function that can refuse, and the two that put an entry in bytes
+-- every exported function but the one that answers a constant, and the two that put an entry in bytes. The order of `stops` is empty: it never refuses.
 pub record LibraryNumbers : Type 1 where
   -- reading the line
   pub start : (state : List ℕ) → Ordered (13 ∷ []) (in-order.startedOrder state) (startedIn state)
@@ -93,6 +93,7 @@ pub record LibraryNumbers : Type 1 where
   -- what a record's numbers stand for
   pub prc-mm : (scale : ℕ) (prc : ℤ) → Ordered (10 ∷ []) ((ltb 1 scale, 10) ∷ []) (prcSaid scale prc)
   pub rrc-mm-s : (scale : ℕ) (rrc : ℤ) → Ordered (10 ∷ []) ((ltb 1 scale, 10) ∷ []) (rrcSaid scale rrc)
+  pub stops : (prc rrc : ℤ) → Ordered [] [] (stopsSaid prc rrc)
   pub udre-limit-mm : (code udre : ℕ) → Ordered (5 ∷ 10 ∷ []) (in-order.limitOrder code udre) (limitSaid code udre)
   pub cn0-dbhz : (code : ℕ) → Ordered (10 ∷ []) ((ltb 31 code, 10) ∷ []) (strengthSaid code)
   -- an entry as a row of bytes

@@ -3,6 +3,7 @@ use mathlib.Core.List.{List}
 use Prim.Native.Nat.{ℕ}
 use lib.IntN.{ℤ}
 use denote.Ref.{now}
+use Rattle.bits.specs.Bits.{val}
 use Rattle.state_bytes.specs.State.{holdsState, stateIn, startPut, statePut}
 use Rattle.entry_bytes.specs.Rows.{countOf, entriesFrom, putBy, rowAfter}
 use Rattle.cabi.specs.Answer.{numberOf, left}
@@ -16,7 +17,7 @@ use Rattle.cabi.specs.Header.{headed}
 use Rattle.cabi.specs.Positions.{positionSaid, xSaid, ySaid, zSaid}
 use Rattle.cabi.specs.Nulls.{nullSaid}
 use Rattle.cabi.specs.Texts.{textSaid, textAfter}
-use Rattle.cabi.specs.Values.{prcSaid, stopFlag, exactOr0, rrcSaid, limitSaid, limitFlag, limitOr0, strengthSaid, trackedFlag, dbHzOr0}
+use Rattle.cabi.specs.Values.{prcSaid, stopFlag, exactOr0, rrcSaid, stopsSaid, limitSaid, limitFlag, limitOr0, strengthSaid, trackedFlag, dbHzOr0}
 use Rattle.entry_bytes.specs.Corrections as entry-corrections
 use Rattle.entry_bytes.specs.Healths as entry-healths
 use Rattle.cabi.specs.Send as send
@@ -143,6 +144,9 @@ pub record LibraryCalls : Type 2 where
       (λ κs (scale, (rrc, _)). numberOf (rrcSaid scale rrc))
       (λ κs (_, (_, (stop, (rate, _)))). (now stop, now rate))
       (λ κs (scale, (rrc, (stop, (rate, _)))). let s = rrcSaid scale rrc in (left s stopFlag (now stop), left s exactOr0 (now rate)))
+  pub stops : AnsweredLent cabi.values.rtcm2_stops.Reads.Asked cabi.values.rtcm2_stops.Reads.Learnt cabi.values.rtcm2_stops.Statement.statement
+      (λ κs (prc, (rrc, _)). numberOf (stopsSaid prc rrc))
+      (λ κs (_, (_, (stop, _))). now stop) (λ κs (prc, (rrc, (stop, _))). left (stopsSaid prc rrc) val (now stop))
   pub udre-limit-mm : AnsweredLent {B = ℕ × ℕ} cabi.values.rtcm2_udre_limit_mm.Reads.Asked cabi.values.rtcm2_udre_limit_mm.Reads.Learnt cabi.values.rtcm2_udre_limit_mm.Statement.statement
       (λ κs (health, (udre, _)). numberOf (limitSaid health udre))
       (λ κs (_, (_, (limited, (mm, _)))). (now limited, now mm))

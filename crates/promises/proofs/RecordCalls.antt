@@ -47,6 +47,7 @@ record-calls = record {
   make-text = record { asks-nothing = λ κs a. tt; settles = λ κs a z e p. p; ends = texts.make_text.Met.met };
   prc-mm = record { asks-nothing = λ κs a. tt; settles = λ κs a z e p. p; ends = value.prc_mm.Met.met };
   rrc-mm-s = record { asks-nothing = λ κs a. tt; settles = λ κs a z e p. p; ends = value.rrc_mm_s.Met.met };
+  stops = record { asks-nothing = λ κs a. tt; settles = λ κs a z e p. p; ends = value.stops.Met.met };
   udre-limit = record { asks-nothing = λ κs a. tt; settles = λ κs a z e p. p; ends = value.udre_limit.Met.met };
   cn0-dbhz = record { asks-nothing = λ κs a. tt; settles = λ κs a z e p. p; ends = value.cn0_dbhz.Met.met };
   value-minutes = record { asks-nothing = λ κs a. tt; settles = λ κs a z e p. p; ends = value.minutes.Met.met };

@@ -46,9 +46,9 @@ use Rattle.stage.specs.declared.Count.{Count}
 use Rattle.stage.specs.declared.Count.the-variants as count
 use Rattle.value.specs.Values.{Reading, upTo, noLimit, dbHz, notTracked, signedValue, hundredthsOf, limits, udreValue, cn0Value}
 use Rattle.value.specs.Answer.{prcMm, rrcMmS, cn0DbHz, saysDistance, saysRate, saysStrength}
-use Rattle.value.proofs.Readings.{lowest-stops, only-lowest-stops, exact-value}
+use Rattle.value.proofs.Readings.{lowest-stops, only-lowest-stops, exact-value, stops-either}
 use Rattle.value.proofs.LimitLaws.{limit-whole}
-use Rattle.value.proofs.AnswerLaws.{prc-says, rrc-says, udre-says, cn0-says, minutes-says, z-says}
+use Rattle.value.proofs.AnswerLaws.{prc-says, rrc-says, both-exact, udre-says, cn0-says, minutes-says, z-says}
 use Rattle.writer.specs.Answer.{saysWritten}
 use Rattle.writer.specs.declared.Carried.{Carried}
 use Rattle.writer.specs.declared.Written.{Written}
@@ -272,6 +272,8 @@ records-of-rtcm = record {
   text-n = text-fit;
   prc = says-exactly 15 20 320 (λ scale z. saysDistance (prcMm scale z)) prc-says;
   rrc = says-exactly 7 2 32 (λ scale z. saysRate (rrcMmS scale z)) rrc-says;
+  stopped = λ e. stops-either (e .prc) (e .rrc);
+  usable = λ e. both-exact (e .scale) (e .prc) (e .rrc);
   states = unfold stateOf factors in refl;
   hundredths = λ k. unfold hundredthsOf in refl;
   udre-0 = udre-is 0 1000 refl refl (unfold limits in refl);

@@ -11,6 +11,7 @@ use Rattle.healths.specs.Healths.{countHealths, healthAt, makeHealths}
 use Rattle.positions.specs.Positions.{readPosition, makePosition}
 use Rattle.nulls.specs.Nulls.{readNull, makeNull}
 use Rattle.texts.specs.Texts.{readText, bufferAfter, makeText}
+use Rattle.value.specs.Values.{stopsUse}
 use Rattle.value.specs.Answer.{prcMm, rrcMmS, udreLimit, cn0DbHz, minutesOf, zTenths}
 use Rattle.pack.proofs as pack
 use Rattle.stage.proofs as stage
@@ -73,6 +74,7 @@ pub record RecordCalls : Type 2 where
   -- value
   pub prc-mm : Answered value.prc_mm.Reads.Asked value.prc_mm.Reads.Learnt value.prc_mm.Statement.statement (λ κs (scale, (prc, _)). prcMm scale prc)
   pub rrc-mm-s : Answered value.rrc_mm_s.Reads.Asked value.rrc_mm_s.Reads.Learnt value.rrc_mm_s.Statement.statement (λ κs (scale, (rrc, _)). rrcMmS scale rrc)
+  pub stops : Answered value.stops.Reads.Asked value.stops.Reads.Learnt value.stops.Statement.statement (λ κs (prc, (rrc, _)). stopsUse prc rrc)
   pub udre-limit : Answered value.udre_limit.Reads.Asked value.udre_limit.Reads.Learnt value.udre_limit.Statement.statement (λ κs (state, (udre, _)). udreLimit state udre)
   pub cn0-dbhz : Answered value.cn0_dbhz.Reads.Asked value.cn0_dbhz.Reads.Learnt value.cn0_dbhz.Statement.statement (λ κs (code, _). cn0DbHz code)
   pub value-minutes : Answered value.minutes.Reads.Asked value.minutes.Reads.Learnt value.minutes.Statement.statement (λ κs (code, _). minutesOf code)

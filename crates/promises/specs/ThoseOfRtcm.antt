@@ -1,7 +1,7 @@
 -- DEMAND 2, "Frames, parity and records are those of RTCM 10402 and the GPS parity rule as our papers condense them": what is answered for a word, a
 -- byte, a header, a frame and a count, held against RULES 2 to 8. Assumes nothing.
 use mathlib.Core.Path.{_≡_}
-use mathlib.Core.Logic.{_↔_}
+use mathlib.Core.Logic.{_↔_, _⊎_}
 use mathlib.Core.Bool.{Bool, true, false, not}
 use mathlib.Core.List.{List, [], _∷_, _++_, map, List·Memᴰ}
 use Prim.Native.Nat.{ℕ, suc, _+_, _-_, _*_, _^_, _≤_, _<_}
@@ -26,13 +26,14 @@ use Rattle.frame.specs.declared.Frame.{Frame}
 use Rattle.stream.specs.Standing.{size, Stands, frameAt}
 use Rattle.stage.specs.Stages.{saysCount}
 use Rattle.corrections.specs.Corrections.{countCorrections}
+use Rattle.corrections.specs.declared.Correction.{Correction}
 use Rattle.healths.specs.Healths.{countHealths}
 use Rattle.positions.specs.Positions.{readPosition, saysPositionRead}
 use Rattle.nulls.specs.Nulls.{readNull, saysNullRead}
 use Rattle.texts.specs.Texts.{readText}
 use Rattle.positions.specs.declared.Position.{Position}
 use Rattle.pack.specs.Satellites.{satelliteOf, satelliteCode}
-use Rattle.value.specs.Values.{Reading, exactly, stop, upTo, noLimit, dbHz, notTracked, stepOf, hundredthsOf}
+use Rattle.value.specs.Values.{Reading, exactly, stop, upTo, noLimit, dbHz, notTracked, stepOf, stopsUse, hundredthsOf}
 use Rattle.value.specs.Answer.{prcMm, rrcMmS, udreLimit, cn0DbHz, minutesOf, zTenths, saysDistance, saysRate, saysLimit, saysStrength, saysTime, saysSinceHour}
 use Rattle.writer.specs.Answer.{writtenBy, saysWritten}
 use Rattle.writer.specs.OneFrame.{Wrote, itsBits, WritesBack}
@@ -110,6 +111,11 @@ pub record RecordsOfRtcm : Type 0 where
   -- PRC in steps of 20 mm, or 320 mm with scale 1; RRC in steps of 2 mm/s, or 32 mm/s
   pub prc : SaysExactly 15 20 320 (λ scale z. saysDistance (prcMm scale z))
   pub rrc : SaysExactly 7 2 32 (λ scale z. saysRate (rrcMmS scale z))
+  -- an entry stops its satellite exactly when its PRC is -32768 or its RRC is -128; of any other, a usable one, both have their exact value
+  pub stopped : (e : Correction) → (stopsUse (e .prc) (e .rrc) ≡ true) ↔ ((e .prc ≡ negℤ (pos 32768)) ⊎ (e .rrc ≡ negℤ (pos 128)))
+  pub usable : (e : Correction) → e .scale ≤ 1 → stopsUse (e .prc) (e .rrc) ≡ false
+      → (saysDistance (prcMm (e .scale) (e .prc)) ≡ answers (exactly (e .prc *ℤ pos (stepOf 20 320 (e .scale)))))
+      × (saysRate (rrcMmS (e .scale) (e .rrc)) ≡ answers (exactly (e .rrc *ℤ pos (stepOf 2 32 (e .scale)))))
   -- the state that a health code means, factors in hundredths; not monitored and not working use factor 1
   pub states : map stateOf (0 ∷ 1 ∷ 2 ∷ 3 ∷ 4 ∷ 5 ∷ 6 ∷ 7 ∷ [])
       ≡ Factor 100 ∷ Factor 75 ∷ Factor 50 ∷ Factor 30 ∷ Factor 20 ∷ Factor 10 ∷ Unmonitored ∷ Down ∷ []

@@ -1,15 +1,18 @@
 -- The answers in the table's terms: each call refuses by its order, and where no number of it applies it answers the value.
 -- Assumes nothing.
-use mathlib.Core.Path.{_≡_, refl}
+use mathlib.Core.Path.{_≡_, refl, ap, _∙_}
+use mathlib.Core.Bool.{false}
 use mathlib.Core.List.{[], _∷_}
-use Prim.Native.Nat.{ℕ, _*_}
+use Prim.Native.Nat.{ℕ, _*_, _≤_}
 use lib.Dec.{ltb}
-use lib.IntN.{ℤ}
+use lib.IntN.{ℤ, pos, _*ℤ_}
+use borrow.Author.Tests.{le-ltb}
 use Rattle.answer.specs.Order.{refuses, answers, inOrder}
-use Rattle.answer.proofs.OrderLaws.{says-order}
+use Rattle.answer.proofs.OrderLaws.{says-order, order-answers}
 use Rattle.frame.specs.Widths.{stateOutside, late}
 use Rattle.frame.specs.declared.State.{State}
-use Rattle.value.specs.Values.{Reading, exactly, stop, Bound, upTo, noLimit, Signal, dbHz, notTracked, prcValue, rrcValue, udreValue, cn0Value}
+use Rattle.value.specs.Values.{Reading, exactly, stop, Bound, upTo, noLimit, Signal, dbHz, notTracked}
+use Rattle.value.specs.Values.{stepOf, prcValue, rrcValue, stopsUse, udreValue, cn0Value}
 use Rattle.value.specs.Answer.{distanceOf, rateOf, limitOf, strengthOf, prcMm, rrcMmS, udreLimit, cn0DbHz, minutesOf, zTenths}
 use Rattle.value.specs.Answer.{saysDistance, saysRate, saysLimit, saysStrength, saysTime, saysSinceHour}
 use Rattle.value.specs.declared.Distance.the-variants as distance
@@ -18,6 +21,7 @@ use Rattle.value.specs.declared.Limit.the-variants as limit
 use Rattle.value.specs.declared.Strength.the-variants as strength
 use Rattle.value.specs.declared.Time.the-variants as time
 use Rattle.value.specs.declared.SinceHour.the-variants as since
+use Rattle.value.proofs.Readings.{exact-other, neither-lowest}
 
 as-distance : (x : Reading) → saysDistance (distanceOf x) ≡ answers x
 as-distance (exactly mm) = refl
@@ -40,6 +44,19 @@ prc-says scale prc = says-order saysDistance distance.Refused (λ n. refl) _ ((l
 
 pub rrc-says : (scale : ℕ) (rrc : ℤ) → saysRate (rrcMmS scale rrc) ≡ inOrder ((ltb 1 scale, 10) ∷ []) refuses (answers (rrcValue scale rrc))
 rrc-says scale rrc = says-order saysRate rate.Refused (λ n. refl) _ ((ltb 1 scale, 10) ∷ []) (as-rate (rrcValue scale rrc))
+
+-- a correction that does not stop its satellite has both values
+pub both-exact : (scale : ℕ) (prc rrc : ℤ) → scale ≤ 1 → stopsUse prc rrc ≡ false
+    → (saysDistance (prcMm scale prc) ≡ answers (exactly (prc *ℤ pos (stepOf 20 320 scale))))
+    × (saysRate (rrcMmS scale rrc) ≡ answers (exactly (rrc *ℤ pos (stepOf 2 32 scale))))
+both-exact scale prc rrc l e =
+    let other = neither-lowest prc rrc e in (
+      prc-says scale prc ∙ said ∙ ap answers (exact-other 15 20 320 scale prc (other .0)),
+      rrc-says scale rrc ∙ said ∙ ap answers (exact-other 7 2 32 scale rrc (other .1)),
+    )
+  where
+    said : {x : Reading} → inOrder ((ltb 1 scale, 10) ∷ []) refuses (answers x) ≡ answers x
+    said = order-answers refuses _ ((ltb 1 scale, 10) ∷ []) (le-ltb 1 scale l, tt)
 
 pub udre-says : (s : State) (udre : ℕ)
     → saysLimit (udreLimit s udre) ≡ inOrder ((stateOutside s, 5) ∷ (ltb 3 udre, 10) ∷ []) refuses (answers (udreValue s udre))

@@ -1,7 +1,8 @@
--- PRC and RRC, over the width: the lowest number is stop, and every other one is the exact product, which reaches equally far both ways.
--- Assumes nothing.
-use mathlib.Core.Path.{_≡_, refl, sym, ap}
-use mathlib.Core.Bool.{Bool, true, false, cond, false≢true}
+-- PRC and RRC, over the width: the lowest number is stop, and every other one is the exact product, which reaches equally far both ways; a
+-- correction stops its satellite where either is the lowest. Assumes nothing.
+use mathlib.Core.Path.{_≡_, refl, sym, ap, _∙_}
+use mathlib.Core.Bool.{Bool, true, false, cond, _||_, false≢true, or-true}
+use mathlib.Core.Logic.{_↔_, _⊎_, inl, inr}
 use Prim.Native.Nat.{ℕ, zero, suc, _*_, _-_, _^_, _≤_, _<_}
 use native.Mathlib.Nat.{mul-le-mul-right}
 use native.Mathlib.Omega.{arith}
@@ -13,13 +14,14 @@ use mir.Syntax.{Width}
 use mir.Val.{bits, hbits, SFits, ofZ}
 use mir.ValLaws.{pow-bits}
 use borrow.Author.Tests.{eqb-true, eqb-false, eq-eqb, ne-eqb}
-use Rattle.value.specs.Values.{exactly, stop, isLowest, stepOf, signedValue}
+use Rattle.frame.proofs.WidthLaws.{both-false}
+use Rattle.value.specs.Values.{exactly, stop, isLowest, stepOf, signedValue, stopsUse}
 use Rattle.value.proofs.Products.{abs-product}
 
 -- ---- from the bits in which a machine holds a number
 
 -- only the lowest number has the bits 10..0
-lowest-bits : (w : Width) (z : ℤ) → SFits w z → isLowest (hbits w) z ≡ eqb (ofZ w z) (2 ^ hbits w)
+pub lowest-bits : (w : Width) (z : ℤ) → SFits w z → isLowest (hbits w) z ≡ eqb (ofZ w z) (2 ^ hbits w)
 lowest-bits w (pos n) f = sym (ne-eqb n (2 ^ hbits w) (λ e. omega (arith, f .sfits)))
 lowest-bits w (negsuc n) f = go (eqb (suc n) (2 ^ hbits w)) refl
   where
@@ -83,3 +85,29 @@ module _ (h small large scale : ℕ) where
       let p = picked-exact (isLowest h z) (z *ℤ pos k) v e in
       let near : natAbs z ≤ 2 ^ h - 1 = omega (arith, abs-lt h z l (p .0)) in
       (p .1, rw (p .1, abs-product z k) (mul-le-mul-right k near))
+
+  -- a number that is not the lowest has a value
+  pub exact-other : (z : ℤ) → isLowest h z ≡ false → signedValue h small large scale z ≡ exactly (z *ℤ pos (stepOf small large scale))
+  unfolding signedValue
+  exact-other z e = rw e
+
+-- ---- of a correction
+
+module _ (prc rrc : ℤ) where
+  -- PRC or RRC is the lowest number of its width
+  pub stops-either : (stopsUse prc rrc ≡ true) ↔ ((prc ≡ negℤ (pos (2 ^ 15))) ⊎ (rrc ≡ negℤ (pos (2 ^ 7))))
+  unfolding stopsUse
+  stops-either = (one (isLowest 15 prc) refl, stops)
+    where
+      one : (t : Bool) → isLowest 15 prc ≡ t → t || isLowest 7 rrc ≡ true → (prc ≡ negℤ (pos (2 ^ 15))) ⊎ (rrc ≡ negℤ (pos (2 ^ 7)))
+      one true is e = inl (only-lowest 15 prc is)
+      one false is e = inr (only-lowest 7 rrc e)
+
+      stops : (prc ≡ negℤ (pos (2 ^ 15))) ⊎ (rrc ≡ negℤ (pos (2 ^ 7))) → isLowest 15 prc || isLowest 7 rrc ≡ true
+      stops (inl e) = ap (λ t. t || isLowest 7 rrc) (ap (isLowest 15) e ∙ is-lowest 15)
+      stops (inr e) = ap (λ t. isLowest 15 prc || t) (ap (isLowest 7) e ∙ is-lowest 7) ∙ or-true (isLowest 15 prc)
+
+  -- else neither is
+  pub neither-lowest : stopsUse prc rrc ≡ false → (isLowest 15 prc ≡ false) × (isLowest 7 rrc ≡ false)
+  unfolding stopsUse
+  neither-lowest e = both-false (isLowest 15 prc) (isLowest 7 rrc) e

@@ -1,5 +1,5 @@
 -- What the numbers of a record stand for: stop, no upper limit and not tracked are values of their own. Assumes nothing.
-use mathlib.Core.Bool.{Bool, false, cond}
+use mathlib.Core.Bool.{Bool, false, cond, _||_}
 use mathlib.Core.List.{List, [], _∷_}
 use Prim.Native.Nat.{ℕ, suc, _+_, _*_, _/_, _^_}
 use lib.Dec.{eqb}
@@ -35,6 +35,10 @@ prcValue = signedValue 15 20 320
 -- RRC: 8 bits, steps of 2 mm/s or 32 mm/s
 abbrev pub rrcValue : ℕ → ℤ → Reading
 rrcValue = signedValue 7 2 32
+
+-- A CORRECTION STOPS ITS SATELLITE, whatever its scale: PRC -32768 or RRC -128
+unfoldable pub stopsUse : ℤ → ℤ → Bool
+stopsUse prc rrc = isLowest 15 prc || isLowest 7 rrc
 
 -- ---- UDRE
 

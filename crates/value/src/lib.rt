@@ -1,7 +1,7 @@
 // What the numbers of a record and of a header stand for, in whole units: mm, mm/s, dBHz, minutes, tenths of a second.
 ghost use mathlib.Core.Path.{_≡_};
 ghost use lib.IntN.{pos, _*ℤ_};
-ghost use Rattle.value.specs.Values.{stepOf, hundredthsOf};
+ghost use Rattle.value.specs.Values.{stepOf, stopsUse, hundredthsOf};
 ghost use Rattle.value.specs.Answer.{prcMm, rrcMmS, udreLimit, cn0DbHz, minutesOf, zTenths};
 use frame::Clock;
 use frame::Health;
@@ -69,7 +69,7 @@ fn product(number: i16, step: u16) -> i32
     number as i32 * step as i32
 }
 
-// PRC in mm: 16 bits in steps of 20 mm or 320 mm.
+// PRC in mm: 16 bits in steps of 20 mm or 320 mm. Whether its satellite is to be used depends on RRC too: `stops`.
 pub fn prc_mm(scale: u8, prc: i16) -> Distance
     ensures { λ r. ⌜ r ≡ prcMm scale prc ⌝ }
 {
@@ -82,7 +82,7 @@ pub fn prc_mm(scale: u8, prc: i16) -> Distance
     Distance::Millimetres(product(prc, step_of(20, 320, scale)))
 }
 
-// RRC in mm/s: 8 bits in steps of 2 mm/s or 32 mm/s.
+// RRC in mm/s: 8 bits in steps of 2 mm/s or 32 mm/s. Whether its satellite is to be used depends on PRC too: `stops`.
 pub fn rrc_mm_s(scale: u8, rrc: i8) -> Rate
     ensures { λ r. ⌜ r ≡ rrcMmS scale rrc ⌝ }
 {
@@ -93,6 +93,13 @@ pub fn rrc_mm_s(scale: u8, rrc: i8) -> Rate
         return Rate::Stop;
     }
     Rate::MillimetresPerSecond(product(rrc as i16, step_of(2, 32, scale)))
+}
+
+// Whether a correction with these two numbers says to stop using its satellite: either number does.
+pub fn stops(prc: i16, rrc: i8) -> bool
+    ensures { λ r. ⌜ r ≡ stopsUse prc rrc ⌝ }
+{
+    prc == -32768 || rrc == -128
 }
 
 // The factor of a state in hundredths: a station that is not monitored or not working has factor 1.
