@@ -22,7 +22,7 @@ pub fn stream() -> Vec<u8> {
     bits.push_noise(&mut rng, 40);
     let mut late = samples::correction_frame(&mut rng, 9, 2);
     late.header.z_count = 6000;
-    bits.push_frames(&[late, stops(&mut rng)]);
+    bits.push_frames(&[late, without_numbers(&mut rng)]);
     let cut = bits.push_frame(&samples::correction_frame(&mut rng, 1, 18));
     bits.remove(cut + 300, 7);
     bits.push_frame(&samples::text_frame(&mut rng, 20));
@@ -37,8 +37,8 @@ pub fn stream() -> Vec<u8> {
     bytes
 }
 
-/// A frame with stop for PRC, for RRC, and no UDRE limit.
-fn stops(rng: &mut Rng) -> Frame {
+/// A frame with stop for PRC alone, for RRC alone, and no UDRE limit.
+fn without_numbers(rng: &mut Rng) -> Frame {
     let mut entries = [Correction::default(); correction::MOST];
     entries.fill_with(|| samples::correction(rng));
     entries[0].prc = i16::MIN;
@@ -66,22 +66,25 @@ pub fn expected(bytes: &[u8]) -> String {
 fn correction_line(frame: &Frame, number: usize) -> Answer<String> {
     let (header, entry) = (&frame.header, correction::entry(frame, number)?);
     Ok(format!(
-        "{} {} {} {} {} {} {}",
+        "{} {} {} {} {} {}",
         header.station,
         header.z_count,
         entry.satellite,
-        stop_or(prc_mm(entry.scale, entry.prc)?),
-        stop_or(rrc_mm_s(entry.scale, entry.rrc)?),
+        values(&entry)?,
         limit(header.state, entry.udre)?,
         entry.iod,
     ))
 }
 
-fn stop_or(value: Value) -> String {
-    match value {
-        Value::Stop => "stop".to_string(),
-        Value::Is(number) => number.to_string(),
-    }
+/// PRC and RRC of a correction, or "stop" for both where either stops the
+/// satellite.
+fn values(entry: &Correction) -> Answer<String> {
+    let prc = prc_mm(entry.scale, entry.prc)?;
+    let rrc = rrc_mm_s(entry.scale, entry.rrc)?;
+    Ok(match (prc, rrc) {
+        (Value::Is(mm), Value::Is(mm_s)) => format!("{mm} {mm_s}"),
+        _ => "stop stop".to_string(),
+    })
 }
 
 fn limit(state: State, udre: u8) -> Answer<String> {

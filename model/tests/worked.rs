@@ -7,7 +7,7 @@ use common::{frame, header};
 use rtcm2_model::frame::State;
 use rtcm2_model::line::{bits_of_byte, turned_over};
 use rtcm2_model::reader::{Fed, Reader};
-use rtcm2_model::record::values::{cn0_dbhz, prc_mm, rrc_mm_s, udre_limit_mm, Value};
+use rtcm2_model::record::values::{cn0_dbhz, prc_mm, rrc_mm_s, stops, udre_limit_mm, Value};
 use rtcm2_model::record::{correction, null, text};
 use rtcm2_model::refusal::Refusal;
 use rtcm2_model::word::{bits_of, encode, Pair};
@@ -125,6 +125,8 @@ fn corrections_in_millimetres() {
     assert_eq!(rrc_mm_s(1, -127), Ok(Value::Is(-4064)));
     assert_eq!(rrc_mm_s(0, -128), Ok(Value::Stop));
     assert_eq!(rrc_mm_s(1, -128), Ok(Value::Stop));
+    assert!(stops(-32768, 0) && stops(0, -128) && stops(-32768, -128));
+    assert!(!stops(-32767, -127) && !stops(32767, 127));
 }
 
 #[test]

@@ -32,6 +32,7 @@ pub enum Function {
     MakeText,
     PrcMm,
     RrcMmS,
+    Stops,
     UdreLimitMm,
     Cn0Dbhz,
 }
@@ -55,7 +56,7 @@ const fn row(function: Function, name: &'static str, answers: &'static [u64]) ->
 }
 
 /// All functions, in the order of the header.
-pub const FUNCTIONS: [Row; 26] = [
+pub const FUNCTIONS: [Row; 27] = [
     row(Function::StateSize, "rtcm2_state_size", &[188]),
     row(Function::Start, "rtcm2_start", &[0, 13]),
     row(Function::Feed, "rtcm2_feed", &[0, 1, 2, 3, 5]),
@@ -124,6 +125,7 @@ pub const FUNCTIONS: [Row; 26] = [
     ),
     row(Function::PrcMm, "rtcm2_prc_mm", &[0, 10]),
     row(Function::RrcMmS, "rtcm2_rrc_mm_s", &[0, 10]),
+    row(Function::Stops, "rtcm2_stops", &[0]),
     row(Function::UdreLimitMm, "rtcm2_udre_limit_mm", &[0, 5, 10]),
     row(Function::Cn0Dbhz, "rtcm2_cn0_dbhz", &[0, 10]),
 ];

@@ -146,6 +146,7 @@ unsafe extern "C" {
     ) -> u8;
     pub fn rtcm2_prc_mm(scale: u8, prc: i16, stop: *mut u8, mm: *mut i32) -> u8;
     pub fn rtcm2_rrc_mm_s(scale: u8, rrc: i8, stop: *mut u8, mm_s: *mut i32) -> u8;
+    pub fn rtcm2_stops(prc: i16, rrc: i8, stop: *mut u8) -> u8;
     pub fn rtcm2_udre_limit_mm(health: u8, udre: u8, limited: *mut u8, mm: *mut u32) -> u8;
     pub fn rtcm2_cn0_dbhz(code: u8, tracked: *mut u8, dbhz: *mut u8) -> u8;
 }

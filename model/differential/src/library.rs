@@ -27,6 +27,7 @@ pub fn answer(call: &mut Call) -> u64 {
         Function::PrcMm | Function::RrcMmS | Function::UdreLimitMm | Function::Cn0Dbhz => {
             u64::from(number(call))
         }
+        Function::Stops => u64::from(stops(call)),
     }
 }
 
@@ -193,6 +194,11 @@ fn make_null(call: &mut Call) -> u8 {
             at(length),
         )
     }
+}
+
+fn stops(call: &mut Call) -> u8 {
+    let (given, [stop]) = (&call.given, of(&mut call.lent));
+    unsafe { rtcm2_stops(given[0] as i16, given[1] as i8, at(stop)) }
 }
 
 fn number(call: &mut Call) -> u8 {

@@ -30,6 +30,7 @@ pub fn answer(call: &mut Call) -> u64 {
         Function::PrcMm | Function::RrcMmS | Function::UdreLimitMm | Function::Cn0Dbhz => {
             u64::from(number(call))
         }
+        Function::Stops => u64::from(stops(call)),
     }
 }
 
@@ -136,6 +137,11 @@ fn make(call: &mut Call) -> u8 {
         Function::MakeText => records::make_text(head, of::<1>(read)[0].bytes(), frame, length),
         other => unreachable!("{other:?}"),
     }
+}
+
+fn stops(call: &mut Call) -> u8 {
+    let (given, [stop]) = (&call.given, of(&mut call.lent));
+    numbers::stops(given[0] as i16, given[1] as i8, stop.number())
 }
 
 fn number(call: &mut Call) -> u8 {

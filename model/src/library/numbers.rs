@@ -15,6 +15,12 @@ pub fn rrc_mm_s(scale: u8, rrc: i8, stop: &mut u8, mm_s: &mut i32) -> u8 {
     numbered(values::rrc_mm_s(scale, rrc).map(|value| (*stop, *mm_s) = stop_or(value)))
 }
 
+/// 1 where a correction stops its satellite, else 0. Never refuses.
+pub fn stops(prc: i16, rrc: i8, stop: &mut u8) -> u8 {
+    *stop = u8::from(values::stops(prc, rrc));
+    0
+}
+
 /// 1 beside 0 for stop, 0 beside the number.
 fn stop_or(value: Value) -> (u8, i32) {
     match value {

@@ -40,6 +40,11 @@ pub fn rrc_mm_s(scale: u8, rrc: i8) -> Answer<Value> {
     })
 }
 
+/// Whether a correction says to stop using its satellite: PRC or RRC does.
+pub fn stops(prc: i16, rrc: i8) -> bool {
+    prc == i16::MIN || rrc == i8::MIN
+}
+
 /// The upper limit of a UDRE code in mm, none for code 3. Refuses with 5, 10.
 pub fn udre_limit_mm(state: State, udre: u8) -> Answer<Option<u32>> {
     refuse_if(state.code().is_none(), Refusal::OutsideWidths)?;

@@ -45,12 +45,16 @@ impl Draw {
 /// A call on the numbers of a record, or on nothing.
 fn number(rng: &mut Rng) -> Call {
     let mut given = vec![small(rng, 2)];
-    let function = match rng.below(9) {
+    let function = match rng.below(11) {
         0 => return parts(Function::StateSize, vec![], vec![], vec![]),
         1 | 2 => {
-            let prc = rng.below(1 << 16) as u16 as i16;
-            given.push([prc, i16::MIN, i16::MAX][rng.place(3)].into());
+            given.push(prc(rng));
             Function::PrcMm
+        }
+        9 | 10 => {
+            let rrc = [rng.byte() as i8, i8::MIN][rng.place(2)];
+            let given = vec![prc(rng), rrc.into()];
+            return parts(Function::Stops, given, vec![], numbers(rng, 1));
         }
         3 | 4 => {
             given.push((rng.byte() as i8).into());
@@ -66,6 +70,12 @@ fn number(rng: &mut Rng) -> Call {
         }
     };
     parts(function, given, vec![], numbers(rng, 2))
+}
+
+/// A PRC: any, or one of the ends.
+fn prc(rng: &mut Rng) -> i64 {
+    let any = rng.below(1 << 16) as u16 as i16;
+    [any, i16::MIN, i16::MAX][rng.place(3)].into()
 }
 
 /// A call of these parts.
