@@ -1,7 +1,8 @@
 //! What becomes of the frames of a stream: each is kept and recalled, its record
-//! is read and made again, and it is written.
+//! is read and made again, its fields are summed, and it is written.
 
 use crate::frame::Frame;
+use crate::library::lists::health_row;
 use crate::line::bits_of_bytes;
 use crate::record::correction::{self, Correction};
 use crate::record::health::{self, Health};
@@ -11,40 +12,54 @@ use crate::scan::scan;
 use crate::writer::CarriedBits;
 use crate::{journal, writer};
 
-/// Frames counted, and the sums of the bytes kept and written.
+/// Frames counted, and the sums of the bytes kept and written and of the fields
+/// read.
 #[derive(Default)]
 struct Tally {
     records: u64,
     remade: u64,
     kept: u64,
     written: u64,
-    bytes: u64,
+    bytes: Sum,
+    fields: Sum,
+}
+
+/// A sum of numbers and the sum of all sums on the way, modulo 2^64.
+#[derive(Default)]
+struct Sum {
+    numbers: u64,
     sums: u64,
 }
 
-impl Tally {
-    /// Adds bytes, and the sums on the way, each modulo 2^64.
-    fn sum(&mut self, more: &[u8]) {
-        for byte in more {
-            self.bytes = self.bytes.wrapping_add(u64::from(*byte));
-            self.sums = self.sums.wrapping_add(self.bytes);
+impl Sum {
+    /// Adds numbers, in this order.
+    fn add<T: Into<u64> + Copy>(&mut self, more: &[T]) {
+        for number in more {
+            self.numbers = self.numbers.wrapping_add((*number).into());
+            self.sums = self.sums.wrapping_add(self.numbers);
         }
     }
+}
 
+impl Tally {
     /// Keeps and recalls a frame; the sums take the whole buffer.
     fn keep(&mut self, frame: &Frame) {
         let mut buffer = [0; 102];
         let kept = journal::keep(frame, &mut buffer);
         let recalled = journal::recall(&buffer).map(|(frame, _)| frame);
         self.kept += u64::from(kept.is_ok() && recalled == Ok(*frame));
-        self.sum(&buffer);
+        self.bytes.add(&buffer);
     }
 
-    /// Reads a frame's record and makes it again.
+    /// Reads a frame's record, sums its fields and makes it again; where it can't
+    /// be read, the refusal's number is summed.
     fn remake(&mut self, frame: &Frame) {
-        let made = made_again(frame);
+        let made = made_again(frame, &mut self.fields);
         self.records += u64::from(made.is_ok());
         self.remade += u64::from(made == Ok(*frame));
+        if let Err(refusal) = made {
+            self.fields.add(&[refusal.number()]);
+        }
     }
 
     /// Writes a frame; the sums take the whole buffer.
@@ -53,7 +68,7 @@ impl Tally {
         if let Ok(written) = writer::write(frame, *carried, &mut buffer) {
             *carried = written.carried;
             self.written += 1;
-            self.sum(&buffer);
+            self.bytes.add(&buffer);
         }
     }
 }
@@ -67,43 +82,59 @@ pub fn line(bytes: &[u8]) -> String {
         tally.remake(&frame);
         tally.write(&frame, &mut carried);
     }
+    let (bytes, fields) = (&tally.bytes, &tally.fields);
     format!(
-        "records {} remade {} kept {} written {} sum {} {}\n",
-        tally.records, tally.remade, tally.kept, tally.written, tally.bytes, tally.sums,
+        "records {} remade {} kept {} written {} sum {} {} fields {} {}\n",
+        tally.records,
+        tally.remade,
+        tally.kept,
+        tally.written,
+        bytes.numbers,
+        bytes.sums,
+        fields.numbers,
+        fields.sums,
     )
 }
 
 /// The frame made from a frame's record, or the refusal of reading it.
-fn made_again(frame: &Frame) -> Answer<Frame> {
+fn made_again(frame: &Frame, fields: &mut Sum) -> Answer<Frame> {
     let header = &frame.header;
     match layout(header.type_number) {
-        Layout::Correction => corrections_again(frame),
-        Layout::Health => healths_again(frame),
-        Layout::Position => position::make(header, &position::read(frame)?),
+        Layout::Correction => corrections_again(frame, fields),
+        Layout::Health => healths_again(frame, fields),
+        Layout::Position => {
+            let place = position::read(frame)?;
+            fields.add(&[place.x as u32, place.y as u32, place.z as u32]);
+            position::make(header, &place)
+        }
         Layout::Null => null::read(frame).and_then(|()| null::make(header)),
         Layout::Text => {
             let mut buffer = [0; text::MOST];
             let count = text::read(frame, &mut buffer)?;
+            fields.add(&buffer[..count]);
             text::make(header, &buffer[..count])
         }
         Layout::Plain => Err(Refusal::AnotherType),
     }
 }
 
-fn corrections_again(frame: &Frame) -> Answer<Frame> {
+fn corrections_again(frame: &Frame, fields: &mut Sum) -> Answer<Frame> {
     let count = correction::count(frame)?;
     let mut entries = [Correction::default(); correction::MOST];
     for (i, entry) in entries.iter_mut().take(count).enumerate() {
         *entry = correction::entry(frame, i)?;
+        fields.add(&[entry.scale, entry.udre, entry.satellite]);
+        fields.add(&[entry.prc as u16, (entry.rrc as u8).into(), entry.iod.into()]);
     }
     correction::make(&frame.header, &entries, count)
 }
 
-fn healths_again(frame: &Frame) -> Answer<Frame> {
+fn healths_again(frame: &Frame, fields: &mut Sum) -> Answer<Frame> {
     let count = health::count(frame)?;
     let mut entries = [Health::default(); health::MOST];
     for (i, entry) in entries.iter_mut().take(count).enumerate() {
         *entry = health::entry(frame, i)?;
+        fields.add(&health_row(entry));
     }
     health::make(&frame.header, &entries, count)
 }

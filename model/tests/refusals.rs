@@ -10,7 +10,7 @@ use rtcm2_model::reader::Reader;
 use rtcm2_model::record::correction::{self, Correction};
 use rtcm2_model::record::health::{self, Health};
 use rtcm2_model::record::position::{self, Position};
-use rtcm2_model::record::values::{cn0_dbhz, minutes, prc_mm, rrc_mm_s, udre_limit_mm};
+use rtcm2_model::record::values::{cn0_dbhz, minutes, prc_mm, rrc_mm_s, udre_limit_mm, z_tenths};
 use rtcm2_model::record::{layout, null, text, Layout};
 use rtcm2_model::refusal::Answer;
 use rtcm2_model::writer::{self, CarriedBits};
@@ -334,6 +334,9 @@ fn values_outside_their_range() {
     assert_eq!(number(cn0_dbhz(32)), 10);
     assert_eq!(number(minutes(16)), 10);
     assert_eq!(minutes(15), Ok(75));
+    assert_eq!(number(z_tenths(8192)), 5);
+    assert_eq!(number(z_tenths(6000)), 7);
+    assert_eq!(z_tenths(5999), Ok(35_994));
     let limits = [[1000, 4000, 8000], [750, 3000, 6000], [500, 2000, 4000]];
     for (code, row) in limits.iter().enumerate() {
         for (udre, limit) in row.iter().enumerate() {

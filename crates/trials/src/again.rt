@@ -1,4 +1,8 @@
-// A frame's record, read and made into a frame again.
+// A frame's record: its fields are summed in the order sent, and made into a frame again.
+use crate::sum::Sum;
+use crate::sum::with_byte;
+use crate::sum::with_bytes;
+use crate::sum::with_number;
 use corrections::Correction;
 use corrections::CorrectionRead;
 use frame::Frame;
@@ -6,17 +10,52 @@ use frame::Layout;
 use healths::HealthRead;
 use healths::SatelliteHealth;
 use nulls::NullRead;
+use positions::Position;
 use positions::PositionRead;
 use stage::Count;
 use stage::Made;
 use stage::Making;
 
-// The record cannot be read.
-fn refused(number: u8) -> Made {
-    Made {
+// What a frame's record gave: the sum with its fields, and the frame made of them.
+pub(crate) struct Again {
+    pub(crate) sum: Sum,
+    pub(crate) made: Made,
+}
+
+// The record cannot be read: the refusal's number is summed.
+fn refused(sum: Sum, number: u8) -> Again {
+    let made = Made {
         answer: Making::Refused(number),
         frame: frame::no_frame(),
+    };
+    Again {
+        sum: with_byte(sum, number),
+        made,
     }
+}
+
+// A sum, with the fields of a correction.
+fn with_correction(sum: Sum, e: Correction) -> Sum {
+    let named = with_byte(with_byte(with_byte(sum, e.scale), e.udre), e.satellite);
+    let prc = with_number(named, pack::code16(e.prc));
+    with_byte(with_number(prc, pack::code8(e.rrc)), e.iod)
+}
+
+// A sum, with the fields of a satellite's health.
+fn with_health(sum: Sum, e: SatelliteHealth) -> Sum {
+    let link = with_byte(with_byte(with_byte(sum, e.reserved), e.satellite), e.link);
+    let enable = with_byte(with_byte(with_byte(link, e.health), e.cn0), e.enable);
+    let time = with_byte(with_byte(with_byte(enable, e.new_data), e.loss), e.time);
+    with_byte(time, e.spare)
+}
+
+// A sum, with the three numbers of a position.
+fn with_position(sum: Sum, place: Position) -> Sum {
+    let y = with_number(
+        with_number(sum, pack::code32(place.x)),
+        pack::code32(place.y),
+    );
+    with_number(y, pack::code32(place.z))
 }
 
 // Entry number `index` of a frame, or zeros.
@@ -34,15 +73,21 @@ fn correction_or_zeros(frame: Frame, index: usize) -> Correction {
     }
 }
 
-// The first `count` entries, made into a frame.
-fn corrections(frame: Frame, count: usize) -> Made {
+// The first `count` entries, summed and made into a frame.
+fn corrections(frame: Frame, count: usize, before: Sum) -> Again {
     let mut entries = [correction_or_zeros(frame, 0); 18];
-    let mut i: usize = 1;
+    let mut sum = before;
+    let mut i: usize = 0;
     while i < 18 {
-        entries[i] = correction_or_zeros(frame, i);
+        let entry = correction_or_zeros(frame, i);
+        entries[i] = entry;
+        if i < count {
+            sum = with_correction(sum, entry);
+        }
         i += 1;
     }
-    corrections::make_corrections(frame.header, entries, count)
+    let made = corrections::make_corrections(frame.header, entries, count);
+    Again { sum, made }
 }
 
 // Entry number `index` of a frame, or zeros.
@@ -64,62 +109,78 @@ fn health_or_zeros(frame: Frame, index: usize) -> SatelliteHealth {
     }
 }
 
-// The first `count` entries, made into a frame.
-fn healths(frame: Frame, count: usize) -> Made {
+// The first `count` entries, summed and made into a frame.
+fn healths(frame: Frame, count: usize, before: Sum) -> Again {
     let mut entries = [health_or_zeros(frame, 0); 31];
-    let mut i: usize = 1;
+    let mut sum = before;
+    let mut i: usize = 0;
     while i < 31 {
-        entries[i] = health_or_zeros(frame, i);
+        let entry = health_or_zeros(frame, i);
+        entries[i] = entry;
+        if i < count {
+            sum = with_health(sum, entry);
+        }
         i += 1;
     }
-    healths::make_healths(frame.header, entries, count)
+    let made = healths::make_healths(frame.header, entries, count);
+    Again { sum, made }
 }
 
-// The text, made into a frame.
-fn text(frame: Frame) -> Made {
+// The text, summed and made into a frame.
+fn text(frame: Frame, sum: Sum) -> Again {
     let mut buffer = [0u8; 90];
     match texts::read_text(frame, &mut buffer) {
         Count::Of(count) => {
             // never so: no frame has more characters
             if 90 < count {
-                return refused(13);
+                return refused(sum, 13);
             }
-            texts::make_text(frame.header, &buffer[..count])
+            let made = texts::make_text(frame.header, &buffer[..count]);
+            Again {
+                sum: with_bytes(sum, &buffer[..count]),
+                made,
+            }
         }
-        Count::Refused(number) => refused(number),
+        Count::Refused(number) => refused(sum, number),
     }
 }
 
-// The position, made into a frame.
-fn position(frame: Frame) -> Made {
+// The position, summed and made into a frame.
+fn position(frame: Frame, sum: Sum) -> Again {
     match positions::read_position(frame) {
-        PositionRead::At(position) => positions::make_position(frame.header, position),
-        PositionRead::Refused(number) => refused(number),
+        PositionRead::At(place) => Again {
+            sum: with_position(sum, place),
+            made: positions::make_position(frame.header, place),
+        },
+        PositionRead::Refused(number) => refused(sum, number),
     }
 }
 
-// The null record, made into a frame.
-fn null(frame: Frame) -> Made {
+// The null record, which has no fields, made into a frame.
+fn null(frame: Frame, sum: Sum) -> Again {
     match nulls::read_null(frame) {
-        NullRead::Null => nulls::make_null(frame.header),
-        NullRead::Refused(number) => refused(number),
+        NullRead::Null => Again {
+            sum,
+            made: nulls::make_null(frame.header),
+        },
+        NullRead::Refused(number) => refused(sum, number),
     }
 }
 
-// The frame made from a frame's record, or the refusal of reading it; a plain frame has no record.
-pub(crate) fn made_again(frame: Frame) -> Made {
+// What a frame's record gives; a plain frame has no record.
+pub(crate) fn made_again(frame: Frame, sum: Sum) -> Again {
     match frame::layout_of(frame.header.kind) {
         Layout::Correction => match corrections::count_corrections(frame) {
-            Count::Of(count) => corrections(frame, count),
-            Count::Refused(number) => refused(number),
+            Count::Of(count) => corrections(frame, count, sum),
+            Count::Refused(number) => refused(sum, number),
         },
         Layout::Health => match healths::count_healths(frame) {
-            Count::Of(count) => healths(frame, count),
-            Count::Refused(number) => refused(number),
+            Count::Of(count) => healths(frame, count, sum),
+            Count::Refused(number) => refused(sum, number),
         },
-        Layout::Position => position(frame),
-        Layout::Null => null(frame),
-        Layout::Text => text(frame),
-        Layout::Plain => refused(6),
+        Layout::Position => position(frame, sum),
+        Layout::Null => null(frame, sum),
+        Layout::Text => text(frame, sum),
+        Layout::Plain => refused(sum, 6),
     }
 }

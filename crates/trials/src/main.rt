@@ -1,10 +1,12 @@
 // `trials FILE..` prints each file's name and the listing of its first 4096 bytes. They are listed twice, as one piece and in pieces of seven bytes,
-// and where the two texts differ, both are printed. Then comes a line on what becomes of the frames.
+// and where the two texts differ, both are printed. Then comes a line on what becomes of the frames, and after all files what times stand for.
 ghost use Prim.Native.Nat.{_≤_};
 ghost use lib.ListN.{length};
 ghost use Rattle.io.specs.Counts.{Counts};
 
 mod again;
+mod ends;
+mod sum;
 mod tally;
 
 use libc::STDOUT_FILENO;
@@ -111,4 +113,5 @@ fn main() {
         try_file(i);
         i += 1;
     }
+    ends::print_ends();
 }

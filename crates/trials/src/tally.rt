@@ -1,5 +1,9 @@
-// What becomes of the frames of a stream: each is kept and recalled, its record is read and made again, and it is written.
+// What becomes of the frames of a stream: each is kept and recalled, its record's fields are summed and made into a frame
+// again, and it is written.
 use crate::again::made_again;
+use crate::sum::Sum;
+use crate::sum::with_bytes;
+use crate::sum::zero;
 use frame::Frame;
 use journal::Found;
 use libc::STDOUT_FILENO;
@@ -8,20 +12,15 @@ use stage::Making;
 use writer::Carried;
 use writer::Written;
 
-// Frames counted, the sums of the bytes kept and written, and the bits carried on.
+// Frames counted, the sums of the bytes kept and written and of the fields read, and the bits carried on.
 struct Tally {
     records: u64,
     remade: u64,
     kept: u64,
     written: u64,
-    sum: Sum,
+    bytes: Sum,
+    fields: Sum,
     carried: Carried,
-}
-
-// A sum of bytes and the sum of all sums on the way, modulo 2^64: other bytes, or the same in another order, seldom have the same.
-struct Sum {
-    bytes: u64,
-    sums: u64,
 }
 
 // A reader, and what became of the frames that it has handed out.
@@ -33,24 +32,6 @@ struct Run {
 // One more, where it is so.
 fn counted(count: u64, is_so: bool) -> u64 {
     std::num::wrapping_add_u64(count, is_so as u64)
-}
-
-// A number and a byte together, modulo 2^64.
-fn with_byte(number: u64, byte: u8) -> u64 {
-    std::num::wrapping_add_u64(number, byte as u64)
-}
-
-// A sum, with more bytes.
-fn summed(sum: Sum, more: &[u8]) -> Sum {
-    let mut bytes = sum.bytes;
-    let mut sums = sum.sums;
-    let mut i: usize = 0;
-    while i < more.len() {
-        bytes = with_byte(bytes, more[i]);
-        sums = std::num::wrapping_add_u64(sums, bytes);
-        i += 1;
-    }
-    Sum { bytes, sums }
 }
 
 // A frame's journal record, with zeros after it; zeros alone if it is refused.
@@ -80,35 +61,44 @@ fn is_kept(frame: Frame) -> bool {
 
 // A tally, with a frame's journal record.
 fn with_kept(tally: Tally, frame: Frame) -> Tally {
-    let bytes = kept_bytes(frame);
-    let sum = summed(tally.sum, &bytes);
+    let kept = kept_bytes(frame);
+    let bytes = with_bytes(tally.bytes, &kept);
+    let fields = tally.fields;
     let carried = tally.carried;
     Tally {
         records: tally.records,
         remade: tally.remade,
         kept: counted(tally.kept, is_kept(frame)),
         written: tally.written,
-        sum,
+        bytes,
+        fields,
         carried,
     }
 }
 
-// A tally, with a frame's record.
-fn with_record(tally: Tally, frame: Frame) -> Tally {
-    let made = made_again(frame);
-    let answer = made.answer;
-    if let Making::Refused(_) = answer {
-        return tally;
+// Whether a frame is made.
+fn is_made(answer: Making) -> bool {
+    match answer {
+        Making::Done => true,
+        Making::Refused(_) => false,
     }
-    let is_same = same_frame(frame, made.frame);
-    let sum = tally.sum;
+}
+
+// A tally, with a frame's record: where it can't be read, the refusal's number is among the fields.
+fn with_record(tally: Tally, frame: Frame) -> Tally {
+    let again = made_again(frame, tally.fields);
+    let fields = again.sum;
+    let made = again.made;
+    let is_read = is_made(made.answer);
+    let bytes = tally.bytes;
     let carried = tally.carried;
     Tally {
-        records: counted(tally.records, true),
-        remade: counted(tally.remade, is_same),
+        records: counted(tally.records, is_read),
+        remade: counted(tally.remade, is_read && same_frame(frame, made.frame)),
         kept: tally.kept,
         written: tally.written,
-        sum,
+        bytes,
+        fields,
         carried,
     }
 }
@@ -116,13 +106,15 @@ fn with_record(tally: Tally, frame: Frame) -> Tally {
 // A tally, with a frame written after the bits carried on.
 fn with_written(tally: Tally, frame: Frame) -> Tally {
     let mut buffer = [0u8; 165];
+    let fields = tally.fields;
     match writer::write(frame, tally.carried, &mut buffer) {
         Written::Done { bytes: _, carried } => Tally {
             records: tally.records,
             remade: tally.remade,
             kept: tally.kept,
             written: counted(tally.written, true),
-            sum: summed(tally.sum, &buffer),
+            bytes: with_bytes(tally.bytes, &buffer),
+            fields,
             carried,
         },
         Written::Refused(_) => tally,
@@ -154,7 +146,8 @@ fn nothing() -> Tally {
         remade: 0,
         kept: 0,
         written: 0,
-        sum: Sum { bytes: 0, sums: 0 },
+        bytes: zero(),
+        fields: zero(),
         carried: Carried { d29: 0, d30: 0 },
     }
 }
@@ -177,9 +170,15 @@ fn tally_of(bytes: &[u8]) -> Tally {
 }
 
 // Writes a label and a number.
-fn print_number(label: &[u8], number: u64) {
+pub(crate) fn print_number(label: &[u8], number: u64) {
     io::write_all(STDOUT_FILENO, label);
     io::print_decimal(STDOUT_FILENO, number);
+}
+
+// Writes a label and both numbers of a sum.
+fn print_sum(label: &[u8], sum: Sum) {
+    print_number(label, sum.numbers);
+    print_number(b" ", sum.sums);
 }
 
 // Writes the line of a stream.
@@ -189,8 +188,7 @@ pub(crate) fn print_tally(bytes: &[u8]) {
     print_number(b" remade ", tally.remade);
     print_number(b" kept ", tally.kept);
     print_number(b" written ", tally.written);
-    let sum = tally.sum;
-    print_number(b" sum ", sum.bytes);
-    print_number(b" ", sum.sums);
+    print_sum(b" sum ", tally.bytes);
+    print_sum(b" fields ", tally.fields);
     io::write_all(STDOUT_FILENO, b"\n");
 }

@@ -1,7 +1,7 @@
-//! What record fields mean: millimetres, millimetres a second, dBHz, minutes
-//! and the UDRE limit.
+//! What the fields of records and headers mean: millimetres, millimetres a second,
+//! dBHz, minutes, tenths of a second and the UDRE limit.
 
-use crate::frame::State;
+use crate::frame::{State, Z_COUNTS};
 use crate::refusal::{refuse_if, Answer, Refusal};
 
 /// A correction's value.
@@ -71,4 +71,11 @@ pub fn cn0_dbhz(code: u8) -> Answer<Option<u8>> {
 pub fn minutes(code: u8) -> Answer<u8> {
     refuse_if(code > 15, Refusal::OutsideRange)?;
     Ok(5 * code)
+}
+
+/// A Z count in tenths of a second, 6 each. Refuses with 5, 7.
+pub fn z_tenths(z_count: u16) -> Answer<u16> {
+    refuse_if(z_count >= 1 << 13, Refusal::OutsideWidths)?;
+    refuse_if(z_count >= Z_COUNTS, Refusal::ZCount)?;
+    Ok(6 * z_count)
 }

@@ -7,14 +7,14 @@ use Rattle.trials.proofs.again.healths.Statement.{statement}
 use Rattle.trials.proofs.again.healths.Tie as tie
 
 abbrev Inv-loop : tie.InvT-loop
-Inv-loop frame count entries₀ i₀ entries i = (i ≤ 31) × (length entries ≡ 31)
+Inv-loop frame count entries₀ sum₀ i₀ entries sum i = (i ≤ 31) × (length entries ≡ 31)
 
 abbrev μ-loop : tie.MeasureT-loop
-μ-loop frame count entries₀ i₀ entries i = 31 - i
+μ-loop frame count entries₀ sum₀ i₀ entries sum i = 31 - i
 
 pub healths-spec : {M : Type 1} → statement M
 healths-spec =
     tie.close
     (tie.spec Inv-loop μ-loop (λ c κs. search needs) (λ c. search needs) (λ c κs. search needs)
-    (λ c. search needs) (λ c. search needs) (λ c. search needs) (λ c. search needs) (λ c. search needs)
-    (λ c κs. search needs) (λ c. search needs))
+    (λ c. search needs) (λ c. search needs) (λ c κs. search needs) (λ c. search needs) (λ c. search needs)
+    (λ c. search needs) (λ c κs. search needs) (λ c. search needs))
