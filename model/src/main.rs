@@ -2,13 +2,14 @@
 //! and lists a stream from standard input.
 
 use rtcm2_model::trials::{self, File};
-use rtcm2_model::{example, listing};
+use rtcm2_model::{example, listing, streams};
 use std::fs;
 use std::io::{self, BufWriter, Read};
 use std::path::Path;
 use std::process::ExitCode;
 
-const USAGE: &str = "usage: rtcm2-model trials DIR | check DIR | example DIR | corrections | list";
+const USAGE: &str =
+    "usage: rtcm2-model trials DIR | check DIR | long DIR | example DIR | corrections | list";
 
 fn main() -> ExitCode {
     let arguments: Vec<String> = std::env::args().skip(1).collect();
@@ -16,6 +17,7 @@ fn main() -> ExitCode {
     let answer = match words.as_slice() {
         ["trials", dir] => write_trials(Path::new(dir)),
         ["check", dir] => check_trials(Path::new(dir)),
+        ["long", dir] => write_long(Path::new(dir)),
         ["example", dir] => write_example(Path::new(dir)),
         ["corrections"] => corrections(),
         ["list"] => list(),
@@ -51,6 +53,14 @@ fn write_example(dir: &Path) -> io::Result<bool> {
     let bytes = example::stream();
     fs::write(dir.join("stream.bin"), &bytes)?;
     fs::write(dir.join("expected.txt"), example::expected(&bytes))?;
+    Ok(true)
+}
+
+/// Writes a stream of over a million bytes and its listing.
+fn write_long(dir: &Path) -> io::Result<bool> {
+    let stream = streams::long();
+    fs::write(dir.join("long.bin"), &stream.bytes)?;
+    fs::write(dir.join("long.txt"), stream.expected())?;
     Ok(true)
 }
 

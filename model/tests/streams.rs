@@ -4,7 +4,7 @@
 use rtcm2_model::line::{bits_of_bytes, turned_over};
 use rtcm2_model::listing;
 use rtcm2_model::scan::{scan, standing, Standing};
-use rtcm2_model::streams::{all, Stream};
+use rtcm2_model::streams::{all, long, Stream};
 use std::io::{self, Read};
 use std::sync::OnceLock;
 
@@ -52,6 +52,13 @@ fn both_listings_are_alike() {
         let turned = turned_over(&stream.bytes);
         assert_eq!(listing::by_definition(&turned), expected);
     }
+}
+
+#[test]
+fn the_long_stream_has_over_a_million_bytes() {
+    let stream = long();
+    assert!(stream.bytes.len() > 1_000_000);
+    assert_eq!(through_reader(&stream.bytes[..]), stream.expected());
 }
 
 fn named(name: &str) -> &'static Stream {

@@ -16,6 +16,7 @@ mod valid;
 mod vectors;
 
 use crate::listing;
+use crate::mangle::mangle;
 use crate::rng::Rng;
 
 /// Makes the bytes of one stream.
@@ -69,4 +70,21 @@ pub fn all() -> Vec<Stream> {
     }
     streams.sort_by(|a, b| a.name.cmp(&b.name));
     streams
+}
+
+/// A stream of over a million bytes: test streams in any order, some damaged.
+pub fn long() -> Stream {
+    let (mut rng, all) = (Rng::named("long"), all());
+    let mut bytes = Vec::new();
+    while bytes.len() < 1_200_000 {
+        let mut part = all[rng.place(all.len())].bytes.clone();
+        for _ in 0..rng.place(4) {
+            mangle(&mut part, &mut rng);
+        }
+        bytes.extend(part);
+    }
+    Stream {
+        name: "long".to_string(),
+        bytes,
+    }
 }
