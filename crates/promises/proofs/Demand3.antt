@@ -28,7 +28,7 @@ use Rattle.reader.specs.declared.Answer.the-variants.{Done}
 use Rattle.reader.specs.declared.Next.{Next}
 use Rattle.reader.specs.declared.FedAll.{FedAll}
 use Rattle.reader.specs.declared.Taken.{Taken}
-use Rattle.promises.specs.Calls.{Call, feeds, feedsAll, ends, takes, Reply, replied, used, took, answerOf, replyTo, after, bitsGiven, afterAll, replies, bitsTaken, handedOut, reported, takesAll, served}
+use Rattle.promises.specs.Calls.{Call, feeds, feedsAll, ends, takes, Reply, replied, used, took, answerOf, replyTo, after, bitsGiven, afterAll, replies, bitsTaken, handedOut, outcome, reported, takesAll, served}
 use Rattle.promises.specs.Demand3.{found, OnlyFrames, AsSoonAs, NothingLost, HandedOut, OneByOne, NeverFive, DamageBeginsNothing}
 use Rattle.promises.proofs.Kept.{Kept, kept-started}
 use Rattle.promises.proofs.Runs.{given, fed-by, all-by, ended-by, taken-by, never-past, kept-call, kept}
@@ -54,17 +54,17 @@ module _ (cs : List Call) where
       ap framesIn (sym (append-nil (bitsTaken started cs))) ∙ k .stage .scanned [] (none-comes (afterAll started cs .ended))
       ∙ ap (λ l. k .hits ++ scan 0 (2 + k .gone) l) (append-nil (bitsOf (afterAll started cs)))
 
-  found-is : found cs ≡ k .hits
+  found-is : found (outcome cs) ≡ k .hits
   unfolding found
   found-is =
       ap (λ l. take (length (handedOut started cs)) l) scanned
       ∙ take-at (k .hits) (scan 0 (2 + k .gone) (bitsOf (afterAll started cs))) (length (handedOut started cs)) (sym (ap length (k .given) ∙ length-map (k .hits) reported))
 
-  stood : (h : Placed) → List·Memᴰ h (found cs) → StandsIn 2 (bitsTaken started cs) h
+  stood : (h : Placed) → List·Memᴰ h (found (outcome cs)) → StandsIn 2 (bitsTaken started cs) h
   stood h m = only 0 2 (bitsTaken started cs) h (subst (List·Memᴰ h) (sym scanned) (Memᴰ·append-left (scan 0 (2 + k .gone) (bitsOf (afterAll started cs))) (subst (List·Memᴰ h) found-is m)))
 
   -- "Only frames by the definition are ever handed out"
-  pub only-frames : OnlyFrames cs
+  pub only-frames : OnlyFrames (outcome cs)
   only-frames = record {
     given = k .given ∙ ap (map reported) (sym found-is);
     stand = stood;
@@ -73,7 +73,7 @@ module _ (cs : List Call) where
   }
 
   -- "as soon as"
-  pub as-soon-as : AsSoonAs cs
+  pub as-soon-as : AsSoonAs (outcome cs)
   as-soon-as e = record {
     gone = k .gone;
     held = k .stage .split;
@@ -83,7 +83,7 @@ module _ (cs : List Call) where
   }
 
   -- "nothing lost"
-  pub nothing-lost : NothingLost cs
+  pub nothing-lost : NothingLost (outcome cs)
   nothing-lost w = found-is ∙ go (afterAll started cs .ended) refl
     where
       s : List Bool
@@ -104,7 +104,7 @@ module _ (cs : List Call) where
           ∙ ap (λ l. k .hits ++ l) (decided-undecided (2 + k .gone) (v .0) d (v .1)) ∙ append-nil (k .hits))
 
   -- "nothing begins where that frame began"
-  pub damage-begins-nothing : DamageBeginsNothing cs
+  pub damage-begins-nothing : DamageBeginsNothing (outcome cs)
   damage-begins-nothing g g′ pre post e x cut h m =
       damaged-nowhere g g′ pre post (bitsTaken started cs) e x cut h
       (subst (List·Memᴰ h) (sym scanned) (Memᴰ·append-left (scan 0 (2 + k .gone) (bitsOf (afterAll started cs))) (subst (List·Memᴰ h) found-is m)))
@@ -126,17 +126,17 @@ module _ (cs : List Call) where
   then-bits : bitsTaken started (cs ++ takesAll) ≡ bitsTaken started cs
   then-bits = bits-append cs takesAll started ∙ ap (λ l. bitsTaken started cs ++ l) (takes-no-bit 16 (afterAll started cs)) ∙ append-nil (bitsTaken started cs)
 
-  pub handed-out : HandedOut cs
+  pub handed-out : HandedOut (outcome cs) (outcome (cs ++ takesAll))
   handed-out = record { none = then-none; bits = then-bits; out = only-frames (cs ++ takesAll) .given; in-time = λ q s t. go q s (afterAll started cs .ended) refl t; once = only-frames (cs ++ takesAll) .once }
     where
       s₀ : List Bool
       s₀ = bitsTaken started cs
 
-      all : (e : Bool) → afterAll started cs .ended ≡ e → found (cs ++ takesAll) ≡ cond e (framesIn s₀) (decided 0 2 s₀)
+      all : (e : Bool) → afterAll started cs .ended ≡ e → found (outcome (cs ++ takesAll)) ≡ cond e (framesIn s₀) (decided 0 2 s₀)
       all e x = nothing-lost (cs ++ takesAll) then-none ∙ ap₂ (λ t l. cond t (framesIn l) (decided 0 2 l)) (then-ended ∙ x) then-bits
 
       go : (q : ℕ) → Stands (drop q s₀) → (e : Bool) → afterAll started cs .ended ≡ e → (q + 992 ≤ length s₀) ⊎ (afterAll started cs .ended ≡ true)
-          → FoundOrCovered (placed (2 + q) (drop q s₀)) (found (cs ++ takesAll))
+          → FoundOrCovered (placed (2 + q) (drop q s₀)) (found (outcome (cs ++ takesAll)))
       go q s true x t = subst (FoundOrCovered (placed (2 + q) (drop q s₀))) (sym (all true x)) (complete 0 2 q s₀ (omega arith) s)
       go q s false x (inl t) = subst (FoundOrCovered (placed (2 + q) (drop q s₀))) (sym (all false x)) (stream.in-time 0 2 q s₀ (omega arith) s t)
       go q s false x (inr t) = absurd (false≢true (sym x ∙ t))
@@ -176,7 +176,7 @@ module _ (bs : List ℕ) where
       none : bitsTaken (afterAll started (served bs)) (ends ∷ takesAll) ≡ []
       none = unfold bitsTaken bitsGiven in takes-no-bit 16 (after (afterAll started (served bs)) ends)
 
-  pub one-by-one : OneByOne bs
+  pub one-by-one : OneByOne bs (outcome (served bs)) (outcome all)
   one-by-one = record {
     bits = v .bits;
     out = out-is (served bs) false (v .goes) (v .none) (lineBits bs) (v .bits);
@@ -233,7 +233,7 @@ reply-not-5 (c ∷ cs) s out r q y m e = go (List·Memᴰ·cases-cons m) (λ x. 
     go (inl x) f = answer-not-5 r (never-past s out r q) c (ap answerOf (sym x) ∙ e)
     go (inr x) f = f x
 
-pub never-five : (cs : List Call) → NeverFive cs
+pub never-five : (cs : List Call) → NeverFive (outcome cs) (λ b. replyTo (afterAll started cs) (feeds b)) (λ b. after (afterAll started cs) (feeds b))
 never-five cs = record {
   none = reply-not-5 cs [] [] started kept-started;
   taken = λ b d e w. ((unfold replyTo in ap (λ (f : Next). replied (saysNext f)) (fed b d e w)), byte-held _ _ (afterAll started cs) (kept cs) e w b d);

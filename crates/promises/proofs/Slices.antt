@@ -17,7 +17,7 @@ use Rattle.reader.specs.declared.FedAll.{FedAll}
 use Rattle.listing.specs.Listing.{fedOn}
 use Rattle.listing.specs.declared.Listing.{Listing}
 use Rattle.listing.proofs.LinesLaws.{fed-used}
-use Rattle.promises.specs.Calls.{Call, feedsAll, after, bitsGiven, replyTo, afterAll, bitsTaken, takesAll, inSlices, unused}
+use Rattle.promises.specs.Calls.{Call, feedsAll, after, bitsGiven, replyTo, afterAll, bitsTaken, outcome, takesAll, inSlices, unused}
 use Rattle.promises.specs.Demand3.{feedEach, InSlices}
 use Rattle.promises.proofs.Kept.{Kept, kept-started}
 use Rattle.promises.proofs.Runs.{all-by, never-past, all-bits, kept-call, kept-calls}
@@ -116,5 +116,5 @@ sliced (n ∷ ns) bs s out r k e w =
         fewer (inl z) some h = omega (arith, length-drop (fedAllBy r (take n bs) .used) bs)
         fewer (inr z) some h = omega (arith, length-drop (fedAllBy r (take n bs) .used) bs, slice-some s out r k e w n bs (some .0) z)
 
-pub in-slices : (ns bs : List ℕ) → InSlices ns bs
+pub in-slices : (ns bs : List ℕ) → InSlices ns bs (unused started ns bs) (outcome (inSlices started ns bs))
 in-slices ns bs = let v = sliced ns bs [] [] started kept-started (unfold started in refl) (unfold started in refl) in record { bits = v .bits; none = v .none; all = v .all }

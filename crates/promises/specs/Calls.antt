@@ -8,7 +8,7 @@ use Rattle.answer.specs.Order.{Says, refuses, answers}
 use Rattle.line.specs.Line.{six, lineBits}
 use Rattle.frame.specs.declared.Frame.{Frame}
 use Rattle.stream.specs.Standing.{Placed}
-use Rattle.reader.specs.Reading.{fedBy, fedAllBy, endedBy, takenBy, carrying, saysNext, saysFedAll, saysTaken}
+use Rattle.reader.specs.Reading.{started, fedBy, fedAllBy, endedBy, takenBy, carrying, saysNext, saysFedAll, saysTaken}
 use Rattle.reader.specs.declared.Reader.{Reader}
 
 -- feeding a byte, feeding bytes, ending, taking
@@ -80,6 +80,16 @@ bitsTaken r (c ∷ cs) = bitsGiven c (replyTo r c) ++ bitsTaken (after r c) cs
 unfoldable pub handedOut : Reader → List Call → List (ℕ × Frame)
 handedOut r [] = []
 handedOut r (c ∷ cs) = frameGiven (replyTo r c) ++ handedOut (after r c) cs
+
+-- WHAT CALLS CAME TO, on a reader that was started fresh: every reply, the bits taken, the frames handed out, and the reader that is left
+pub record Outcome : Type 0 where
+  pub replies : List Reply
+  pub bits : List Bool
+  pub out : List (ℕ × Frame)
+  pub reader : Reader
+
+abbrev pub outcome : List Call → Outcome
+outcome cs = record { replies = replies started cs; bits = bitsTaken started cs; out = handedOut started cs; reader = afterAll started cs }
 
 -- a frame of the stream as it is handed out: its position modulo 2^32
 unfoldable pub reported : Placed → ℕ × Frame

@@ -16,62 +16,63 @@ use Rattle.stream.specs.Places.{StandsIn, FoundOrCovered, Apart, Damaged}
 use Rattle.pack.specs.Coding.{Each}
 use Rattle.reader.specs.Reading.{bitsOf, started, past, fedBy, fedAllBy, takenBy, saysNext, saysFedAll, saysTaken}
 use Rattle.reader.specs.declared.Reader.{Reader}
-use Rattle.promises.specs.Calls.{Call, feeds, feedsAll, ends, takes, Reply, replied, answerOf, replyTo, after, afterAll, replies, bitsTaken, handedOut, reported, takesAll, served, inSlices, unused}
+use Rattle.promises.specs.Calls.{Call, feeds, feedsAll, ends, takes, Reply, replied, answerOf, replyTo, after, afterAll, replies, Outcome, outcome, reported, takesAll, served, inSlices, unused}
+
+-- Each sentence is of an outcome: of calls on this package's reader here, and of calls of the library in library_promises.
 
 -- the frames that were handed out, with their positions in the whole stream: the first ones of the scan of the bits taken
-unfoldable pub found : List Call → List Placed
-found cs = take (length (handedOut started cs)) (framesIn (bitsTaken started cs))
+unfoldable pub found : Outcome → List Placed
+found o = take (length (o .out)) (framesIn (o .bits))
 
 -- "Only frames by the definition are ever handed out", at their positions modulo 2^32, within their widths, each once: no two share a bit
-pub record OnlyFrames (cs : List Call) : Type 0 where
-  pub given : handedOut started cs ≡ map reported (found cs)
-  pub stand : (h : Placed) → List·Memᴰ h (found cs) → StandsIn 2 (bitsTaken started cs) h
-  pub within : (h : Placed) → List·Memᴰ h (found cs) → outside (h .frame) ≡ false
-  pub once : Apart 2 (found cs)
+pub record OnlyFrames (o : Outcome) : Type 0 where
+  pub given : o .out ≡ map reported (found o)
+  pub stand : (h : Placed) → List·Memᴰ h (found o) → StandsIn 2 (o .bits) h
+  pub within : (h : Placed) → List·Memᴰ h (found o) → outside (h .frame) ≡ false
+  pub once : Apart 2 (found o)
 
 -- where the hunt is: at position 2 + gone, past nothing that may yet stand; there either a frame stands and waits, or the words that have come are
 -- right and the next has not
-pub record HuntAt (cs : List Call) : Type 0 where
+pub record HuntAt (o : Outcome) : Type 0 where
   pub gone : ℕ
-  pub held : bitsOf (afterAll started cs) ≡ drop gone (bitsTaken started cs)
-  pub rest : (e : List Bool) → framesIn (bitsTaken started cs ++ e) ≡ found cs ++ scan 0 (2 + gone) (drop gone (bitsTaken started cs) ++ e)
-  pub waits : afterAll started cs .candidate .waits ≡ true → Stands (drop gone (bitsTaken started cs))
-  pub hunts : afterAll started cs .candidate .waits ≡ false
-      → RightSoFar (afterAll started cs .candidate .words) (drop gone (bitsTaken started cs))
-      × (length (drop gone (bitsTaken started cs)) < 32 + 30 * afterAll started cs .candidate .words)
+  pub held : bitsOf (o .reader) ≡ drop gone (o .bits)
+  pub rest : (e : List Bool) → framesIn (o .bits ++ e) ≡ found o ++ scan 0 (2 + gone) (drop gone (o .bits) ++ e)
+  pub waits : o .reader .candidate .waits ≡ true → Stands (drop gone (o .bits))
+  pub hunts : o .reader .candidate .waits ≡ false
+      → RightSoFar (o .reader .candidate .words) (drop gone (o .bits)) × (length (drop gone (o .bits)) < 32 + 30 * o .reader .candidate .words)
 
 -- a position is ruled out at once when a word of it that is whole fails (RULES 5), at any time before the end
-abbrev pub AsSoonAs : List Call → Type 0
-AsSoonAs cs = afterAll started cs .ended ≡ false → HuntAt cs
+abbrev pub AsSoonAs : Outcome → Type 0
+AsSoonAs o = o .reader .ended ≡ false → HuntAt o
 
 -- "Let a correct frame stand undamaged in the bits taken .. It is handed out once and exactly": whatever the calls were, where no frame waits all
 -- frames of the bits taken were handed out if the input has ended, and else all that these bits decide
-abbrev pub NothingLost : List Call → Type 0
-NothingLost cs = afterAll started cs .candidate .waits ≡ false
-    → found cs ≡ cond (afterAll started cs .ended) (framesIn (bitsTaken started cs)) (decided 0 2 (bitsTaken started cs))
+abbrev pub NothingLost : Outcome → Type 0
+NothingLost o = o .reader .candidate .waits ≡ false → found o ≡ cond (o .reader .ended) (framesIn (o .bits)) (decided 0 2 (o .bits))
 
 -- "It is handed out once and exactly, at latest when 990 bits from its first have been taken or the input has ended, unless a frame already handed
 -- out covers its first bit. This holds when every waiting frame is taken at once, after the end too": whatever the calls were, bytes one by one or in
--- slices of any size, once every waiting frame is taken. Position 2 + q is the bit after drop q's first two, so 990 bits from it are q + 992 in all.
-pub record HandedOut (cs : List Call) : Type 0 where
-  pub none : afterAll started (cs ++ takesAll) .candidate .waits ≡ false
-  pub bits : bitsTaken started (cs ++ takesAll) ≡ bitsTaken started cs
-  pub out : handedOut started (cs ++ takesAll) ≡ map reported (found (cs ++ takesAll))
-  pub in-time : (q : ℕ) → Stands (drop q (bitsTaken started cs)) → (q + 992 ≤ length (bitsTaken started cs)) ⊎ (afterAll started cs .ended ≡ true)
-      → FoundOrCovered (placed (2 + q) (drop q (bitsTaken started cs))) (found (cs ++ takesAll))
-  pub once : Apart 2 (found (cs ++ takesAll))
+-- slices of any size, once every waiting frame is `taken`. Position 2 + q is the bit after drop q's first two, so 990 bits from it are q + 992 in all.
+pub record HandedOut (o taken : Outcome) : Type 0 where
+  pub none : taken .reader .candidate .waits ≡ false
+  pub bits : taken .bits ≡ o .bits
+  pub out : taken .out ≡ map reported (found taken)
+  pub in-time : (q : ℕ) → Stands (drop q (o .bits)) → (q + 992 ≤ length (o .bits)) ⊎ (o .reader .ended ≡ true)
+      → FoundOrCovered (placed (2 + q) (drop q (o .bits))) (found taken)
+  pub once : Apart 2 (found taken)
 
--- and of bytes fed one by one, each followed by taking every waiting frame, no bit is refused: the frames are those of their bits
-pub record OneByOne (bs : List ℕ) : Type 0 where
-  pub bits : bitsTaken started (served bs) ≡ lineBits bs
-  pub out : handedOut started (served bs) ≡ map reported (decided 0 2 (lineBits bs))
-  pub ended : handedOut started (served bs ++ (ends ∷ takesAll)) ≡ map reported (framesIn (lineBits bs))
+-- and of bytes fed one by one, each followed by taking every waiting frame, no bit is refused: the frames are those of their bits, and at `last`,
+-- after the end, all of them
+pub record OneByOne (bs : List ℕ) (o last : Outcome) : Type 0 where
+  pub bits : o .bits ≡ lineBits bs
+  pub out : o .out ≡ map reported (decided 0 2 (lineBits bs))
+  pub ended : last .out ≡ map reported (framesIn (lineBits bs))
 
 -- nor of bytes lent in slices: the bits taken are those of the bytes used, and after as many slices as there are bytes, none empty, no byte is left
-pub record InSlices (ns bs : List ℕ) : Type 0 where
-  pub bits : bitsTaken started (inSlices started ns bs) ++ lineBits (unused started ns bs) ≡ lineBits bs
-  pub none : afterAll started (inSlices started ns bs) .candidate .waits ≡ false
-  pub all : Each (λ n. 1 ≤ n) ns → length bs ≤ length ns → unused started ns bs ≡ []
+pub record InSlices (ns bs left : List ℕ) (o : Outcome) : Type 0 where
+  pub bits : o .bits ++ lineBits left ≡ lineBits bs
+  pub none : o .reader .candidate .waits ≡ false
+  pub all : Each (λ n. 1 ≤ n) ns → length bs ≤ length ns → left ≡ []
 
 -- what is left of the bits d once positions are ruled out: those from two bits before the first that is not; where one was, no frame stands, whatever
 -- comes
@@ -82,17 +83,17 @@ pub record RuledOutTo (d left : List Bool) : Type 0 where
 
 -- a reader started fresh never refuses with 5, and a data byte always adds its six bits, except where 3 or 2 is the answer (RULES 5): the reader
 -- then holds its bits and these six after them, less those of positions that are now ruled out
-pub record NeverFive (cs : List Call) : Type 0 where
-  pub none : (y : Reply) → List·Memᴰ y (replies started cs) → answerOf y ≡ refuses 5 → ⊥
-  pub taken : (b : ℕ) → isData b ≡ true → afterAll started cs .ended ≡ false → afterAll started cs .candidate .waits ≡ false
-      → (replyTo (afterAll started cs) (feeds b) ≡ replied (answers tt))
-      × RuledOutTo (bitsOf (afterAll started cs) ++ six b) (bitsOf (after (afterAll started cs) (feeds b)))
+-- `reply` is what a byte fed next is answered, `next` the reader that it leaves.
+pub record NeverFive (o : Outcome) (reply : ℕ → Reply) (next : ℕ → Reader) : Type 0 where
+  pub none : (y : Reply) → List·Memᴰ y (o .replies) → answerOf y ≡ refuses 5 → ⊥
+  pub taken : (b : ℕ) → isData b ≡ true → o .reader .ended ≡ false → o .reader .candidate .waits ≡ false
+      → (reply b ≡ replied (answers tt)) × RuledOutTo (bitsOf (o .reader) ++ six b) (bitsOf (next b))
 
 -- "Now let bits of a sent frame be turned over, none lost or added. If the first damaged word, counted with the two bits before it, has one, two or
 -- three turned bits, nothing begins where that frame began": g′ is what came of g, after any bits and before any, the stream cut anywhere
-abbrev pub DamageBeginsNothing : List Call → Type 0
-DamageBeginsNothing cs = (g g′ pre post e : List Bool) → Damaged g g′ → bitsTaken started cs ++ e ≡ pre ++ (g′ ++ post)
-    → (h : Placed) → List·Memᴰ h (found cs) → h .at ≡ 2 + length pre → ⊥
+abbrev pub DamageBeginsNothing : Outcome → Type 0
+DamageBeginsNothing o = (g g′ pre post e : List Bool) → Damaged g g′ → o .bits ++ e ≡ pre ++ (g′ ++ post)
+    → (h : Placed) → List·Memᴰ h (found o) → h .at ≡ 2 + length pre → ⊥
 
 -- ---- "Turning over all bits from the start changes no frame handed out"
 
@@ -157,19 +158,19 @@ pub record Demand3 : Type 0 where
   -- "Let a correct frame stand undamaged in the bits taken, with the two bits before it, at any bit offset and in either polarity. It is handed out
   -- once and exactly, at latest when 990 bits from its first have been taken or the input has ended, unless a frame already handed out covers its
   -- first bit. This holds when every waiting frame is taken at once, after the end too."
-  pub out : (cs : List Call) → HandedOut cs
-  pub each : (bs : List ℕ) → OneByOne bs
-  pub slices : (ns bs : List ℕ) → InSlices ns bs
+  pub out : (cs : List Call) → HandedOut (outcome cs) (outcome (cs ++ takesAll))
+  pub each : (bs : List ℕ) → OneByOne bs (outcome (served bs)) (outcome (served bs ++ (ends ∷ takesAll)))
+  pub slices : (ns bs : List ℕ) → InSlices ns bs (unused started ns bs) (outcome (inSlices started ns bs))
   -- "Turning over all bits from the start changes no frame handed out."
   pub turned : TurnedIsSame
   -- "Now let bits of a sent frame be turned over, none lost or added. If the first damaged word, counted with the two bits before it, has one, two or
   -- three turned bits, nothing begins where that frame began."
-  pub damage : (cs : List Call) → DamageBeginsNothing cs
+  pub damage : (cs : List Call) → DamageBeginsNothing (outcome cs)
   -- "Only frames by the definition are ever handed out."
-  pub only : (cs : List Call) → OnlyFrames cs
+  pub only : (cs : List Call) → OnlyFrames (outcome cs)
   -- nothing is lost, whatever the calls
-  pub nothing-lost : (cs : List Call) → NothingLost cs
+  pub nothing-lost : (cs : List Call) → NothingLost (outcome cs)
   -- of the hunt (RULES 5): as soon as; never 5; and bytes fed together are bytes fed one by one
-  pub soon : (cs : List Call) → AsSoonAs cs
-  pub never-5 : (cs : List Call) → NeverFive cs
+  pub soon : (cs : List Call) → AsSoonAs (outcome cs)
+  pub never-5 : (cs : List Call) → NeverFive (outcome cs) (λ b. replyTo (afterAll started cs) (feeds b)) (λ b. after (afterAll started cs) (feeds b))
   pub together : (r : Reader) (bs : List ℕ) → FeedAllIsFeed r bs
