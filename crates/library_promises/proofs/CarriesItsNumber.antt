@@ -15,7 +15,8 @@ use Rattle.journal.specs.Journal.{recallOrder}
 use Rattle.writer.specs.Answer.{openChecks}
 use Rattle.value.proofs.AnswerLaws.{prc-says, rrc-says, cn0-says}
 use Rattle.state_bytes.specs.State.{stateIn}
-use Rattle.entry_bytes.specs.Rows.{putOrder, saysPut}
+use Rattle.pack.specs.Coding.{Coding}
+use Rattle.entry_bytes.specs.Rows.{putOrder, putBy, saysPut}
 use Rattle.entry_bytes.specs.declared.row.Put.the-variants as put
 use Rattle.entry_bytes.specs.Corrections as correction
 use Rattle.entry_bytes.specs.Healths as health
@@ -27,6 +28,7 @@ use Rattle.cabi.proofs.SendOrders.{open-order, write-order}
 use Rattle.cabi.proofs.ReadOrders as reads
 use Rattle.cabi.proofs.MakeOrders as makes
 use Rattle.cabi.proofs.ValueOrders.{limit-order}
+use Rattle.promises.specs.CarriesItsNumber.{Ordered}
 use Rattle.promises.proofs.CarriesItsNumber.{ordered}
 use Rattle.library_promises.specs.CarriesItsNumber.{LibraryNumbers}
 
@@ -39,6 +41,10 @@ feed-order state byte =
     held-order (λ (x : Next). x .answer) (λ r. fedBy r byte) state (busy (stateIn state) ++ ((not (isData byte), 1) ∷ []))
     (λ n. record { answer = Refused n; reader = stateIn state }) (record { answer = Done; reader = steppedBy (stateIn state) byte })
     (λ n. refl) refl refl
+
+-- an entry as a row of bytes: 13
+pub put-ordered : {A : Type 0} (row : Coding A) (lent : List ℕ) → Ordered (13 ∷ []) (putOrder row lent) (saysPut (putBy row lent))
+put-ordered row lent = ordered (putOrder row lent) _ (says-order saysPut put.Refused (λ n. refl) put.Done (putOrder row lent) refl) refl refl
 
 pub library-numbers : LibraryNumbers
 library-numbers = record {
@@ -76,5 +82,6 @@ library-numbers = record {
   stops = λ prc rrc. ordered [] _ refl refl refl;
   udre-limit-mm = λ code udre. ordered (in-order.limitOrder code udre) _ (limit-order code udre) refl refl;
   cn0-dbhz = λ code. ordered ((ltb 31 code, 10) ∷ []) _ (cn0-says code) refl refl;
-  put-entry = λ row lent. ordered (putOrder row lent) _ (says-order saysPut put.Refused (λ n. refl) put.Done (putOrder row lent) refl) refl refl;
+  put-correction = put-ordered correction.row;
+  put-health = put-ordered health.row;
 }

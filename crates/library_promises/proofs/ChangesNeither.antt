@@ -1,23 +1,36 @@
 -- A refusal before the last stage leaves the place alone; one of the last stage is that of the package's own call. Assumes nothing.
-use mathlib.Core.Path.{refl, ap}
+use mathlib.Core.Path.{_≡_, refl}
+use mathlib.Core.Bool.{Bool}
 use mathlib.Core.List.{List}
-use Prim.Native.Nat.{ℕ}
+use Prim.Native.Nat.{ℕ, _<_}
+use lib.ListN.{length}
+use borrow.Author.Tests.{lt-ltb}
 use Rattle.answer.specs.Order.{Says, refuses, answers}
 use Rattle.frame.specs.declared.Frame.{Frame}
+use Rattle.reader.specs.declared.Candidate.{Candidate}
+use Rattle.reader.specs.declared.Reader.{Reader}
 use Rattle.pack.specs.Coding.{Coding}
-use Rattle.cabi.specs.Answer.{left}
-use Rattle.cabi.specs.Frames.{keptTo, heldTo}
+use Rattle.state_bytes.specs.State.{startPut, statePut}
+use Rattle.entry_bytes.specs.Corrections as correction
+use Rattle.entry_bytes.specs.Healths as health
+use Rattle.cabi.specs.Header.{headed}
+use Rattle.cabi.specs.Frames.{frameSaid, keepSaid, keptTo, heldTo, sizeTo}
 use Rattle.cabi.specs.Send.{pairOf, writeSaid, lineLent}
 use Rattle.cabi.specs.Rows.{rowTo, rowHeld}
+use Rattle.cabi.specs.Corrections as corrections
+use Rattle.cabi.specs.Healths as healths
+use Rattle.cabi.specs.Positions as positions
+use Rattle.cabi.specs.Nulls as nulls
 use Rattle.cabi.specs.Texts.{textSaid, textAfter}
+use Rattle.cabi.specs.Texts as texts
 use Rattle.promises.specs.ChangesNeither.{Keeps}
 use Rattle.promises.proofs.ChangesNeither.{keeps, changes-neither}
 use Rattle.library_promises.specs.ChangesNeither.{LibraryKeeps}
-use Rattle.library_promises.proofs.CarriesItsNumber.{library-numbers}
+use Rattle.library_promises.proofs.CarriesItsNumber.{put-ordered}
 
-write-keeps : (s : Says Frame) (d29 d30 : ℕ) (line : List ℕ) → Keeps (writeSaid s d29 d30 line) (lineLent s d29 d30 line) line
-write-keeps (answers f) d29 d30 line = changes-neither .write f (pairOf d29 d30) line
-write-keeps (refuses m) d29 d30 line = λ n e. refl
+line-keeps : (s : Says Frame) (d29 d30 : ℕ) (line : List ℕ) → Keeps (writeSaid s d29 d30 line) (lineLent s d29 d30 line) line
+line-keeps (answers f) d29 d30 line = changes-neither .write f (pairOf d29 d30) line
+line-keeps (refuses m) d29 d30 line = λ n e. refl
 
 frame-keeps : (s : Says Frame) (buffer : List ℕ) → Keeps (keptTo s buffer) (heldTo s buffer) buffer
 frame-keeps (answers f) buffer = changes-neither .keep f buffer
@@ -28,15 +41,51 @@ text-keeps (answers f) buffer = changes-neither .read-text f buffer
 text-keeps (refuses m) buffer = λ n e. refl
 
 entry-keeps : {A : Type 0} (row : Coding A) (s : Says A) (lent : List ℕ) → Keeps (rowTo row s lent) (rowHeld row s lent) lent
-entry-keeps row (answers x) lent = keeps (library-numbers .put-entry row lent) (λ b. b) (λ n. lent) _ _ (λ n. refl)
+entry-keeps row (answers x) lent = keeps (put-ordered row lent) (λ b. b) (λ n. lent) _ _ (λ n. refl)
 entry-keeps row (refuses m) lent = λ n e. refl
+
+-- a frame that is made or kept, and its length
+made-keeps : (s : Says Frame) (frame : List ℕ) (size : ℕ) → Keeps (keptTo s frame) (heldTo s frame) frame × Keeps (keptTo s frame) (sizeTo s frame size) size
+made-keeps s frame size = (frame-keeps s frame, λ n e. rw e)
+
+-- bytes too few for a state
+start-short : (c : Candidate) (ended : Bool) (bytes : List ℕ) → length bytes < 188 → startPut c ended bytes ≡ bytes
+unfolding startPut
+start-short c ended bytes h = rw (lt-ltb (length bytes) 188 h)
+
+state-short : (r : Reader) (bytes : List ℕ) → length bytes < 188 → statePut r bytes ≡ bytes
+unfolding statePut
+state-short r bytes h = rw (lt-ltb (length bytes) 188 h)
 
 pub library-keeps : LibraryKeeps
 library-keeps = record {
-  place = λ s put held n e. ap (λ t. left t put held) e;
+  start = λ state n e. rw e;
+  feed = λ state byte n e. rw e;
+  feed-all = λ state bytes used passed. (λ n e. rw e, λ n e. rw e, λ n e. rw e);
+  line-end = λ state n e. rw e;
+  line-take = λ state frame size at. (λ n e. rw e, λ n e. rw e, λ n e. rw e, λ n e. rw e);
   line-open = changes-neither .writer-open;
-  write = write-keeps;
-  frame = frame-keeps;
-  text = text-keeps;
-  entry = entry-keeps;
+  write = λ frame d29 d30 line size. (λ n e. rw e, λ n e. rw e, line-keeps (frameSaid frame) d29 d30 line, λ n e. rw e);
+  keep = λ kind station z sequence code bs. made-keeps (keepSaid kind station z sequence code bs);
+  recall = λ frame kind station z sequence code m size.
+      (λ n e. rw e, λ n e. rw e, λ n e. rw e, λ n e. rw e, λ n e. rw e, λ n e. rw e, λ n e. rw e);
+  count-corrections = λ frame count n e. rw e;
+  correction-at = λ frame i. entry-keeps correction.row (corrections.entrySaid (frameSaid frame) i);
+  make-corrections = λ kind station z sequence code rows. made-keeps (corrections.madeSaid (headed kind station z sequence code) rows);
+  count-healths = λ frame count n e. rw e;
+  health-at = λ frame i. entry-keeps health.row (healths.entrySaid (frameSaid frame) i);
+  make-healths = λ kind station z sequence code rows. made-keeps (healths.madeSaid (headed kind station z sequence code) rows);
+  read-position = λ frame x y up. (λ n e. rw e, λ n e. rw e, λ n e. rw e);
+  make-position = λ kind station z sequence code x y up. made-keeps (positions.makeSaid kind station z sequence code x y up);
+  make-null = λ kind station z sequence code. made-keeps (nulls.makeSaid kind station z sequence code);
+  read-text = λ frame text size. (text-keeps (frameSaid frame) text, λ n e. rw e);
+  make-text = λ kind station z sequence code t. made-keeps (texts.makeSaid kind station z sequence code t);
+  prc-mm = λ scale prc stop mm. (λ n e. rw e, λ n e. rw e);
+  rrc-mm-s = λ scale rrc stop rate. (λ n e. rw e, λ n e. rw e);
+  udre-limit-mm = λ code udre limited mm. (λ n e. rw e, λ n e. rw e);
+  cn0-dbhz = λ code tracked dbhz. (λ n e. rw e, λ n e. rw e);
+  put-correction = λ entry lent. entry-keeps correction.row (answers entry) lent;
+  put-health = λ entry lent. entry-keeps health.row (answers entry) lent;
+  put-start = start-short;
+  put-state = state-short;
 }

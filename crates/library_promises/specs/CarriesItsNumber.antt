@@ -11,7 +11,6 @@ use Rattle.frame.specs.declared.Layout.the-variants as layout
 use Rattle.reader.specs.Reading.{busy}
 use Rattle.journal.specs.Journal.{recallOrder}
 use Rattle.writer.specs.Answer.{openChecks}
-use Rattle.pack.specs.Coding.{Coding}
 use Rattle.state_bytes.specs.State.{stateIn}
 use Rattle.entry_bytes.specs.Rows.{putOrder, putBy, saysPut}
 use Rattle.entry_bytes.specs.Corrections as correction
@@ -39,7 +38,7 @@ abbrev pub afterHeader : List ℕ → List ℕ
 afterHeader numbers = 5 ∷ 5 ∷ 6 ∷ 7 ∷ numbers
 
 -- every exported function but the one that answers a constant, and the two that put an entry in bytes. The order of `stops` is empty: it never refuses.
-pub record LibraryNumbers : Type 1 where
+pub record LibraryNumbers : Type 0 where
   -- reading the line
   pub start : (state : List ℕ) → Ordered (13 ∷ []) (in-order.startedOrder state) (startedIn state)
   pub feed : (state : List ℕ) (byte : ℕ)
@@ -97,4 +96,5 @@ pub record LibraryNumbers : Type 1 where
   pub udre-limit-mm : (code udre : ℕ) → Ordered (5 ∷ 10 ∷ []) (in-order.limitOrder code udre) (limitSaid code udre)
   pub cn0-dbhz : (code : ℕ) → Ordered (10 ∷ []) ((ltb 31 code, 10) ∷ []) (strengthSaid code)
   -- an entry as a row of bytes
-  pub put-entry : {A : Type 0} (row : Coding A) (lent : List ℕ) → Ordered (13 ∷ []) (putOrder row lent) (saysPut (putBy row lent))
+  pub put-correction : (lent : List ℕ) → Ordered (13 ∷ []) (putOrder correction.row lent) (saysPut (putBy correction.row lent))
+  pub put-health : (lent : List ℕ) → Ordered (13 ∷ []) (putOrder health.row lent) (saysPut (putBy health.row lent))
