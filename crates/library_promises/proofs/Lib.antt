@@ -1,4 +1,10 @@
 pub mod LibraryCalls
 pub mod CarriesItsNumber
 pub mod ChangesNeither
+pub mod Told
+pub mod Called
+pub mod OneCall
+pub mod LineCalls
+pub mod Slices
+pub mod Demand3
 pub mod Library

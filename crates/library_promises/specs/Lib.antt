@@ -1,4 +1,6 @@
 pub mod LibraryCalls
 pub mod CarriesItsNumber
 pub mod ChangesNeither
+pub mod LineCalls
+pub mod Demand3
 pub mod Library

@@ -1,7 +1,11 @@
--- DEMAND 1 of the library for C and Rust, sentence by sentence. Assumes nothing.
+-- THE DEMANDS of the library for C and Rust, sentence by sentence. Assumes nothing.
+use mathlib.Core.List.{List}
+use Prim.Native.Nat.{ℕ, _≤_}
+use lib.ListN.{length}
 use Rattle.library_promises.specs.LibraryCalls.{LibraryCalls}
 use Rattle.library_promises.specs.CarriesItsNumber.{LibraryNumbers}
 use Rattle.library_promises.specs.ChangesNeither.{LibraryKeeps}
+use Rattle.library_promises.specs.Demand3.{TakesItsRecord, LibraryDemand3}
 
 pub record Library : Type 2 where
   -- "Every byte sequence, frame and buffer gets a defined answer." "No call trusts its caller." "Every call ends."
@@ -10,3 +14,6 @@ pub record Library : Type 2 where
   pub carries : LibraryNumbers
   -- ".. and changes neither state nor buffer."
   pub changes : LibraryKeeps
+  -- demand 3, of every state's bytes with room; a frame that is taken is the one whose record comes
+  pub third : (state : List ℕ) → 188 ≤ length state → LibraryDemand3 state
+  pub takes-record : TakesItsRecord
