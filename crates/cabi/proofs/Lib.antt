@@ -6,7 +6,6 @@ pub mod LineCarried
 pub mod LineLaws
 pub mod LineOrders
 pub mod LineTaking
-pub mod ListTrips
 pub mod MakeOrders
 pub mod NumberLaws
 pub mod Orders

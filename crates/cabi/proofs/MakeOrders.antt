@@ -60,7 +60,7 @@ kept-after cs f buffer =
     ∙ ap (inOrder cs refuses) (says-order saysKept kept.Refused (λ n. refl) (kept.Done (3 * f .n + 9)) (keepOrder f buffer) refl)
 
 -- a health over 7 comes first
-headed-order : {A : Type 0} (kind station z sequence code : ℕ) (next : Header → Says A)
+pub headed-order : {A : Type 0} (kind station z sequence code : ℕ) (next : Header → Says A)
     → andThen (headed kind station z sequence code) next ≡ inOrder ((ltb 7 code, 5) ∷ []) refuses (next (headerWith kind station z sequence code))
 headed-order kind station z sequence code next =
     ap (λ s. andThen s next)

@@ -30,7 +30,7 @@ use Rattle.journal.proofs.FormLaws.{start-few, record-starts, record-wo
 
 -- ---- words of 24 bits, as the values of a layout
 
-fit-below : (ws : List ℕ) → Below ws → Fit (replicate (length ws) 24) ws
+pub fit-below : (ws : List ℕ) → Below ws → Fit (replicate (length ws) 24) ws
 fit-below [] b = tt
 fit-below (w ∷ ws) b = (b .0, fit-below ws (b .1))
 

@@ -7,4 +7,8 @@ pub mod OneCall
 pub mod LineCalls
 pub mod Slices
 pub mod Demand3
+pub mod KeptBack
+pub mod ReadsBack
+pub mod KeptAgain
+pub mod LineBack
 pub mod Library

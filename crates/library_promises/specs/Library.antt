@@ -6,6 +6,8 @@ use Rattle.library_promises.specs.LibraryCalls.{LibraryCalls}
 use Rattle.library_promises.specs.CarriesItsNumber.{LibraryNumbers}
 use Rattle.library_promises.specs.ChangesNeither.{LibraryKeeps}
 use Rattle.library_promises.specs.Demand3.{TakesItsRecord, LibraryDemand3}
+use Rattle.library_promises.specs.ReadsBack.{LibraryReadsBack, KeptAgain}
+use Rattle.library_promises.specs.LineBack.{LineGivesBack}
 
 pub record Library : Type 2 where
   -- "Every byte sequence, frame and buffer gets a defined answer." "No call trusts its caller." "Every call ends."
@@ -14,6 +16,11 @@ pub record Library : Type 2 where
   pub carries : LibraryNumbers
   -- ".. and changes neither state nor buffer."
   pub changes : LibraryKeeps
+  -- "A record we write reads back equal."
+  pub reads-back : (kind station z sequence code : ℕ) → LibraryReadsBack kind station z sequence code
+  pub kept-again : KeptAgain
   -- demand 3, of every state's bytes with room; a frame that is taken is the one whose record comes
   pub third : (state : List ℕ) → 188 ≤ length state → LibraryDemand3 state
   pub takes-record : TakesItsRecord
+  -- and what is written comes back from the line
+  pub line-back : (state : List ℕ) → 188 ≤ length state → LineGivesBack state

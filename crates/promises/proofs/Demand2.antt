@@ -95,7 +95,7 @@ what-is-read = record {
 
 -- ---- "A record we write reads back equal"
 
-made-told : (m : Made) (f : Frame) → saysMade m ≡ answers f → m ≡ doneMade f
+pub made-told : (m : Made) (f : Frame) → saysMade m ≡ answers f → m ≡ doneMade f
 made-told m f e = go (m .answer) (m .frame) e
   where
     go : (a : Making) (g : Frame) → saysMade (record { answer = a; frame = g }) ≡ answers f → record { answer = a; frame = g } ≡ doneMade f
