@@ -52,8 +52,6 @@ pub struct Reader {
     tested: usize,
     /// Data of those words.
     words: [u32; MOST_ALL_WORDS],
-    /// Whether the candidate stands and waits to be taken.
-    waits: bool,
     /// Whether the input has ended.
     ended: bool,
 }
@@ -74,14 +72,14 @@ impl Reader {
             position: 2,
             tested: 0,
             words: [0; MOST_ALL_WORDS],
-            waits: false,
             ended: false,
         }
     }
 
-    /// Whether a frame waits to be taken.
+    /// Whether a frame waits to be taken: all words of the candidate have passed.
+    #[inline]
     pub fn waits(&self) -> bool {
-        self.waits
+        self.tested >= 2 && self.tested == usize::from(n_of(self.words[1])) + 2
     }
 
     /// Feeds one byte. Refuses with 5, 3, 2, 1.
@@ -107,7 +105,7 @@ impl Reader {
             }
             self.push(*byte);
             self.hunt();
-            if self.waits {
+            if self.waits() {
                 break;
             }
         }
@@ -125,12 +123,11 @@ impl Reader {
     /// Takes the waiting frame. Refuses with 5, 4.
     pub fn take(&mut self) -> Answer<Taken> {
         self.check_counts()?;
-        refuse_if(!self.waits, Refusal::NoFrameWaits)?;
+        refuse_if(!self.waits(), Refusal::NoFrameWaits)?;
         let taken = Taken {
             position: self.position,
             frame: Frame::of_words(&self.words[..self.tested]),
         };
-        self.waits = false;
         self.move_on(30 * self.tested);
         self.hunt();
         Ok(taken)
@@ -141,7 +138,7 @@ impl Reader {
     fn check_open(&self) -> Answer<()> {
         self.check_counts()?;
         refuse_if(self.ended, Refusal::AfterEnd)?;
-        refuse_if(self.waits, Refusal::FrameWaits)
+        refuse_if(self.waits(), Refusal::FrameWaits)
     }
 
     /// Refuses a state whose counts go past what it can hold.
@@ -151,8 +148,7 @@ impl Reader {
             && self.start <= self.end
             && self.end - self.start <= MOST_HELD
             && self.tested <= MOST_ALL_WORDS
-            && (self.tested == 0 || self.start + 2 + 30 * self.tested <= self.end)
-            && (!self.waits || self.tested >= 2);
+            && (self.tested == 0 || self.start + 2 + 30 * self.tested <= self.end);
         refuse_if(!whole, Refusal::OutsideWidths)
     }
 
@@ -199,7 +195,7 @@ impl Reader {
     /// until a frame waits or more bits are needed.
     #[inline]
     fn hunt(&mut self) {
-        while !self.waits {
+        while !self.waits() {
             if self.tested == 0 {
                 self.pass_over();
             }
@@ -234,7 +230,6 @@ impl Reader {
         }
         self.words[self.tested] = window::data(window);
         self.tested += 1;
-        self.waits = self.tested >= 2 && self.tested == usize::from(n_of(self.words[1])) + 2;
         false
     }
 }
@@ -281,7 +276,7 @@ mod tests {
             |reader| reader.end = MOST_HELD + 1,
             |reader| reader.start = reader.end + 1,
             |reader| reader.tested = MOST_ALL_WORDS + 1,
-            |reader| reader.waits = true,
+            |reader| reader.tested = 1,
         ];
         for bad in breaks {
             for ended in [false, true] {
@@ -304,7 +299,7 @@ mod tests {
             state = state.wrapping_mul(1_664_525).wrapping_add(1_013_904_223);
             reader.feed(0x40 | (state >> 26) as u8).unwrap();
             assert!(reader.end - reader.start <= MOST_HELD);
-            if reader.waits {
+            if reader.waits() {
                 reader.take().unwrap();
             }
         }

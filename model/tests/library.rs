@@ -1,6 +1,7 @@
 //! The library's calls against the definition: streams read in pieces through
 //! the state's bytes give the frames of `scan`, and what they give is read back.
 
+use rtcm2_model::library::state::State;
 use rtcm2_model::library::{line, lists, state};
 use rtcm2_model::line::bits_of_bytes;
 use rtcm2_model::record::correction;
@@ -87,4 +88,57 @@ fn bytes_that_hold_no_state_are_refused() {
     }
     assert_eq!(state, fresh);
     assert_eq!(line::feed(&mut state, 0x40), 0);
+}
+
+/// What the four calls answer of a state, which each leaves as it is.
+fn answers(state: &State) -> [u8; 4] {
+    let mut bytes = [0; state::SIZE];
+    state.put(&mut bytes);
+    let before = bytes;
+    let (mut frame, mut length, mut at) = ([0; 102], 7, 7);
+    let (mut used, mut passed) = (7, 7);
+    let answers = [
+        line::feed(&mut bytes, 0x40),
+        line::feed_all(&mut bytes, &[0x40], &mut used, &mut passed),
+        line::end(&mut bytes),
+        line::take(&mut bytes, &mut frame, &mut length, &mut at),
+    ];
+    assert_eq!((bytes, length, at, used, passed), (before, 7, 7, 7, 7));
+    answers
+}
+
+#[test]
+fn more_words_known_than_bits_held_are_refused() {
+    for words in 1..=32 {
+        let mut state = State::fresh();
+        state.words = words;
+        state.held = 30 * words + 1;
+        state.end = state.held;
+        assert_eq!(answers(&state), [5; 4], "{words} words");
+        state.held += 1;
+        state.end += 1;
+        let mut bytes = [0; state::SIZE];
+        state.put(&mut bytes);
+        assert_eq!(line::feed(&mut bytes, 0x40), 0, "{words} words");
+    }
+}
+
+#[test]
+fn a_frame_that_does_not_stand_is_not_taken() {
+    let stream = *b"\x40\x66\x61\x41\x68\x7F\x7F\x6C\x73\x7F\x44";
+    let mut whole = State::fresh();
+    whole.feed_all(&stream).unwrap();
+    assert!(whole.waits && whole.clone().take().is_ok());
+    for place in whole.end - whole.held..whole.end {
+        let mut damaged = whole.clone();
+        damaged.cells[place / 32] ^= 1 << (31 - place % 32);
+        assert_eq!(answers(&damaged), [2, 2, 2, 4], "bit {place}");
+    }
+    for held in 0..whole.held {
+        let cut = State {
+            held,
+            ..whole.clone()
+        };
+        assert_eq!(answers(&cut), [2, 2, 2, 4], "{held} bits");
+    }
 }

@@ -75,7 +75,7 @@ impl State {
     pub(super) fn hunt(&mut self) {
         self.waits = false;
         while self.held > 0 {
-            match self.verdict() {
+            match self.verdict(self.words) {
                 Verdict::Standing => {
                     self.words = 0;
                     self.waits = true;
@@ -93,9 +93,14 @@ impl State {
         }
     }
 
-    /// The verdict on the position looked at, from its first word not known right.
-    fn verdict(&self) -> Verdict {
-        let mut k = self.words;
+    /// Whether a frame stands at the position looked at, every word tested.
+    pub(super) fn stands(&self) -> bool {
+        matches!(self.verdict(0), Verdict::Standing)
+    }
+
+    /// The verdict on the position looked at, of which so many words are known right.
+    fn verdict(&self, known: usize) -> Verdict {
+        let mut k = known;
         while 32 + 30 * k <= self.held {
             let word = self.word(k);
             let preambled = k > 0 || preamble_is_right(window::data(word));

@@ -1,5 +1,5 @@
-//! A reader's state as 188 lent bytes, and the calls on it by their definition:
-//! any counts inside the bounds are believed, so forged states are answered too.
+//! A reader's state as 188 lent bytes, and the calls on it, forged states too: the
+//! words that it says are known right are believed, a frame that waits is not.
 
 use crate::frame::Frame;
 use crate::line::is_data_byte;
@@ -122,10 +122,10 @@ impl State {
         Ok(())
     }
 
-    /// Takes the frame that waits. Refuses with 5, 4.
+    /// Takes the frame that waits, if one stands. Refuses with 5, 4.
     pub fn take(&mut self) -> Answer<Taken> {
         self.check_counts()?;
-        refuse_if(!self.waits, Refusal::NoFrameWaits)?;
+        refuse_if(!(self.waits && self.stands()), Refusal::NoFrameWaits)?;
         let size = self.size();
         let words: Vec<u32> = (0..size).map(|k| window::data(self.word(k))).collect();
         let taken = Taken {
@@ -149,9 +149,9 @@ impl State {
     fn check_counts(&self) -> Answer<()> {
         let past = self.end > ROOM
             || self.end < self.held
-            || self.words > MOST_WORDS
             || self.held > MOST_HELD[usize::from(self.waits)]
-            || self.waits && (self.held < 62 || self.held < 2 + 30 * self.size());
+            || self.words > MOST_WORDS
+            || self.words > 0 && self.held < 2 + 30 * self.words;
         refuse_if(past, Refusal::OutsideWidths)
     }
 }
