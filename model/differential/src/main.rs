@@ -8,6 +8,7 @@ mod header;
 mod library;
 mod model;
 mod place;
+mod region;
 mod tally;
 
 use call::Call;

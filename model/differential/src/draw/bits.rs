@@ -51,12 +51,20 @@ fn false_header(rng: &mut Rng, bits: &mut Bits) {
     }
 }
 
-/// The bytes of such bits, some damaged, in either polarity.
+/// The bytes of such bits, some damaged, in either polarity; seldom with more bytes
+/// without bits among them than eight or sixteen bits count.
 pub fn line_bytes(rng: &mut Rng) -> Vec<u8> {
     let mut bytes = line_bits(rng).to_bytes();
     for _ in 0..rng.place(4) {
         mangle(&mut bytes, rng);
     }
+    let more = match rng.below(4000) {
+        0 => (1 << 16) + rng.place(300),
+        1..=20 => (1 << 8) + rng.place(300),
+        _ => 0,
+    };
+    let at = rng.place(bytes.len() + 1);
+    bytes.splice(at..at, (0..more).map(|_| rng.other_byte()));
     match rng.below(3) {
         0 => turned_over(&bytes),
         _ => bytes,

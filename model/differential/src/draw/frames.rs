@@ -1,12 +1,13 @@
 //! Calls that are given a frame: its journal record, right or damaged.
 
-use super::{numbers, parts, room};
+use super::ends::{around, index, inside, longer, one_of};
+use super::{entries, numbers, parts, room};
 use crate::call::{Call, Function};
 use crate::place::Place;
 use rtcm2_model::frame::Frame;
 use rtcm2_model::journal;
 use rtcm2_model::library::lists::{CORRECTION_SIZE, HEALTH_SIZE};
-use rtcm2_model::record::{correction, health, text};
+use rtcm2_model::record::{correction, text};
 use rtcm2_model::rng::Rng;
 use rtcm2_model::samples;
 
@@ -28,7 +29,7 @@ pub fn call(rng: &mut Rng) -> Call {
             let line = room(rng, 1);
             parts(Function::Open, vec![], vec![], vec![line])
         }
-        _ => call_on(functions[rng.place(functions.len())], rng),
+        _ => call_on(one_of(rng, &functions), rng),
     }
 }
 
@@ -61,23 +62,21 @@ fn call_on(function: Function, rng: &mut Rng) -> Call {
         }
         _ => {}
     }
-    parts(function, given, vec![Place::holding(rng, &record)], lent)
+    parts(function, given, vec![Place::starting(rng, &record)], lent)
 }
 
 /// A frame that the function reads, or nearly: of its type or another, with a
 /// right record or any words, now and then with a Z count past the hour.
 fn frame_for(function: Function, rng: &mut Rng) -> Frame {
+    let kind = kind_of(function, rng);
     let mut frame = match rng.below(10) {
         0 => samples::any_frame(rng),
-        1 | 2 => {
-            let (kind, n) = (kind_of(function, rng), rng.below(32) as u8);
-            samples::plain_frame(rng, kind, n)
-        }
-        _ => right_frame(function, rng),
+        1 | 2 => entries::any_words(rng, kind),
+        _ => entries::frame(rng, kind),
     };
-    match rng.below(24) {
-        0 => frame.header.z_count = 6000 + rng.below(2192) as u16,
-        1 => frame.header.z_count = 5998 + rng.below(4) as u16,
+    match rng.below(16) {
+        0 => frame.header.z_count = inside(rng, 6000, 8191) as u16,
+        1 => frame.header.z_count = one_of(rng, &[5999, 6000]),
         _ => {}
     }
     frame
@@ -86,37 +85,12 @@ fn frame_for(function: Function, rng: &mut Rng) -> Frame {
 /// The type number that the function reads; any for a function that reads all.
 fn kind_of(function: Function, rng: &mut Rng) -> u16 {
     match function {
-        Function::CountCorrections | Function::CorrectionAt => [1, 9][rng.place(2)],
+        Function::CountCorrections | Function::CorrectionAt => one_of(rng, &[1, 9]),
         Function::CountHealths | Function::HealthAt => 5,
         Function::ReadPosition => 3,
         Function::ReadNull => 6,
         Function::ReadText => 16,
-        _ => 1 + rng.below(64) as u16,
-    }
-}
-
-/// A frame whose record the function reads.
-fn right_frame(function: Function, rng: &mut Rng) -> Frame {
-    let kind = kind_of(function, rng);
-    match kind {
-        1 | 9 => {
-            let count = 1 + rng.place(correction::MOST);
-            samples::correction_frame(rng, kind, count)
-        }
-        3 => samples::position_frame(rng),
-        5 => {
-            let count = 1 + rng.place(health::MOST);
-            samples::health_frame(rng, count)
-        }
-        6 => samples::null_frame(rng),
-        16 => {
-            let count = 1 + rng.place(text::MOST);
-            samples::text_frame(rng, count)
-        }
-        _ => {
-            let n = rng.below(32) as u8;
-            samples::plain_frame(rng, kind, n)
-        }
+        _ => inside(rng, 1, 64) as u16,
     }
 }
 
@@ -125,31 +99,40 @@ fn record(rng: &mut Rng, frame: &Frame) -> Vec<u8> {
     let mut record = vec![0; 102];
     let length = journal::keep(frame, &mut record).expect("a right frame");
     record.truncate(length);
-    if rng.below(4) == 0 {
-        let more = rng.place(20);
-        record.extend((0..more).map(|_| rng.byte()));
-    }
-    if rng.below(3) == 0 {
-        damage(rng, &mut record);
+    let size = match rng.below(12) {
+        0..=2 => length + rng.place(20),
+        3 => {
+            let count = rng.place(length);
+            longer(rng, count)
+        }
+        _ => length,
+    };
+    record.extend((length..size).map(|_| rng.byte()));
+    for _ in 0..one_of(rng, &[0, 0, 0, 0, 1, 1, 2]) {
+        damage(rng, &mut record, length);
     }
     record
 }
 
-/// Cuts a record anywhere, changes a byte of it, or puts in what a record of its
-/// type must not hold.
-fn damage(rng: &mut Rng, record: &mut Vec<u8>) {
-    let at = rng.place(record.len());
-    match rng.below(9) {
+/// Cuts a record of this length anywhere, changes a byte or a bit of it, or puts in
+/// what a record of its type must not hold.
+fn damage(rng: &mut Rng, record: &mut Vec<u8>, length: usize) {
+    let at = rng.place(length);
+    match rng.below(12) {
         0 => record.truncate(at),
         1 => record.truncate(rng.place(4)),
-        2 => record[at] = rng.byte(),
-        3 => record[rng.place(9)] = rng.byte(),
-        4 => record[2] = rng.below(34) as u8,
-        5 => put(record, 9 + 4 * rng.place(3), &[0x80, 0, 0, 0]),
-        6 => put(record, 9 + rng.place(93), &[0]),
-        7 => {
-            let from = record.len().saturating_sub(1 + rng.place(5));
-            record[from..].fill(0);
+        2 => record.truncate(length - 1),
+        3 => put(record, at, &[rng.byte()]),
+        4 => put(record, rng.place(9), &[rng.byte()]),
+        5 => change(record, rng.place(9), 1 << rng.below(8)),
+        6 => put(record, 2, &[around(rng, 0, 31, 8) as u8]),
+        7 => change(record, 2, one_of(rng, &[32, 64, 128, 224])),
+        8 => put(record, 9 + 4 * rng.place(3), &[0x80, 0, 0, 0]),
+        9 => put(record, 9 + rng.place(93), &[one_of(rng, &[0, 128, 255])]),
+        10 => {
+            let from = length.saturating_sub(1 + rng.place(5));
+            let count = rng.place(6).min(length - from);
+            put(record, from, &vec![0; count]);
         }
         _ => record.iter_mut().for_each(|byte| *byte = rng.byte()),
     }
@@ -162,19 +145,19 @@ fn put(record: &mut [u8], at: usize, bytes: &[u8]) {
     }
 }
 
+/// Turns over bits of a record's byte, where it has one.
+fn change(record: &mut [u8], at: usize, bits: u8) {
+    if let Some(byte) = record.get_mut(at) {
+        *byte ^= bits;
+    }
+}
+
 /// A carried bit, mostly 0 or 1.
 fn carried(rng: &mut Rng) -> Place {
     let mut place = Place::number_drawn(rng);
-    if rng.below(16) > 0 {
-        *place.number::<u8>() = rng.below(2) as u8;
-    }
+    *place.number::<u8>() = match rng.below(12) {
+        0 => one_of(rng, &[2, 3, 128, 254, 255]),
+        _ => rng.below(2) as u8,
+    };
     place
-}
-
-/// An entry number, mostly below the count or just past it.
-fn index(rng: &mut Rng, count: usize) -> i64 {
-    match rng.below(20) {
-        0 => rng.draw() as i64,
-        _ => rng.place(count + 2) as i64,
-    }
 }

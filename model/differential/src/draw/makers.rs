@@ -1,14 +1,14 @@
 //! Calls that make a frame: headers of any numbers, entries and characters of any
 //! bytes, any count of them.
 
-use super::{parts, room, small};
+use super::ends::{around, inside, longer, one_of, z_count};
+use super::{entries, numbers, parts, room};
 use crate::call::{Call, Function};
-use crate::model;
 use crate::place::Place;
+use rtcm2_model::journal::length_for;
 use rtcm2_model::library::lists::{correction_row, health_row, CORRECTION_SIZE, HEALTH_SIZE};
 use rtcm2_model::record::{correction, health, text};
 use rtcm2_model::rng::Rng;
-use rtcm2_model::samples;
 
 /// A call of a maker.
 pub fn call(rng: &mut Rng) -> Call {
@@ -20,131 +20,169 @@ pub fn call(rng: &mut Rng) -> Call {
         Function::MakeNull,
         Function::MakeText,
     ];
-    let function = functions[rng.place(functions.len())];
+    let function = one_of(rng, &functions);
     let mut given = head(function, rng);
     let mut read = vec![];
+    let mut size = 0;
     match function {
         Function::MakePosition => given.extend((0..3).map(|_| centimetres(rng))),
         Function::MakeNull => {}
         _ => {
             let bytes = bytes_for(function, rng);
-            read.push(Place::holding(rng, &bytes));
+            size = bytes.len();
+            read.push(Place::starting(rng, &bytes));
         }
     }
-    let lent = vec![Place::bytes_of_size(rng, 102), Place::number_drawn(rng)];
-    let mut made = parts(function, given, read, lent);
-    made.lent[0] = room(rng, needed(made.clone()));
-    made
+    let mut lent = vec![room(rng, length_for(words(function, size)))];
+    lent.extend(numbers(rng, 1));
+    parts(function, given, read, lent)
 }
 
-/// The length of the record that a call makes; of the shortest if it is refused.
-fn needed(mut call: Call) -> usize {
-    match model::answer(&mut call) {
-        0 => *call.lent[1].number(),
-        _ => 9,
-    }
+/// How many words a frame of so many right bytes has.
+fn words(function: Function, size: usize) -> usize {
+    let words = match function {
+        Function::Keep => size / 3,
+        Function::MakeCorrections => correction::n_for(size / CORRECTION_SIZE),
+        Function::MakeHealths => size / HEALTH_SIZE,
+        Function::MakePosition => 4,
+        Function::MakeText => size.div_ceil(3),
+        _ => 0,
+    };
+    words.min(31)
 }
 
 /// A header's five numbers, mostly right ones.
 fn head(function: Function, rng: &mut Rng) -> Vec<i64> {
-    let kind = match function {
-        Function::MakeCorrections => [1, 9][rng.place(2)],
+    vec![
+        kind(function, rng),
+        around(rng, 0, 1023, 16),
+        z_count(rng),
+        around(rng, 0, 7, 8),
+        around(rng, 0, 7, 8),
+    ]
+}
+
+/// A type number: mostly one that is made, else one beside it, one that equals it
+/// modulo 64, another that has a record, or any.
+fn kind(function: Function, rng: &mut Rng) -> i64 {
+    let right = match function {
+        Function::MakeCorrections => one_of(rng, &[1, 9]),
         Function::MakeHealths => 5,
         Function::MakePosition => 3,
         Function::MakeNull => 6,
         Function::MakeText => 16,
-        _ => 1 + rng.below(64) as i64,
+        _ => inside(rng, 1, 64),
     };
-    let z = match rng.below(20) {
-        0 => 6000 + rng.below(2192),
-        1 => 5998 + rng.below(4),
-        _ => rng.below(6000),
-    };
-    let mut head = vec![
-        kind,
-        rng.below(1024) as i64,
-        z as i64,
-        rng.below(8) as i64,
-        rng.below(8) as i64,
-    ];
-    if rng.below(5) == 0 {
-        let any = rng.below(1 << 16) as i64;
-        match rng.place(5) {
-            0 => head[0] = small(rng, 66),
-            1 => head[1] = [any, 1023, 1024][rng.place(3)],
-            2 => head[2] = [any, 8191, 8192][rng.place(3)],
-            place => head[place] = small(rng, 10),
-        }
+    match rng.below(24) {
+        0 => one_of(rng, &[right - 1, right + 1]),
+        1 => (right + 64 * (1 + rng.below(3) as i64)) % 256,
+        2 => one_of(rng, &[1, 3, 5, 6, 9, 16]),
+        3 => around(rng, 1, 64, 8),
+        _ => right,
     }
-    head
 }
 
 /// A coordinate, now and then at an end of its range.
 fn centimetres(rng: &mut Rng) -> i64 {
-    match rng.below(20) {
-        0 => i32::MIN.into(),
-        1 => i32::MAX.into(),
+    match rng.below(4) {
+        0 => {
+            let ends = [i32::MIN, -2_147_483_647, -1, 0, 1, 2_147_483_646, i32::MAX];
+            one_of(rng, &ends).into()
+        }
         _ => (rng.draw() as i32).into(),
     }
 }
 
 /// The bytes that a maker reads: right ones, some changed, or any.
 fn bytes_for(function: Function, rng: &mut Rng) -> Vec<u8> {
-    let mut bytes = match function {
+    let (mut bytes, highest): (Vec<u8>, &[u8]) = match function {
         Function::Keep => {
-            let count = count(rng, 31);
-            (0..3 * count).map(|_| rng.byte()).collect()
+            let count = 3 * count(rng, 31);
+            (random_then_zeros(rng, count), &[255])
         }
-        Function::MakeCorrections => rows(rng, correction::MOST, |rng| {
-            correction_row(&samples::correction(rng)).to_vec()
-        }),
-        Function::MakeHealths => rows(rng, health::MOST, |rng| {
-            health_row(&samples::satellite_health(rng)).to_vec()
-        }),
+        Function::MakeCorrections => {
+            let row = |rng: &mut Rng| correction_row(&entries::correction(rng)).to_vec();
+            (rows(rng, correction::MOST, row), &HIGHEST_OF_CORRECTION)
+        }
+        Function::MakeHealths => {
+            let row = |rng: &mut Rng| health_row(&entries::satellite_health(rng)).to_vec();
+            (rows(rng, health::MOST, row), &HIGHEST_OF_HEALTH)
+        }
         _ => {
             let count = count(rng, text::MOST);
-            samples::characters(rng, count)
+            (entries::characters(rng, count), &[127])
         }
     };
-    spoil(rng, &mut bytes);
+    spoil(rng, &mut bytes, highest);
     bytes
 }
 
-/// A byte at an end of a field's range or just past it, or any.
-fn edge(rng: &mut Rng) -> u8 {
-    let edges = [0, 1, 2, 3, 4, 7, 8, 15, 16, 31, 32, 33, 127, 128, 255];
-    match rng.below(4) {
-        0 => rng.byte(),
-        _ => edges[rng.place(edges.len())],
+/// So many bytes, half of the time with zeros from a word on.
+fn random_then_zeros(rng: &mut Rng, count: usize) -> Vec<u8> {
+    let mut bytes: Vec<u8> = (0..count).map(|_| rng.byte()).collect();
+    if rng.bit() {
+        bytes
+            .iter_mut()
+            .skip(3 * rng.place(32))
+            .for_each(|byte| *byte = 0);
     }
+    bytes
 }
 
-/// Mostly a count from 1 to the most, else none or up to three too many.
+/// The highest value of each byte of a correction's row.
+const HIGHEST_OF_CORRECTION: [u8; CORRECTION_SIZE] = [1, 3, 32, 255, 255, 255, 255];
+
+/// The highest value of each byte of a row of health.
+const HIGHEST_OF_HEALTH: [u8; HEALTH_SIZE] = [1, 32, 1, 7, 31, 1, 1, 1, 15, 3];
+
+/// Mostly a count from 1 to the most, else none, too many, or one that equals such a
+/// count modulo 2^8 or 2^16.
 fn count(rng: &mut Rng, most: usize) -> usize {
-    match rng.below(10) {
-        0 => [0, most, most + 1, most + 3][rng.place(4)],
-        _ => 1 + rng.place(most),
+    match rng.below(12) {
+        0 => one_of(rng, &[0, most, most + 1, most + 2]),
+        1 => most + rng.place(100),
+        2 => {
+            let count = rng.place(most + 1);
+            longer(rng, count)
+        }
+        _ => inside(rng, 1, most as i64) as usize,
     }
 }
 
-/// Rows of right entries.
+/// Rows of right entries; very many of them are a hundred again and again.
 fn rows(rng: &mut Rng, most: usize, row: fn(&mut Rng) -> Vec<u8>) -> Vec<u8> {
-    (0..count(rng, most)).flat_map(|_| row(rng)).collect()
+    let count = count(rng, most);
+    let rows: Vec<Vec<u8>> = (0..count.min(100)).map(|_| row(rng)).collect();
+    rows.iter().cycle().take(count).flatten().copied().collect()
 }
 
-/// Changes a byte, adds or takes a few at the end, or makes all of them random.
-fn spoil(rng: &mut Rng, bytes: &mut Vec<u8>) {
-    match rng.below(12) {
-        0 | 1 if !bytes.is_empty() => {
-            let at = rng.place(bytes.len());
-            bytes[at] = edge(rng);
+/// Changes a byte or two, adds or takes some at the end, or makes all of them random.
+fn spoil(rng: &mut Rng, bytes: &mut Vec<u8>, highest: &[u8]) {
+    let size = bytes.len();
+    let longer = match rng.below(20) {
+        0..=2 => return change(rng, bytes, highest),
+        3 => {
+            change(rng, bytes, highest);
+            return change(rng, bytes, highest);
         }
-        2 => {
-            let more = rng.place(CORRECTION_SIZE + HEALTH_SIZE);
-            bytes.extend((0..more).map(|_| rng.byte()));
-        }
-        3 => bytes.truncate(bytes.len().saturating_sub(rng.place(4))),
-        4 => bytes.iter_mut().for_each(|byte| *byte = rng.byte()),
-        _ => {}
+        4 => return bytes.iter_mut().for_each(|byte| *byte = rng.byte()),
+        5 => return bytes.truncate(size.saturating_sub(1 + rng.place(4))),
+        6 => size + rng.place(CORRECTION_SIZE + HEALTH_SIZE),
+        7 => longer(rng, size),
+        _ => size,
+    };
+    let more = random_then_zeros(rng, longer - size);
+    bytes.extend(more);
+}
+
+/// Gives one byte, if there is one, its highest value or one just past, that with the
+/// top bit, 0, 255, or any.
+fn change(rng: &mut Rng, bytes: &mut [u8], highest: &[u8]) {
+    if !bytes.is_empty() {
+        let at = rng.place(bytes.len());
+        let most = highest[at % highest.len()];
+        let any = rng.byte();
+        let values = [most, most.wrapping_add(1), most | 128, 0, 255, any];
+        bytes[at] = one_of(rng, &values);
     }
 }

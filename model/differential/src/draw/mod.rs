@@ -1,6 +1,8 @@
 //! Random calls: of readers that go on from call to call, and of single frames.
 
 mod bits;
+mod ends;
+mod entries;
 mod frames;
 mod makers;
 mod readers;
@@ -8,6 +10,7 @@ mod states;
 
 use crate::call::{Call, Function};
 use crate::place::Place;
+use ends::{around, inside};
 use readers::Readers;
 use rtcm2_model::rng::Rng;
 
@@ -44,38 +47,27 @@ impl Draw {
 
 /// A call on the numbers of a record, or on nothing.
 fn number(rng: &mut Rng) -> Call {
-    let mut given = vec![small(rng, 2)];
-    let function = match rng.below(11) {
+    let (function, given) = match rng.below(11) {
         0 => return parts(Function::StateSize, vec![], vec![], vec![]),
-        1 | 2 => {
-            given.push(prc(rng));
-            Function::PrcMm
-        }
         9 | 10 => {
-            let rrc = [rng.byte() as i8, i8::MIN][rng.place(2)];
-            let given = vec![prc(rng), rrc.into()];
+            let given = vec![inside(rng, -32768, 32767), inside(rng, -128, 127)];
             return parts(Function::Stops, given, vec![], numbers(rng, 1));
         }
+        1 | 2 => {
+            let prc = inside(rng, -32768, 32767);
+            (Function::PrcMm, vec![around(rng, 0, 1, 8), prc])
+        }
         3 | 4 => {
-            given.push((rng.byte() as i8).into());
-            Function::RrcMmS
+            let rrc = inside(rng, -128, 127);
+            (Function::RrcMmS, vec![around(rng, 0, 1, 8), rrc])
         }
         5 | 6 => {
-            given = vec![small(rng, 8), small(rng, 4)];
-            Function::UdreLimitMm
+            let health = around(rng, 0, 7, 8);
+            (Function::UdreLimitMm, vec![health, around(rng, 0, 3, 8)])
         }
-        _ => {
-            given = vec![small(rng, 32)];
-            Function::Cn0Dbhz
-        }
+        _ => (Function::Cn0Dbhz, vec![around(rng, 0, 31, 8)]),
     };
     parts(function, given, vec![], numbers(rng, 2))
-}
-
-/// A PRC: any, or one of the ends.
-fn prc(rng: &mut Rng) -> i64 {
-    let any = rng.below(1 << 16) as u16 as i16;
-    [any, i16::MIN, i16::MAX][rng.place(3)].into()
 }
 
 /// A call of these parts.
@@ -93,21 +85,18 @@ fn numbers(rng: &mut Rng, count: usize) -> Vec<Place> {
     (0..count).map(|_| Place::number_drawn(rng)).collect()
 }
 
-/// Mostly a number below the bound, else any byte.
-fn small(rng: &mut Rng, bound: u64) -> i64 {
-    match rng.below(8) {
-        0 => rng.byte().into(),
-        _ => rng.below(bound) as i64,
-    }
-}
-
-/// Room for so many bytes: just enough, one too few, or any number around.
+/// Room for so many bytes: just enough, one too few, one more, or another number,
+/// also one that is too few modulo 2^8 or 2^16.
 fn room(rng: &mut Rng, need: usize) -> Place {
-    let size = match rng.below(10) {
+    let size = match rng.below(16) {
         0 => rng.place(need + 1),
-        1 => need.saturating_sub(1),
-        2 => need + 1,
-        3 => rng.place(200),
+        1 | 2 => need.saturating_sub(1),
+        3 => need + 1,
+        4 => rng.place(200),
+        5 => {
+            let less = rng.place(need + 1);
+            ends::longer(rng, less)
+        }
         _ => need,
     };
     Place::bytes_of_size(rng, size)

@@ -50,7 +50,8 @@ impl Readers {
             return;
         };
         let reader = &mut self.all[number];
-        reader.state.copy_from_slice(call.lent[0].bytes());
+        let size = reader.state.len();
+        reader.state.copy_from_slice(&call.lent[0].bytes()[..size]);
         reader.fed += match (call.function, answer) {
             (Function::Feed, 0 | 1) => 1,
             (Function::FeedAll, 0) => *call.lent[1].number::<usize>(),
@@ -73,14 +74,18 @@ impl Reader {
         }
     }
 
-    /// Whether nothing more can come of it: no frame waits after the end, or it is
-    /// refused with 5.
+    /// Whether nothing more can come of it: no frame can be taken after the end or
+    /// from a state that says one waits, or it is refused with 5.
     fn is_spent(&self) -> bool {
         let Ok(mut state) = State::read(&self.state) else {
             return true;
         };
         let (ended, waits) = (state.ended, state.waits);
-        ended && !waits || state.take() == Err(Refusal::OutsideWidths)
+        match state.take() {
+            Ok(_) => false,
+            Err(Refusal::NoFrameWaits) => ended || waits,
+            Err(_) => true,
+        }
     }
 
     /// The next call: mostly the one that a caller would make now.
@@ -102,7 +107,7 @@ impl Reader {
 
     /// A call of this function.
     fn call_of(&self, function: Function, rng: &mut Rng) -> Call {
-        let mut lent = vec![Place::holding(rng, &self.state)];
+        let mut lent = vec![Place::starting(rng, &self.state)];
         let (mut given, mut read) = (vec![], vec![]);
         match function {
             Function::Feed => given.push(self.next_byte(rng).into()),

@@ -1,15 +1,17 @@
 //! Bytes that hold a reader's state, or nearly: forged counts around the limits,
-//! forged words and flags, a damaged mark, any number of bytes.
+//! forged words, flags and bits, a damaged mark, any number of bytes.
 
-use super::bits::line_bits;
+use super::bits::{line_bits, line_bytes};
+use super::ends::{longer, one_of};
 use rtcm2_model::library::state::{State, MARK, MOST_HELD, MOST_WORDS, ROOM, SIZE};
 use rtcm2_model::rng::Rng;
 
 /// Forged bytes, most of which hold a state.
 pub fn forged(rng: &mut Rng) -> Vec<u8> {
-    let mut state = match rng.below(3) {
+    let mut state = match rng.below(4) {
         0 => held_frames(rng),
-        1 => State {
+        1 => under_way(rng),
+        2 => State {
             cells: std::array::from_fn(|_| rng.draw() as u32),
             ..State::fresh()
         },
@@ -18,14 +20,26 @@ pub fn forged(rng: &mut Rng) -> Vec<u8> {
     for _ in 0..rng.place(4) {
         forge(rng, &mut state);
     }
-    let mut bytes: Vec<u8> = (0..SIZE + rng.place(13)).map(|_| rng.byte()).collect();
+    let mut bytes: Vec<u8> = (0..size(rng)).map(|_| rng.byte()).collect();
     state.put(&mut bytes);
     match rng.below(12) {
-        0 => bytes.truncate(rng.place(SIZE + 1)),
-        1 => damage(rng, &mut bytes),
+        0 => bytes.truncate(one_of(rng, &[0, 1, 28, SIZE - 4, SIZE - 1, SIZE])),
+        1 => bytes.truncate(rng.place(SIZE + 1)),
+        2 => damage(rng, &mut bytes),
         _ => {}
     }
     bytes
+}
+
+/// How many bytes are lent: enough for a state, sometimes too few modulo 2^8.
+fn size(rng: &mut Rng) -> usize {
+    match rng.below(16) {
+        0 => {
+            let few = rng.place(SIZE);
+            longer(rng, few)
+        }
+        _ => SIZE + rng.place(13),
+    }
 }
 
 /// A state whose cells hold line bits, a frame of them often the one that waits.
@@ -48,9 +62,23 @@ fn held_frames(rng: &mut Rng) -> State {
     state
 }
 
-/// Gives one of the numbers another value.
+/// A state of a reader that was fed some of a line.
+fn under_way(rng: &mut Rng) -> State {
+    let mut state = State::fresh();
+    let line = line_bytes(rng);
+    let mut rest = &line[..rng.place(line.len() + 1)];
+    while let Ok(fed) = state.feed_all(rest) {
+        rest = &rest[fed.used..];
+        if !state.waits || rng.bit() || state.take().is_err() {
+            break;
+        }
+    }
+    state
+}
+
+/// Gives one of the numbers another value, or turns over a bit that is held.
 fn forge(rng: &mut Rng, state: &mut State) {
-    match rng.below(10) {
+    match rng.below(14) {
         0 => state.end = around(rng, ROOM),
         1 => state.end = around(rng, ROOM - 64),
         2 => state.end = state.held + rng.place(ROOM),
@@ -58,9 +86,28 @@ fn forge(rng: &mut Rng, state: &mut State) {
         4 => state.held = rng.place(state.end + 2),
         5 => state.held = 30 * rng.place(34) + rng.place(4),
         6 => state.words = rng.place(MOST_WORDS + 3),
-        7 => state.at = (rng.below(64) as u32).wrapping_sub(32),
-        8 => state.waits = !state.waits,
-        _ => state.ended = !state.ended,
+        7 => {
+            state.words = rng.place(MOST_WORDS + 2);
+            state.held = 30 * state.words + 1 + rng.place(3);
+            state.end = state.end.max(state.held);
+        }
+        8 => state.at = (rng.below(64) as u32).wrapping_sub(32),
+        9 => state.waits = !state.waits,
+        10 => state.ended = !state.ended,
+        11 | 12 => turn_bit(rng, state),
+        _ => {
+            let more = 1 << one_of(rng, &[8, 16, 31]);
+            let counts = [&mut state.end, &mut state.held, &mut state.words];
+            *counts[rng.place(3)] += more;
+        }
+    }
+}
+
+/// Turns over one of the bits held.
+fn turn_bit(rng: &mut Rng, state: &mut State) {
+    let place = state.end.wrapping_sub(1 + rng.place(state.held + 1));
+    if let Some(cell) = state.cells.get_mut(place / 32) {
+        *cell ^= 1 << (31 - place % 32);
     }
 }
 
@@ -74,7 +121,10 @@ fn damage(rng: &mut Rng, bytes: &mut [u8]) {
     let any = rng.draw() as u32;
     let (place, number) = match rng.below(3) {
         0 => (0, MARK ^ 1 << rng.below(32)),
-        1 => (5 + rng.place(2), [2, 1 << 8, any][rng.place(3)]),
+        1 => {
+            let flags = [2, 255, 1 << 8, (1 << 8) + 1, (1 << 16) + 1, 1 << 31, any];
+            (5 + rng.place(2), one_of(rng, &flags))
+        }
         _ => (1 + rng.place(3), any),
     };
     bytes[4 * place..4 * place + 4].copy_from_slice(&number.to_le_bytes());

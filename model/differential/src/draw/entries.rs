@@ -1,0 +1,102 @@
+//! Entries, headers and frames that are right, each field often at an end of its
+//! range.
+
+use super::ends::inside;
+use rtcm2_model::frame::{Frame, Header, State};
+use rtcm2_model::record::correction::{self, Correction};
+use rtcm2_model::record::health::{self, Health};
+use rtcm2_model::record::position::{self, Position};
+use rtcm2_model::record::{null, text};
+use rtcm2_model::rng::Rng;
+use rtcm2_model::samples;
+
+/// A correction.
+pub fn correction(rng: &mut Rng) -> Correction {
+    Correction {
+        scale: inside(rng, 0, 1) as u8,
+        udre: inside(rng, 0, 3) as u8,
+        satellite: inside(rng, 1, 32) as u8,
+        prc: inside(rng, -32768, 32767) as i16,
+        rrc: inside(rng, -128, 127) as i8,
+        iod: inside(rng, 0, 255) as u8,
+    }
+}
+
+/// A satellite's health.
+pub fn satellite_health(rng: &mut Rng) -> Health {
+    Health {
+        reserved_first: inside(rng, 0, 1) as u8,
+        satellite: inside(rng, 1, 32) as u8,
+        iod_link: inside(rng, 0, 1) as u8,
+        health: inside(rng, 0, 7) as u8,
+        cn0: inside(rng, 0, 31) as u8,
+        enable: inside(rng, 0, 1) as u8,
+        new_data: inside(rng, 0, 1) as u8,
+        loss_warning: inside(rng, 0, 1) as u8,
+        time: inside(rng, 0, 15) as u8,
+        reserved_last: inside(rng, 0, 3) as u8,
+    }
+}
+
+/// A position.
+fn position(rng: &mut Rng) -> Position {
+    let mut centimetres = || inside(rng, -2_147_483_647, 2_147_483_647) as i32;
+    Position {
+        x: centimetres(),
+        y: centimetres(),
+        z: centimetres(),
+    }
+}
+
+/// So many characters.
+pub fn characters(rng: &mut Rng, count: usize) -> Vec<u8> {
+    (0..count).map(|_| inside(rng, 1, 127) as u8).collect()
+}
+
+/// A header of this type.
+fn header(rng: &mut Rng, type_number: u16) -> Header {
+    Header {
+        type_number,
+        station: inside(rng, 0, 1023) as u16,
+        z_count: inside(rng, 0, 5999) as u16,
+        sequence: inside(rng, 0, 7) as u8,
+        state: State::of_code(inside(rng, 0, 7) as u32),
+    }
+}
+
+/// A count from 1 to the most.
+fn count(rng: &mut Rng, most: usize) -> usize {
+    inside(rng, 1, most as i64) as usize
+}
+
+/// A frame of this type, with a record if the type has one.
+pub fn frame(rng: &mut Rng, type_number: u16) -> Frame {
+    let header = header(rng, type_number);
+    let made = match type_number {
+        1 | 9 => {
+            let entries = [(); correction::MOST].map(|()| correction(rng));
+            correction::make(&header, &entries, count(rng, correction::MOST))
+        }
+        3 => position::make(&header, &position(rng)),
+        5 => {
+            let entries = [(); health::MOST].map(|()| satellite_health(rng));
+            health::make(&header, &entries, count(rng, health::MOST))
+        }
+        6 => null::make(&header),
+        16 => {
+            let count = count(rng, text::MOST);
+            text::make(&header, &characters(rng, count))
+        }
+        _ => Ok(any_words(rng, type_number)),
+    };
+    made.expect("a right record")
+}
+
+/// A frame of this type and any words, as many as N can say.
+pub fn any_words(rng: &mut Rng, type_number: u16) -> Frame {
+    let n = inside(rng, 0, 31) as u8;
+    Frame {
+        header: header(rng, type_number),
+        ..samples::plain_frame(rng, type_number, n)
+    }
+}
