@@ -4,6 +4,7 @@ use Prim.Native.Nat.{ℕ, _-_, _^_, _<_}
 use lib.ListN.{length, take, drop, getD, replicate}
 use Rattle.bits.specs.Bits.{bits, number}
 use Rattle.frame.specs.Header.{headerOf, firstWord, secondWord}
+use Rattle.frame.specs.declared.State.the-variants.{Factor}
 use Rattle.frame.specs.declared.Header.{Header}
 use Rattle.frame.specs.declared.Frame.{Frame}
 
@@ -23,10 +24,9 @@ wordsOf f = number (firstWord (f .header)) ∷ number (secondWord (f .header) (f
 unfoldable pub frameOf : List ℕ → Frame
 frameOf ws = framed (headerOf (bits 24 (getD ws 0 0)) (bits 24 (getD ws 1 0))) (drop 2 ws)
 
--- what stands for a frame where there is none: type 64, station 0, Z count 0, sequence 0, factor 1.00, N 0, as two words of zeros have it
+-- what stands for a frame where there is none: no type has the number 0, so every call that is given it refuses it with 5
 unfoldable pub blank : Frame
-unfolding frameOf
-blank = frameOf []
+blank = record { header = record { kind = 0; station = 0; z = 0; sequence = 0; state = Factor 100 }; n = 0; words = replicate 31 0 }
 
 -- each of these words has at most 24 bits
 abbrev pub Below : List ℕ → Type 0

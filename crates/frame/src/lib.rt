@@ -124,13 +124,18 @@ pub fn header_of(first: u32, second: u32) -> Header
     }
 }
 
-// What stands for a frame where there is none: what two words of zeros give, with N 0.
+// What stands for a frame where there is none: type 0, which every call refuses with 5.
 pub fn no_frame() -> Frame
     ensures { λ r. ⌜ r ≡ blank ⌝ }
 {
-    let header = header_of(0, 0);
     Frame {
-        header,
+        header: Header {
+            kind: 0,
+            station: 0,
+            z: 0,
+            sequence: 0,
+            state: State::Factor(100),
+        },
         n: 0,
         words: [0u32; 31],
     }

@@ -66,8 +66,8 @@ fed-tail l bs u fed e = e ∙ ap (fedOn l) (take-all (length bs - u) (drop u bs)
 
 -- the state of every frame that taking answers is within its widths
 blank-inside : stateOutside (blank .header .state) ≡ false
-unfolding blank frameOf framed headerOf
-blank-inside = state-inside _
+unfolding blank stateOutside factors
+blank-inside = refl
 
 frame-inside : (d : List Bool) → stateOutside (frameAt d .header .state) ≡ false
 unfolding frameAt framed headerOf

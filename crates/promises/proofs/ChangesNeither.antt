@@ -78,6 +78,7 @@ changes-neither = record {
 pub number-alone : NumberAlone
 unfolding fedAllBy takenBy makeCorrections makeHealths makePosition makeNull makeText refusedMade pieceBy finishBy
 number-alone = record {
+  blank-outside = unfold blank outside headerOutside numbersOutside in refl;
   feed-all = λ r bs. keeps (carries-its-number .feed-all r bs) (λ (x : FedAll). (x .used, x .passed)) (fed-none r) _ _ (λ n. refl);
   reader-take = λ r. keeps (carries-its-number .reader-take r) (λ (x : Taken). (x .at, x .frame)) (taken-none r) _ _ (λ n. refl);
   recall = λ bs. keeps (carries-its-number .recall bs) (λ (x : Recalled). x .frame) unrecalled _ _ (λ n. refl);

@@ -1,11 +1,13 @@
 -- DEMAND 1, "A refusal .. changes neither state nor buffer": each call that is given a state or lent a buffer (RULES 10). What a call says is its
 -- answer in the table's terms. Assumes nothing.
 use mathlib.Core.Path.{_≡_}
+use mathlib.Core.Bool.{true}
 use mathlib.Core.List.{List}
 use Prim.Native.Nat.{ℕ}
 use lib.ListN.{length, drop}
 use Rattle.answer.specs.Order.{Says, refuses, answers}
 use Rattle.frame.specs.Frames.{blank}
+use Rattle.frame.specs.Widths.{outside}
 use Rattle.frame.specs.declared.Header.{Header}
 use Rattle.frame.specs.declared.Frame.{Frame}
 use Rattle.reader.specs.Reading.{fedBy, fedAllBy, endedBy, takenBy, saysAnswer}
@@ -43,8 +45,10 @@ pub record ChangesNeither : Type 0 where
   pub finish : (l : Listing) (room : ℕ) → Keeps (saysAnswer (finishBy l room .answer)) (finishBy l room .listing) l
   pub finish-output : (l : Listing) (out : List ℕ) → Keeps (saysAnswer (finishBy l (length out) .answer)) (finishText l out) out
 
--- a refusal is its number and nothing more (RULES 10): what else its answer has room for is zeros and a blank frame
+-- a refusal is its number and nothing more (RULES 10): what else its answer has room for is zeros and a blank frame, which every call that is given
+-- it refuses with 5
 pub record NumberAlone : Type 0 where
+  pub blank-outside : outside blank ≡ true
   pub feed-all : (r : Reader) (bs : List ℕ) → Keeps {B = ℕ × ℕ} (saysAnswer (fedAllBy r bs .answer)) (fedAllBy r bs .used, fedAllBy r bs .passed) (0, 0)
   pub reader-take : (r : Reader) → Keeps {B = ℕ × Frame} (saysAnswer (takenBy r .answer)) (takenBy r .at, takenBy r .frame) (0, blank)
   pub recall : (bs : List ℕ) → Keeps (saysRecalled (recalledBy bs)) (recalledBy bs .frame) blank

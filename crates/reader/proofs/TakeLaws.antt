@@ -9,13 +9,13 @@ use lib.ListN.{length, set, replicate}
 use lib.Seq.{set-at}
 use borrow.Author.Count.{below-more}
 use Rattle.bits.specs.Bits.{bits, number}
-use Rattle.word.specs.Word.{dataOf}
+use Rattle.word.specs.Word.{dataOf, passes}
 use Rattle.frame.specs.Header.{headerOf, nOf}
 use Rattle.frame.specs.Frames.{framed}
 use Rattle.frame.specs.declared.Header.{Header}
 use Rattle.frame.specs.declared.Frame.{Frame}
 use Rattle.stream.specs.Standing.{wordAt, right, nAt, size, Stands, stands, dataFrom, frameAt}
-use Rattle.stream.proofs.Words.{length-dataFrom, data-more, frame-n, unlike}
+use Rattle.stream.proofs.Words.{length-dataFrom, data-more, frame-n, unlike, right-later}
 use Rattle.stream.proofs.Stand.{stands-long, test-stands, stands-test, not-test}
 use Rattle.reader.specs.Cells.{heldBits}
 use Rattle.reader.specs.Hunting.{huntOf}
@@ -103,11 +103,8 @@ module _ (cells : List ℕ) (len : length cells ≡ 40) (end : ℕ) (top : end �
         place : end - held + 60 + 30 * k ≡ end - held + 30 * (2 + k)
         place = omega arith
 
-    pub right-here : (b : Bool) → b ≡ right (k + 2) (bits 32 w) → right (2 + k) (wordAt (2 + k) d) ≡ b
-    right-here b f = ap (right (2 + k)) (sym word-here) ∙ ap (λ m. right m (bits 32 w)) turned ∙ sym f
-      where
-        turned : 2 + k ≡ k + 2
-        turned = omega arith
+    pub right-here : (b : Bool) → b ≡ passes (bits 32 w) → right (2 + k) (wordAt (2 + k) d) ≡ b
+    right-here b f = ap (right (2 + k)) (sym word-here) ∙ right-later (2 + k) (bits 32 w) (λ z. omega arith) ∙ sym f
 
   -- the header's two words
   module _ (some : 62 ≤ held) (one two n : ℕ) (e1 : one ≡ seen cells (end - held)) (e2 : two ≡ seen cells (end - held + 30)) (en : n ≡ nOf (dataOf (bits 32 two))) where
@@ -129,15 +126,15 @@ module _ (cells : List ℕ) (len : length cells ≡ 40) (end : ℕ) (top : end �
     pub wrong-first : (b : Bool) → b ≡ right 0 (bits 32 one) → b ≡ false → Stands d → ⊥
     wrong-first b f z = wrong-word d 0 (omega arith) (ap (right 0) (sym first) ∙ sym f ∙ z)
 
-    pub wrong-second : (b : Bool) → b ≡ right 1 (bits 32 two) → b ≡ false → Stands d → ⊥
-    wrong-second b f z = wrong-word d 1 (omega arith) (ap (right 1) (sym second) ∙ sym f ∙ z)
+    pub wrong-second : (b : Bool) → b ≡ passes (bits 32 two) → b ≡ false → Stands d → ⊥
+    wrong-second b f z = wrong-word d 1 (omega arith) (ap (right 1) (sym second) ∙ right-later 1 (bits 32 two) (λ e. omega arith) ∙ sym f ∙ z)
 
-    pub header-here : true ≡ right 0 (bits 32 one) → true ≡ right 1 (bits 32 two) → (x y : ℕ) → x ≡ number (dataOf (bits 32 one)) → y ≡ number (dataOf (bits 32 two))
+    pub header-here : true ≡ right 0 (bits 32 one) → true ≡ passes (bits 32 two) → (x y : ℕ) → x ≡ number (dataOf (bits 32 one)) → y ≡ number (dataOf (bits 32 two))
         → (h : Header) → h ≡ headerOf (bits 24 x) (bits 24 y) → HeaderIn d h n
     header-here r1 r2 x y ex ey h eh = record {
       words = eh ∙ ap₂ headerOf (bits-data one x ex ∙ ap dataOf first) (bits-data two y ey ∙ ap dataOf second);
       count = n-here;
-      right = right-two d (ap (right 0) (sym first) ∙ sym r1) (ap (right 1) (sym second) ∙ sym r2);
+      right = right-two d (ap (right 0) (sym first) ∙ sym r1) (ap (right 1) (sym second) ∙ right-later 1 (bits 32 two) (λ e. omega arith) ∙ sym r2);
     }
 
 -- ---- 5, 4

@@ -17,17 +17,24 @@ pub struct Stop {
     pub found: bool,
 }
 
-// Word k of a candidate is right: its parity, and of the first word the preamble, which is looked at before.
-pub(crate) fn right(k: usize, window: u32) -> bool
+// The first word of a candidate is right: its preamble, then its parity.
+pub(crate) fn headed(window: u32) -> bool
+    ensures { λ r. ⌜ r ≡ rightly 0 (bits 32 window) ⌝ }
+{
+    if !frame::has_preamble(word::data_of(window)) {
+        return false;
+    }
+    word::passes(window)
+}
+
+// Word k of a candidate is right: its parity, and of the first word the preamble too.
+fn right(k: usize, window: u32) -> bool
     ensures { λ r. ⌜ r ≡ rightly k (bits 32 window) ⌝ }
 {
     if k != 0 {
         return word::passes(window);
     }
-    if !frame::has_preamble(word::data_of(window)) {
-        return false;
-    }
-    word::passes(window)
+    headed(window)
 }
 
 // N, in the window of a second word.

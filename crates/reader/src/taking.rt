@@ -5,8 +5,8 @@ ghost use lib.ListN.{length};
 ghost use Rattle.reader.specs.Cells.{heldBits};
 ghost use Rattle.reader.specs.Taking.{noneThere, thereIn, HeaderIn};
 use crate::cells::window;
+use crate::hunt::headed;
 use crate::hunt::n_in;
-use crate::hunt::right;
 use frame::Frame;
 use frame::Header;
 
@@ -36,7 +36,7 @@ fn filled(cells: &[u32; 40], end: usize, held: usize, header: Header, n: usize) 
     let mut k: usize = 0;
     while k < n {
         let w = window(cells, first + 30 * k);
-        if !right(k + 2, w) {
+        if !word::passes(w) {
             return nothing();
         }
         words[k] = word::data_of(w);
@@ -62,10 +62,10 @@ pub(crate) fn standing(cells: &[u32; 40], end: usize, held: usize) -> There
     if held < 62 + 30 * n {
         return nothing();
     }
-    if !right(0, one) {
+    if !headed(one) {
         return nothing();
     }
-    if !right(1, two) {
+    if !word::passes(two) {
         return nothing();
     }
     let header = frame::header_of(word::data_of(one), word::data_of(two));

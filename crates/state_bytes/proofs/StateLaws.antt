@@ -2,18 +2,19 @@
 use mathlib.Core.Path.{_≡_, refl, sym, ap, _∙_}
 use mathlib.Core.Bool.{Bool, true, false, _&&_, not}
 use mathlib.Core.List.{List, _++_}
-use Prim.Native.Nat.{ℕ, _+_, _≤_, _<_}
+use Prim.Native.Nat.{ℕ, _+_, _^_, _≤_, _<_}
 use native.Mathlib.Omega.{arith}
 use lib.Dec.{ltb, eqb}
 use lib.ListN.{length, take, drop}
 use lib.Seq.{sets, sets-eq}
-use borrow.Author.Tests.{lt-ltb, le-ltb, ltb-false}
+use borrow.Author.Tests.{lt-ltb, le-ltb, ltb-false, lt-leb}
 use Rattle.bits.specs.Bits.{val}
 use Rattle.reader.specs.Reading.{started}
 use Rattle.reader.specs.declared.Candidate.{Candidate}
 use Rattle.reader.specs.declared.Reader.{Reader}
 use Rattle.state_bytes.specs.Numbers.{lowBytes, numberIn, numbersWritten, numbersIn}
-use Rattle.state_bytes.specs.State.{startOf, stateNumbers, readerOf, areState, holdsState, stateIn, startPut, statePut}
+use Rattle.state_bytes.specs.State.{startOf, stateNumbers, readerOf, areState, holdsState, stateIn, tooWide, storedBy, startPut, statePut}
+use Rattle.state_bytes.specs.declared.Stored.the-variants as stored
 use Rattle.state_bytes.proofs.NumberLaws.{length-written, number-of, numbers-from}
 use Rattle.state_bytes.proofs.StoreLaws.{store-both, store-seven}
 
@@ -92,40 +93,57 @@ pub put-counts : (c : Candidate) (ended : Bool) (l : List ℕ) {l₁ l₂ l₃ l
 put-counts c ended l em ea ew ee e₁ e₂ e₃ e₄ e₅ e₆ e₇ =
     rw (e₇, e₆, e₅, e₄, e₃, e₂, e₁, em, ea, ew, ee) (store-seven l 0x31533252 (c .end) (c .held) (c .words) (c .at) (val (c .waits)) (val ended))
 
+-- counts of less than 32 bits
+pub narrow : (c : Candidate) → c .end < 2 ^ 32 → c .held < 2 ^ 32 → c .words < 2 ^ 32 → tooWide c ≡ false
+unfolding tooWide
+narrow c e h w = rw (lt-leb (2 ^ 32) (c .end) e, lt-leb (2 ^ 32) (c .held) h, lt-leb (2 ^ 32) (c .words) w)
+
 module _ (c : Candidate) (ended : Bool) (bs : List ℕ) where
-  pub start-short : length bs < 188 → startPut c ended bs ≡ bs
+  pub start-wide : tooWide c ≡ true → (stored.Refused 5 ≡ storedBy c bs) × (bs ≡ startPut c ended bs)
   unfolding startPut
-  start-short h = rw (lt-ltb (length bs) 188 h)
+  start-wide w = (rw w, rw w)
 
-  -- where there are at least 188 bytes
-  pub start-is : 188 ≤ length bs → startPut c ended bs ≡ numbersWritten (startOf c ended) ++ drop 28 bs
-  unfolding startPut
-  start-is h = rw (le-ltb (length bs) 188 h)
+  module _ (w : tooWide c ≡ false) where
+    pub start-short : length bs < 188 → (stored.Refused 13 ≡ storedBy c bs) × (bs ≡ startPut c ended bs)
+    unfolding startPut
+    start-short h = (rw (w, lt-ltb (length bs) 188 h), rw (w, lt-ltb (length bs) 188 h))
 
-  pub start-whole : 188 ≤ length bs → {l : List ℕ} → l ≡ sets bs 0 (numbersWritten (startOf c ended)) → l ≡ startPut c ended bs
-  start-whole h e =
+    pub start-done : 188 ≤ length bs → stored.Done ≡ storedBy c bs
+    start-done h = rw (w, le-ltb (length bs) 188 h)
+
+    -- where there are at least 188 bytes
+    pub start-is : 188 ≤ length bs → startPut c ended bs ≡ numbersWritten (startOf c ended) ++ drop 28 bs
+    unfolding startPut
+    start-is h = rw (w, le-ltb (length bs) 188 h)
+
+  pub start-whole : tooWide c ≡ false → 188 ≤ length bs → {l : List ℕ} → l ≡ sets bs 0 (numbersWritten (startOf c ended)) → l ≡ startPut c ended bs
+  start-whole w h e =
       e ∙ sets-eq (numbersWritten (startOf c ended)) bs 0 (omega (arith, size)) ∙ ap (λ j. numbersWritten (startOf c ended) ++ drop j bs) size
-      ∙ sym (start-is h)
+      ∙ sym (start-is w h)
     where
       size : 0 + length (numbersWritten (startOf c ended)) ≡ 28
       size = omega (arith, length-written (startOf c ended))
 
 module _ (r : Reader) (bs : List ℕ) where
-  pub put-short : length bs < 188 → statePut r bs ≡ bs
+  pub put-wide : tooWide (r .candidate) ≡ true → bs ≡ statePut r bs
   unfolding statePut
-  put-short h = rw (lt-ltb (length bs) 188 h)
+  put-wide w = rw w
+
+  pub put-short : tooWide (r .candidate) ≡ false → length bs < 188 → bs ≡ statePut r bs
+  unfolding statePut
+  put-short w h = rw (w, lt-ltb (length bs) 188 h)
 
   -- the start, then the cells
-  pub put-whole : length (r .cells) ≡ 40 → 188 ≤ length bs → {l m : List ℕ}
+  pub put-whole : tooWide (r .candidate) ≡ false → length (r .cells) ≡ 40 → 188 ≤ length bs → {l m : List ℕ}
       → l ≡ sets bs 0 (numbersWritten (startOf (r .candidate) (r .ended))) → m ≡ sets l 28 (numbersWritten (r .cells))
       → m ≡ statePut r bs
   unfolding statePut stateNumbers
-  put-whole full h {l} {m} el em =
+  put-whole w full h {l} {m} el em =
       em ∙ ap (λ k. sets k 28 (numbersWritten (r .cells))) el
       ∙ sym (store-both (startOf (r .candidate) (r .ended)) (r .cells) bs 0)
       ∙ sets-eq (numbersWritten (startOf (r .candidate) (r .ended) ++ r .cells)) bs 0 (omega (arith, size))
       ∙ ap (λ j. numbersWritten (startOf (r .candidate) (r .ended) ++ r .cells) ++ drop j bs) size
-      ∙ sym (rw (le-ltb (length bs) 188 h))
+      ∙ sym (rw (w, le-ltb (length bs) 188 h))
     where
       size : 0 + length (numbersWritten (startOf (r .candidate) (r .ended) ++ r .cells)) ≡ 188
       size = omega (arith, length-written (startOf (r .candidate) (r .ended) ++ r .cells))

@@ -7,12 +7,18 @@ ghost use lib.ListN.{length, drop};
 ghost use lib.Seq.{sets};
 ghost use Rattle.bits.specs.Bits.{val};
 ghost use Rattle.state_bytes.specs.Numbers.{numbersWritten, numbersIn};
-ghost use Rattle.state_bytes.specs.State.{startOf, holdsState, stateIn, startPut, statePut};
+ghost use Rattle.state_bytes.specs.State.{startOf, holdsState, stateIn, tooWide, storedBy, startPut, statePut};
 use crate::number::number_at;
 use crate::number::put_number;
 use crate::number::wide;
 use reader::Candidate;
 use reader::Reader;
+
+// A state is put in bytes, or the refusal's number.
+pub enum Stored {
+    Done,
+    Refused(u8),
+}
 
 // How many bytes a state takes.
 const SIZE: usize = 188;
@@ -106,14 +112,32 @@ fn put_counts(c: Candidate, ended: bool, bytes: &mut [u8])
     put_number(flag(ended), 24, bytes);
 }
 
-// Puts the mark, the counts and the two flags alone, where the cells are those that stand there; fewer than 188 bytes stay as they are.
-pub fn put_start(c: Candidate, ended: bool, bytes: &mut [u8])
+// A count that four bytes can't hold.
+fn too_wide(c: Candidate) -> bool
+    ensures { λ r. ⌜ r ≡ tooWide c ⌝ }
+{
+    if c.end >= 4294967296 {
+        return true;
+    }
+    if c.held >= 4294967296 {
+        return true;
+    }
+    c.words >= 4294967296
+}
+
+// Puts the mark, the counts and the two flags alone, where the cells are those that stand there: 5, 13.
+pub fn put_start(c: Candidate, ended: bool, bytes: &mut [u8]) -> Stored
+    ensures { λ r. ⌜ r ≡ storedBy c (now (bytes .entry)) ⌝ }
     ensures { λ _. ⌜ now (bytes .exit) ≡ startPut c ended (now (bytes .entry)) ⌝ }
 {
+    if too_wide(c) {
+        return Stored::Refused(5);
+    }
     if bytes.len() < SIZE {
-        return;
+        return Stored::Refused(13);
     }
     put_counts(c, ended, bytes);
+    Stored::Done
 }
 
 // Puts the forty cells.
@@ -130,14 +154,19 @@ fn put_cells(cells: &[u32; 40], bytes: &mut [u8])
     }
 }
 
-// Puts a reader's state, each number modulo 2^32, to the first 188 bytes; fewer bytes stay as they are.
-pub fn put_state(reader: Reader, bytes: &mut [u8])
+// Puts a reader's state to the first 188 bytes: 5, 13.
+pub fn put_state(reader: Reader, bytes: &mut [u8]) -> Stored
+    ensures { λ r. ⌜ r ≡ storedBy (reader .candidate) (now (bytes .entry)) ⌝ }
     ensures { λ _. ⌜ now (bytes .exit) ≡ statePut reader (now (bytes .entry)) ⌝ }
 {
-    if bytes.len() < SIZE {
-        return;
-    }
     let candidate = reader.candidate;
+    if too_wide(candidate) {
+        return Stored::Refused(5);
+    }
+    if bytes.len() < SIZE {
+        return Stored::Refused(13);
+    }
     put_counts(candidate, reader.ended, bytes);
     put_cells(&reader.cells, bytes);
+    Stored::Done
 }

@@ -41,7 +41,7 @@ returns c =
     let a = s .args in
     let d = heldBits (now (a .cells)) (a .end) (a .held) in
     let wrong = right-here (now (a .cells)) (s .pre .0) (a .end) (s .pre .1) (a .held) (s .pre .2) (h .k) (looked .window .result) (omega arith) (looked .window .ensures)
-    (c .before .before .right .result) (c .before .before .right .ensures) ∙ not-true _ (c .before .if1 .taken) in
+    (c .before .before .passes .result) (c .before .before .passes .ensures) ∙ not-true _ (c .before .if1 .taken) in
     there-none d (wrong-word d (2 + h .k) (omega (arith, s .pre .3 .count)) wrong) (c .nothing .result) (c .nothing .ensures)
 
 array-write-words : tie.Need-array-write-words Inv-loop μ-loop
@@ -58,7 +58,7 @@ loop-again c =
     let d = heldBits (now (a .cells)) (a .end) (a .held) in
     let word = word-here (now (a .cells)) (s .pre .0) (a .end) (s .pre .1) (a .held) (s .pre .2) (h .k) (looked .window .result) (omega arith) (looked .window .ensures) in
     let right = right-here (now (a .cells)) (s .pre .0) (a .end) (s .pre .1) (a .held) (s .pre .2) (h .k) (looked .window .result) (omega arith) (looked .window .ensures)
-    (c .before .before .right .result) (c .before .before .right .ensures) ∙ not-false _ (c .before .if1 .left) in
+    (c .before .before .passes .result) (c .before .before .passes .ensures) ∙ not-false _ (c .before .if1 .left) in
     let more : 2 + h .k + 1 ≡ 2 + (h .k + 1) = omega arith in (
       omega arith,
       gather-step (h .words) (h .k) (c .data-of .result) d (h .inv .1) (omega (arith, s .pre .3 .count, n-lt d)) (c .data-of .ensures ∙ ap (λ x. number (dataOf x)) word),
@@ -81,5 +81,5 @@ pub filled-spec : {M : Type 1} → statement M
 filled-spec =
     tie.close
     (tie.spec Inv-loop μ-loop (λ c. search needs) (λ c. search needs) loop-holds (λ c. search needs) (λ c. search needs) window-requires
-    (λ c. search needs) (λ c κs. search needs) (λ c κs. search needs) returns (λ c κs. search needs) (λ c. search needs) array-write-words
+    (λ c κs. search needs) (λ c κs. search needs) returns (λ c κs. search needs) (λ c. search needs) array-write-words
     (λ c. search needs) (λ c. search needs) loop-again returns-2)

@@ -43,7 +43,7 @@ returns-3 c =
     let s = one .before .before in
     let a = s .args in
     there-none _ (wrong-first (now (a .cells)) (s .pre .0) (a .end) (s .pre .1) (a .held) (s .pre .2) (one .before .if1 .left) (one .window .result) (two .window2 .result) (counted .n-in .result)
-    (one .window .ensures) (two .window2 .ensures) (counted .n-in .ensures) (first .right .result) (first .right .ensures) (not-true _ (c .before .if3 .taken))) (c .nothing3 .result) (c .nothing3 .ensures)
+    (one .window .ensures) (two .window2 .ensures) (counted .n-in .ensures) (first .headed .result) (first .headed .ensures) (not-true _ (c .before .if3 .taken))) (c .nothing3 .result) (c .nothing3 .ensures)
 
 returns-4 : tie.Need-returns-4
 returns-4 c =
@@ -55,7 +55,7 @@ returns-4 c =
     let s = one .before .before in
     let a = s .args in
     there-none _ (wrong-second (now (a .cells)) (s .pre .0) (a .end) (s .pre .1) (a .held) (s .pre .2) (one .before .if1 .left) (one .window .result) (two .window2 .result) (counted .n-in .result)
-    (one .window .ensures) (two .window2 .ensures) (counted .n-in .ensures) (second .right2 .result) (second .right2 .ensures) (not-true _ (c .before .if4 .taken))) (c .nothing4 .result) (c .nothing4 .ensures)
+    (one .window .ensures) (two .window2 .ensures) (counted .n-in .ensures) (second .passes .result) (second .passes .ensures) (not-true _ (c .before .if4 .taken))) (c .nothing4 .result) (c .nothing4 .ensures)
 
 filled-requires : tie.Need-filled-requires
 filled-requires c κs =
@@ -70,7 +70,7 @@ filled-requires c κs =
     let a = s .args in
     let header = header-here (now (a .cells)) (s .pre .0) (a .end) (s .pre .1) (a .held) (s .pre .2) (one .before .if1 .left) (one .window .result) (two .window2 .result) (counted .n-in .result)
     (one .window .ensures) (two .window2 .ensures) (counted .n-in .ensures)
-    (sym (not-false _ (second .before .if3 .left)) ∙ first .right .ensures) (sym (not-false _ (data1 .before .if4 .left)) ∙ second .right2 .ensures)
+    (sym (not-false _ (second .before .if3 .left)) ∙ first .headed .ensures) (sym (not-false _ (data1 .before .if4 .left)) ∙ second .passes .ensures)
     (data1 .data-of .result) (data2 .data-of2 .result) (data1 .data-of .ensures) (data2 .data-of2 .ensures) (c .header-of .result) (c .header-of .ensures) in
     (s .pre .0, s .pre .1, s .pre .2, header, first .before .if2 .left)
 
