@@ -119,5 +119,5 @@ pub fn make_corrections(header: Header, entries: [Correction; 18], count: usize)
     ensures { λ r. ⌜ r ≡ makeCorrections header entries count ⌝ }
 {
     let rows = rows_of(entries, count);
-    stage::make_list(Layout::Correction, 18, FILL, header, count, rows)
+    stage::make_frame(Layout::Correction, 18, FILL, header, count, rows)
 }

@@ -125,5 +125,5 @@ pub fn make_healths(header: Header, entries: [SatelliteHealth; 31], count: usize
     ensures { λ r. ⌜ r ≡ makeHealths header entries count ⌝ }
 {
     let rows = rows_of(entries, count);
-    stage::make_list(Layout::Health, 31, FILL, header, count, rows)
+    stage::make_frame(Layout::Health, 31, FILL, header, count, rows)
 }

@@ -8,9 +8,7 @@ use frame::Layout;
 use frame::Widths;
 use stage::Asked;
 use stage::Made;
-use stage::Making;
 use stage::Size;
-use stage::Suited;
 
 // A null frame, or the refusal's number.
 pub enum NullRead {
@@ -38,20 +36,9 @@ pub fn read_null(frame: Frame) -> NullRead
     NullRead::Null
 }
 
-// A null frame: 5, 6, 7.
+// A null frame, of one row without fields: 5, 6, 7.
 pub fn make_null(header: Header) -> Made
     ensures { λ r. ⌜ r ≡ makeNull header ⌝ }
 {
-    let suited = stage::suits(Layout::Null, header);
-    if let Suited::Refused(n) = suited {
-        return stage::refused(n);
-    }
-    Made {
-        answer: Making::Done,
-        frame: Frame {
-            header,
-            n: 0,
-            words: [0; 31],
-        },
-    }
+    stage::make_frame(Layout::Null, 1, 0, header, 1, pack::no_rows())
 }

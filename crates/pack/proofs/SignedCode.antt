@@ -118,13 +118,15 @@ up w z f h = record { sfits = omega (arith, f .sfits, h) }
 pub meant-fits : (w : Width) (z : ℤ) (n : ℕ) → z ≡ signed (hbits w) n → n < 2 ^ suc (hbits w) → SFits w z
 meant-fits w z n e h = record { sfits = rw e (mag-signed (hbits w) n h) }
 
--- a field that fits its width, read as a signed number and held in a local; a signed number in a struct, and its code
+-- a code that fits its width, read as a signed number and held in a local
+pub signed-held : (w : Width) (z : ℤ) (n : ℕ) → z ≡ signed (hbits w) n → n < 2 ^ suc (hbits w) → toZ w (ofZ w z) ≡ signed (hbits w) n
+signed-held w z n e l = toZ-ofZ w z (meant-fits w z n e l) ∙ e
+
+-- .. of which the low bits were read
 pub signed-read : (w : Width) (z : ℤ) (n : ℕ) → z ≡ signed (hbits w) (n % 2 ^ suc (hbits w)) → n < 2 ^ suc (hbits w)
     → toZ w (ofZ w z) ≡ signed (hbits w) n
-signed-read w z n e l = toZ-ofZ w z (meant-fits w z n is l) ∙ is
-  where
-    is : z ≡ signed (hbits w) n
-    is = e ∙ ap (signed (hbits w)) (mod-eq-of-lt l)
+signed-read w z n e l = signed-held w z n (e ∙ ap (signed (hbits w)) (mod-eq-of-lt l)) l
 
+-- the code of a signed number in a struct
 pub code-sent : (w : Width) (z : ℤ) (n : ℕ) → n ≡ code (hbits w) (toZ w (ofZ w z)) → mag z < 2 ^ hbits w → n ≡ code (hbits w) z
 code-sent w z n e l = e ∙ ap (code (hbits w)) (toZ-ofZ w z (record { sfits = l }))

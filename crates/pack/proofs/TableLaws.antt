@@ -1,7 +1,7 @@
 -- What the loops over a table do, over any table: the fields one after the other, the values pushed, the ranges, the rows; and that fields
 -- which lie in the words are those of the bits. Assumes nothing.
 use mathlib.Core.Path.{_≡_, refl, sym, ap, ap₂, _∙_}
-use mathlib.Core.Bool.{Bool, true, false, _||_, cond, or-assoc}
+use mathlib.Core.Bool.{Bool, true, false, _||_, cond, or-assoc, or-false}
 use mathlib.Core.List.{List, [], _∷_, _++_, map, append-nil}
 use Prim.Native.Nat.{ℕ, zero, suc, _+_, _-_, _%_, _^_, _≤_, _<_}
 use native.Mathlib.Nat.{add-zero, mod-mod}
@@ -167,10 +167,6 @@ pub rows-put : (ws ls ms : List ℕ) (rs : List (List ℕ)) (r : Rows)
     → putRows ws ls ms rs r ≡ record { packer = pushedRows ws rs (r .packer); out = r .out || anyOf (rowOut ls ms) rs }
 unfolding putRow
 rows-put ws ls ms [] r = ap (λ b. record { packer = r .packer; out = b }) (sym (or-false (r .out)))
-  where
-    or-false : (b : Bool) → (b || false) ≡ b
-    or-false true = refl
-    or-false false = refl
 rows-put ws ls ms (v ∷ vs) r =
     rows-put ws ls ms vs (putRow ws ls ms v r)
     ∙ ap (λ b. record { packer = pushedRows ws vs (pushedAll ws v (r .packer)); out = b }) (or-assoc (r .out) (rowOut ls ms v) (anyOf (rowOut ls ms) vs))

@@ -89,7 +89,7 @@ pub fn fields(words: [u32; 31], at: u32, widths: &[u32]) -> [u32; 12]
 }
 
 // Nothing put yet.
-pub fn empty() -> Packer
+fn empty() -> Packer
     ensures { λ r. ⌜ r ≡ emptyPacker ⌝ }
 {
     Packer {
@@ -124,7 +124,7 @@ fn flush(packer: Packer) -> Packer
 }
 
 // The low `width` bits of `value`, put after what is there; a width over 32 puts nothing.
-pub fn push(packer: Packer, width: u32, value: u32) -> Packer
+fn push(packer: Packer, width: u32, value: u32) -> Packer
     ensures { λ r. ⌜ r ≡ pushed packer width value ⌝ }
 {
     if width > 32 {

@@ -3,22 +3,21 @@ ghost use mathlib.Core.Path.{_≡_};
 ghost use mathlib.Core.List.{_∷_, []};
 ghost use Rattle.bits.specs.Fields.{fieldsAt};
 ghost use Rattle.bits.specs.Rows.{dataBits};
-ghost use Rattle.pack.specs.Packing.{emptyPacker, pushedRows, filledUp};
+ghost use Rattle.pack.specs.Packing.{emptyPacker, pushedRows};
 ghost use Rattle.pack.specs.Coding.{rowsOf};
 ghost use Rattle.stage.specs.Stages.{rangedOf};
-ghost use Rattle.positions.specs.Positions.{widths, meant, coding, fill, tooLow, outOfRange, readPosition, makePosition};
+ghost use Rattle.positions.specs.Positions.{widths, meant, coding, tooLow, outOfRange, readPosition, makePosition};
 use frame::Clock;
 use frame::Frame;
 use frame::Header;
 use frame::Layout;
 use frame::Widths;
 use pack::Packer;
+use pack::Rows;
 use stage::Asked;
 use stage::Made;
-use stage::Making;
 use stage::Ranged;
 use stage::Size;
-use stage::Suited;
 
 // The station's antenna, in centimetres.
 pub struct Position {
@@ -32,6 +31,9 @@ pub enum PositionRead {
     At(Position),
     Refused(u8),
 }
+
+// THE LAYOUT: the widths of the three fields; they end with a word, and nothing is filled.
+const WIDTHS: [u32; 3] = [32, 32, 32];
 
 // -2147483648 is outside the range.
 fn too_low(coordinate: i32) -> bool
@@ -67,10 +69,12 @@ fn range_of(position: Position) -> Ranged
 fn position_from(words: [u32; 31]) -> Position
     ensures { λ r. ⌜ r ≡ meant (fieldsAt widths 0 (dataBits words)) ⌝ }
 {
-    let x = pack::signed32(pack::field(words, 0, 32));
-    let y = pack::signed32(pack::field(words, 32, 32));
-    let z = pack::signed32(pack::field(words, 64, 32));
-    Position { x, y, z }
+    let row = pack::fields(words, 0, &WIDTHS);
+    Position {
+        x: pack::signed32(row[0]),
+        y: pack::signed32(row[1]),
+        z: pack::signed32(row[2]),
+    }
 }
 
 // The position of a frame: 5, 6, 7, 8, 10.
@@ -98,39 +102,24 @@ pub fn read_position(frame: Frame) -> PositionRead
     PositionRead::At(position)
 }
 
-// The three numbers, put one after the other; they end with a word.
+// The three numbers' row.
 fn pack_position(position: Position) -> Packer
-    ensures { λ r. ⌜ r ≡ filledUp fill (pushedRows widths (rowsOf coding (position ∷ [])) emptyPacker) ⌝ }
+    ensures { λ r. ⌜ r ≡ pushedRows widths (rowsOf coding (position ∷ [])) emptyPacker ⌝ }
 {
     let x = pack::code32(position.x);
     let y = pack::code32(position.y);
     let z = pack::code32(position.z);
-    let p0 = pack::empty();
-    let p1 = pack::push(p0, 32, x);
-    let p2 = pack::push(p1, 32, y);
-    let p3 = pack::push(p2, 32, z);
-    pack::fill_up(p3, 0)
+    let row = [x, y, z, 0, 0, 0, 0, 0, 0, 0, 0, 0];
+    let rows = pack::put_row(pack::no_rows(), row, &WIDTHS, &[], &[]);
+    rows.packer
 }
 
-// A frame of a position: 5, 6, 7, 10.
+// A frame of a position, one entry of one; its range is no matter of tables, for a row has the codes: 5, 6, 7, 10.
 pub fn make_position(header: Header, position: Position) -> Made
     ensures { λ r. ⌜ r ≡ makePosition header position ⌝ }
 {
-    let suited = stage::suits(Layout::Position, header);
-    if let Suited::Refused(n) = suited {
-        return stage::refused(n);
-    }
-    if out_of_range(position) {
-        return stage::refused(10);
-    }
     let packer = pack_position(position);
-    let words = packer.words;
-    Made {
-        answer: Making::Done,
-        frame: Frame {
-            header,
-            n: packer.at,
-            words,
-        },
-    }
+    let out = out_of_range(position);
+    let rows = Rows { packer, out };
+    stage::make_frame(Layout::Position, 1, 0, header, 1, rows)
 }

@@ -1,11 +1,11 @@
 -- Every order is read by `inOrder`, so one law serves them all. Assumes nothing.
 use mathlib.Core.Path.{_≡_, refl, sym, subst, _∙_}
-use mathlib.Core.Bool.{false, _||_}
+use mathlib.Core.Bool.{Bool, true, false, _||_, cond}
 use mathlib.Core.Logic.{_⊎_, inl, inr}
 use mathlib.Core.List.{List, [], _∷_}
 use Prim.Native.Nat.{ℕ, _*_}
 use native.Mathlib.Omega.{arith}
-use lib.Dec.{ltb}
+use lib.Dec.{ltb, eqb}
 use Rattle.answer.specs.Order.{Says, refuses, answers, Check, inOrder, NoneApplies, FirstIs}
 use Rattle.answer.proofs.OrderLaws.{order-answers, order-refuses, order-map, first-or-none, refuses-apart}
 use Rattle.line.specs.Answer.{saysSix}
@@ -15,6 +15,8 @@ use Rattle.word.specs.declared.Sent.the-variants as sent
 use Rattle.frame.specs.Frames.{blank}
 use Rattle.frame.specs.Widths.{anyOf, stateOutside, late}
 use Rattle.frame.specs.Answer.{saysHealth, saysWords, saysWidths, saysClock}
+use Rattle.frame.specs.declared.Layout.{Layout}
+use Rattle.frame.specs.declared.Layout.the-variants as layout
 use Rattle.frame.specs.declared.Health.the-variants as health
 use Rattle.frame.specs.declared.HeaderWords.the-variants as words
 use Rattle.frame.specs.declared.Widths.the-variants.{Within, Outside}
@@ -29,7 +31,7 @@ use Rattle.writer.specs.declared.Opened.the-variants as opened
 use Rattle.writer.specs.declared.Written.the-variants as written
 use Rattle.journal.specs.Journal.{refusedRecall, saysKept, saysRecalled}
 use Rattle.journal.specs.declared.Kept.the-variants as kept
-use Rattle.stage.specs.Stages.{refusedMade, doneMade, saysAsked, saysSize, saysCount, saysPlace, saysSuited, saysMade}
+use Rattle.stage.specs.Stages.{layoutNumber, entryRefusal, refusedMade, doneMade, saysAsked, saysSize, saysCount, saysPlace, saysMade}
 use Rattle.corrections.specs.Corrections.{countCorrections, correctionAt, makeCorrections, saysCorrectionRead}
 use Rattle.healths.specs.Healths.{countHealths, healthAt, makeHealths, saysHealthRead}
 use Rattle.positions.specs.Positions.{readPosition, makePosition, saysPositionRead}
@@ -42,7 +44,6 @@ use Rattle.positions.specs.declared.PositionRead.the-variants as position
 use Rattle.nulls.specs.declared.NullRead.the-variants as null
 use Rattle.stage.specs.declared.Asked.the-variants.{Same, Other}
 use Rattle.stage.specs.declared.Place.the-variants as place
-use Rattle.stage.specs.declared.Suited.the-variants as suited
 use Rattle.stage.specs.declared.Size.the-variants.{Right, Wrong}
 use Rattle.value.specs.Values.{prcValue, rrcValue, udreValue, cn0Value}
 use Rattle.value.proofs.AnswerLaws.{prc-says, rrc-says, udre-says, cn0-says, minutes-says, z-says}
@@ -74,6 +75,14 @@ told : {A X : Type 0} {numbers : List ℕ} {cs : List Check} (says : X → Says 
     → inOrder cs (λ n. says (refuse n)) (says answer) ≡ inOrder cs refuses (answers value)
     → checkNumbers cs ≡ numbers → anyOf (λ n. ltb n 1 || ltb 16 n) numbers ≡ false → Ordered numbers cs (says (inOrder cs refuse answer))
 told {cs} says refuse answer value e numbered table = ordered cs value (order-map says cs refuse answer ∙ e) numbered table
+
+-- the numbers of making are of the table, for every layout
+entry-numbered : (l : Layout) → anyOf (λ n. ltb n 1 || ltb 16 n) (5 ∷ 6 ∷ 7 ∷ 12 ∷ entryRefusal l ∷ []) ≡ false
+entry-numbered l = go (eqb (layoutNumber l) (layoutNumber layout.Text))
+  where
+    go : (b : Bool) → anyOf (λ n. ltb n 1 || ltb 16 n) (5 ∷ 6 ∷ 7 ∷ 12 ∷ cond b 11 10 ∷ []) ≡ false
+    go true = refl
+    go false = refl
 
 pub carries-its-number : CarriesItsNumber
 unfolding fedBy fedAllBy endedBy takenBy countCorrections correctionAt makeCorrections countHealths healthAt makeHealths readPosition makePosition readNull makeNull readText makeText refusedMade doneMade pieceBy finishBy
@@ -109,9 +118,7 @@ carries-its-number = record {
   count-in = λ l w f. told saysCount count.Refused _ _ refl refl refl;
   entry-place = λ l w f i. told saysPlace place.Refused _ _ refl refl refl;
   size-of = λ wanted n. told saysSize (λ m. Wrong) Right tt refl refl refl;
-  suits = λ l h. told saysSuited suited.Refused suited.Yes tt refl refl refl;
-  suits-with = λ l h most c. told saysSuited suited.Refused suited.Yes tt refl refl refl;
-  make-list = λ l most pattern h c r. told saysMade refusedMade _ _ refl refl refl;
+  make-frame = λ l most pattern h c r. told saysMade refusedMade _ _ refl refl (entry-numbered l);
   prc-mm = λ scale prc. ordered ((ltb 1 scale, 10) ∷ []) (prcValue scale prc) (prc-says scale prc) refl refl;
   rrc-mm-s = λ scale rrc. ordered ((ltb 1 scale, 10) ∷ []) (rrcValue scale rrc) (rrc-says scale rrc) refl refl;
   udre-limit = λ s udre. ordered ((stateOutside s, 5) ∷ (ltb 3 udre, 10) ∷ []) (udreValue s udre) (udre-says s udre) refl refl;

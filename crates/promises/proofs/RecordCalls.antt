@@ -13,8 +13,6 @@ pub record-calls : RecordCalls
 record-calls = record {
   pack-field = record { asks-nothing = λ κs a. tt; settles = λ κs a z e p. p .0; ends = pack.field.Met.met };
   pack-fields = record { asks-nothing = λ κs a. tt; settles = λ κs a z e p. p; ends = pack.fields.Met.met };
-  pack-empty = record { asks-nothing = λ κs a. tt; settles = λ κs a z e p. p; ends = pack.empty.Met.met };
-  pack-push = record { asks-nothing = λ κs a. tt; settles = λ κs a z e p. p; ends = pack.push.Met.met };
   no-rows = record { asks-nothing = λ κs a. tt; settles = λ κs a z e p. p; ends = pack.no_rows.Met.met };
   put-row = record { asks-nothing = λ κs a. tt; settles = λ κs a z e p. p; ends = pack.put_row.Met.met };
   fill-up = record { asks-nothing = λ κs a. tt; settles = λ κs a z e p. p; ends = pack.fill_up.Met.met };
@@ -29,10 +27,7 @@ record-calls = record {
   count-in = record { asks-nothing = λ κs a. tt; settles = λ κs a z e p. p; ends = stage.count_in.Met.met };
   entry-place = record { asks-nothing = λ κs a. tt; settles = λ κs a z e p. p; ends = stage.entry_place.Met.met };
   size-of = record { asks-nothing = λ κs a. tt; settles = λ κs a z e p. p; ends = stage.size_of.Met.met };
-  suits = record { asks-nothing = λ κs a. tt; settles = λ κs a z e p. p; ends = stage.suits.Met.met };
-  suits-with = record { asks-nothing = λ κs a. tt; settles = λ κs a z e p. p; ends = stage.suits_with.Met.met };
-  stage-refused = record { asks-nothing = λ κs a. tt; settles = λ κs a z e p. p; ends = stage.refused.Met.met };
-  make-list = record { asks-nothing = λ κs a. tt; settles = λ κs a z e p. p; ends = stage.make_list.Met.met };
+  make-frame = record { asks-nothing = λ κs a. tt; settles = λ κs a z e p. p; ends = stage.make_frame.Met.met };
   count-corrections = record { asks-nothing = λ κs a. tt; settles = λ κs a z e p. p; ends = corrections.count_corrections.Met.met };
   correction-at = record { asks-nothing = λ κs a. tt; settles = λ κs a z e p. p; ends = corrections.correction_at.Met.met };
   make-corrections = record { asks-nothing = λ κs a. tt; settles = λ κs a z e p. p; ends = corrections.make_corrections.Met.met };

@@ -24,8 +24,8 @@ use Rattle.writer.specs.Answer.{openChecks, openedBy, writeChecks, writtenBy, s
 use Rattle.writer.specs.declared.Carried.{Carried}
 use Rattle.journal.specs.Journal.{keepOrder, keptBy, recallOrder, recalledBy, saysKept, saysRecalled}
 use Rattle.pack.specs.declared.Rows.{Rows}
-use Rattle.stage.specs.Stages.{wrongCount, otherLayout, misfit, wrongSize, askedOf, countBy, placeBy, sizeOf, suitedBy, suitedWith, madeBy}
-use Rattle.stage.specs.Stages.{readOrder, entryOrder, makeOrder, saysAsked, saysSize, saysCount, saysPlace, saysSuited, saysMade}
+use Rattle.stage.specs.Stages.{wrongCount, otherLayout, misfit, wrongSize, askedOf, countBy, placeBy, sizeOf, entryRefusal, madeBy}
+use Rattle.stage.specs.Stages.{readOrder, entryOrder, makeOrder, madeOrder, saysAsked, saysSize, saysCount, saysPlace, saysMade}
 use Rattle.corrections.specs.Corrections as corrections
 use Rattle.healths.specs.Healths as healths
 use Rattle.positions.specs.Positions as positions
@@ -97,7 +97,7 @@ pub record CarriesItsNumber : Type 0 where
   -- writing to the journal: 5, 13; reading from it: 14; 15, no byte for N; 16, N above 31; 15, words missing; 16, another N in word 2; 16, no preamble
   pub keep : (f : Frame) (buffer : List ℕ) → Ordered (5 ∷ 13 ∷ []) (keepOrder f buffer) (saysKept (keptBy f buffer))
   pub recall : (bs : List ℕ) → Ordered (14 ∷ 15 ∷ 16 ∷ 15 ∷ 16 ∷ 16 ∷ []) (recallOrder bs) (saysRecalled (recalledBy bs))
-  -- the parts: a byte, a word, a header, a frame, a layout asked for, a count, an entry's place, an N, a header to make a frame under, a list's frame
+  -- the parts: a byte, a word, a header, a frame, a layout asked for, a count, an entry's place, an N, a frame of rows
   pub six-of : (b : ℕ) → Ordered (1 ∷ []) ((not (isData b), 1) ∷ []) (saysSix (sixOf b))
   pub word-of : (c d : ℕ) → Ordered (5 ∷ 5 ∷ []) ((leb 4 c, 5) ∷ (leb (2 ^ 24) d, 5) ∷ []) (saysSent (wordOf c d))
   pub health-of : (s : State) → Ordered (5 ∷ []) ((stateOutside s, 5) ∷ []) (saysHealth (healthOf s))
@@ -109,11 +109,8 @@ pub record CarriesItsNumber : Type 0 where
   pub count-in : (l : Layout) (w : ℕ) (f : Frame) → Ordered (5 ∷ 6 ∷ 7 ∷ 8 ∷ []) (readOrder l f (misfit w (f .n)) []) (saysCount (countBy l w f))
   pub entry-place : (l : Layout) (w : ℕ) (f : Frame) (i : ℕ) → Ordered (5 ∷ 6 ∷ 7 ∷ 8 ∷ 9 ∷ []) (entryOrder l w f i []) (saysPlace (placeBy l w f i))
   pub size-of : (wanted n : ℕ) → Ordered (8 ∷ []) ((wrongSize wanted n, 8) ∷ []) (saysSize (sizeOf wanted n))
-  pub suits : (l : Layout) (h : Header) → Ordered (5 ∷ 6 ∷ 7 ∷ []) (makeOrder l h []) (saysSuited (suitedBy l h))
-  pub suits-with : (l : Layout) (h : Header) (most c : ℕ)
-      → Ordered (5 ∷ 6 ∷ 7 ∷ 12 ∷ []) (makeOrder l h ((wrongCount most c, 12) ∷ [])) (saysSuited (suitedWith l h most c))
-  pub make-list : (l : Layout) (most pattern : ℕ) (h : Header) (c : ℕ) (r : Rows)
-      → Ordered (5 ∷ 6 ∷ 7 ∷ 12 ∷ 10 ∷ []) (makeOrder l h ((wrongCount most c, 12) ∷ (r .out, 10) ∷ [])) (saysMade (madeBy l most pattern h c r))
+  pub make-frame : (l : Layout) (most pattern : ℕ) (h : Header) (c : ℕ) (r : Rows)
+      → Ordered (5 ∷ 6 ∷ 7 ∷ 12 ∷ entryRefusal l ∷ []) (madeOrder l most h c (r .out)) (saysMade (madeBy l most pattern h c r))
   -- the values of a record's numbers
   pub prc-mm : (scale : ℕ) (prc : ℤ) → Ordered (10 ∷ []) ((ltb 1 scale, 10) ∷ []) (saysDistance (prcMm scale prc))
   pub rrc-mm-s : (scale : ℕ) (rrc : ℤ) → Ordered (10 ∷ []) ((ltb 1 scale, 10) ∷ []) (saysRate (rrcMmS scale rrc))

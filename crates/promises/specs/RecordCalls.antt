@@ -1,11 +1,11 @@
 -- DEMAND 1, call by call: records, what they share, and what their numbers stand for. Assumes nothing.
 use Prim.Native.Nat.{_%_}
 use denote.Ref.{now}
-use Rattle.pack.specs.Packing.{fieldIn, emptyPacker, pushed, filledUp}
+use Rattle.pack.specs.Packing.{fieldIn, filledUp}
 use Rattle.pack.specs.Tables.{row, fieldsIn, noRows, putRow}
 use Rattle.bits.specs.Signed.{signed as signedOf, code as codeOf}
 use Rattle.pack.specs.Satellites.{satelliteOf}
-use Rattle.stage.specs.Stages.{askedOf, countBy, placeBy, sizeOf, suitedBy, suitedWith, refusedMade, madeBy}
+use Rattle.stage.specs.Stages.{askedOf, countBy, placeBy, sizeOf, madeBy}
 use Rattle.corrections.specs.Corrections.{countCorrections, correctionAt, makeCorrections}
 use Rattle.healths.specs.Healths.{countHealths, healthAt, makeHealths}
 use Rattle.positions.specs.Positions.{readPosition, makePosition}
@@ -28,8 +28,6 @@ pub record RecordCalls : Type 2 where
   pub pack-field : Answered pack.field.Reads.Asked pack.field.Reads.Learnt pack.field.Statement.statement (λ κs (words, (offset, (width, _))). fieldIn words offset width)
   pub pack-fields : Answered pack.fields.Reads.Asked pack.fields.Reads.Learnt pack.fields.Statement.statement
       (λ κs (words, (at, (widths, _))). row (fieldsIn words (now widths) at))
-  pub pack-empty : Answered pack.empty.Reads.Asked pack.empty.Reads.Learnt pack.empty.Statement.statement (λ κs a. emptyPacker)
-  pub pack-push : Answered pack.push.Reads.Asked pack.push.Reads.Learnt pack.push.Statement.statement (λ κs (packer, (width, (value, _))). pushed packer width value)
   pub no-rows : Answered pack.no_rows.Reads.Asked pack.no_rows.Reads.Learnt pack.no_rows.Statement.statement (λ κs a. noRows)
   pub put-row : Answered pack.put_row.Reads.Asked pack.put_row.Reads.Learnt pack.put_row.Statement.statement
       (λ κs (rows, (values, (widths, (least, (most, _))))). putRow (now widths) (now least) (now most) values rows)
@@ -47,10 +45,7 @@ pub record RecordCalls : Type 2 where
   pub entry-place : Answered stage.entry_place.Reads.Asked stage.entry_place.Reads.Learnt stage.entry_place.Statement.statement
       (λ κs (layout, (width, (frame, (index, _)))). placeBy layout width frame index)
   pub size-of : Answered stage.size_of.Reads.Asked stage.size_of.Reads.Learnt stage.size_of.Statement.statement (λ κs (wanted, (n, _)). sizeOf wanted n)
-  pub suits : Answered stage.suits.Reads.Asked stage.suits.Reads.Learnt stage.suits.Statement.statement (λ κs (layout, (header, _)). suitedBy layout header)
-  pub suits-with : Answered stage.suits_with.Reads.Asked stage.suits_with.Reads.Learnt stage.suits_with.Statement.statement (λ κs (layout, (header, (entries, (most, _)))). suitedWith layout header most entries)
-  pub stage-refused : Answered stage.refused.Reads.Asked stage.refused.Reads.Learnt stage.refused.Statement.statement (λ κs (number, _). refusedMade number)
-  pub make-list : Answered stage.make_list.Reads.Asked stage.make_list.Reads.Learnt stage.make_list.Statement.statement
+  pub make-frame : Answered stage.make_frame.Reads.Asked stage.make_frame.Reads.Learnt stage.make_frame.Statement.statement
       (λ κs (layout, (most, (fill, (header, (count, (rows, _)))))). madeBy layout most fill header count rows)
   -- corrections
   pub count-corrections : Answered corrections.count_corrections.Reads.Asked corrections.count_corrections.Reads.Learnt corrections.count_corrections.Statement.statement (λ κs (frame, _). countCorrections frame)

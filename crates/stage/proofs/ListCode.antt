@@ -1,6 +1,6 @@
 -- Facts that the proofs of the list layouts' functions cite: the entries that N words hold, and the last checks of the orders.
 -- Assumes nothing.
-use mathlib.Core.Path.{_≡_, refl, sym, ap, _∙_}
+use mathlib.Core.Path.{_≡_, refl, ap, _∙_}
 use mathlib.Core.Bool.{true, false, not, _||_}
 use mathlib.Core.List.{[], _∷_}
 use Prim.Native.Nat.{ℕ, zero, suc, _+_, _*_, _/_, _≤_, _<_}
@@ -9,13 +9,9 @@ use native.Mathlib.Omega.{arith}
 use lib.Dec.{ltb, eqb}
 use borrow.Author.Tests.{lt-ltb, le-ltb, eq-eqb, ne-eqb, eqb-true, eqb-false, ltb-false, not-false}
 use Rattle.answer.specs.Order.{inOrder}
-use Rattle.answer.proofs.OrderLaws.{order-told}
 use Rattle.frame.proofs.WidthLaws.{both-false}
-use Rattle.frame.specs.declared.Header.{Header}
-use Rattle.frame.specs.declared.Layout.{Layout}
-use Rattle.stage.specs.declared.Suited.{Suited}
-use Rattle.stage.specs.declared.Suited.the-variants as suited
-use Rattle.stage.specs.Stages.{countIn, misfit, wrongCount, makeOrder, suitedWith}
+use Rattle.stage.specs.declared.checks.Suited.the-variants as suited
+use Rattle.stage.specs.Stages.{countIn, misfit, wrongCount}
 
 -- ---- the entries that N words hold
 
@@ -83,12 +79,3 @@ some-few c most l h = rw (ne-eqb c 0 (λ z. omega arith), le-ltb most c h)
 
 pub told-some-few : (c most : ℕ) → wrongCount most c ≡ false → (1 ≤ c) × (c ≤ most)
 told-some-few c most e = let s = both-false (eqb c 0) (ltb most c) e in (positive c (eqb-false c 0 (s .0)), ltb-false most c (s .1))
-
--- where a number of entries suits it is at most the most
-pub suited-few : (l : Layout) (h : Header) (most c : ℕ) (s : Suited) → s ≡ suitedWith l h most c → s ≡ suited.Yes → c ≤ most
-suited-few l h most c s is e =
-    let t = order-told suited.Refused suited.Yes suited.Yes apart (makeOrder l h ((wrongCount most c, 12) ∷ [])) (sym is ∙ e) in
-    told-some-few c most (t .0 .1 .1 .1 .0) .1
-  where
-    apart : (n : ℕ) → suited.Refused n ≡ suited.Yes → ⊥
-    apart n q = let z : _≡_ {A = ℕ} 0 1 = cc in omega arith

@@ -29,8 +29,8 @@ use Rattle.pack.proofs.Making.{fields-frame, packed-frame}
 use Rattle.stage.specs.declared.Place.{Place}
 use Rattle.stage.specs.declared.Place.the-variants as place
 use Rattle.stage.specs.declared.Made.{Made}
-use Rattle.stage.specs.Stages.{countIn, wrongCount, entryOrder, makeOrder, placeBy, packedFrame, madeBy, refusedMade, doneMade}
-use Rattle.stage.specs.Lists.{listRanged, listMade}
+use Rattle.stage.specs.Stages.{countIn, wrongCount, entryOrder, placeBy, madeOrder, madeBy, refusedMade, doneMade}
+use Rattle.stage.specs.Lists.{listRanged}
 use Rattle.stage.proofs.StageLaws.{last-wrong, last-fine}
 use Rattle.stage.proofs.ListCode.{held-le, told-some-few}
 
@@ -129,32 +129,30 @@ module _ {A : Type 0} (l : Layout) (k : Coding A) (pattern most : ℕ) (out : A 
   out-alike [] = refl
   out-alike (e ∷ es) = ap₂ _||_ (same-out e) (out-alike es)
 
-  -- a frame made of the rows of entries is the layout's frame
+  -- A FRAME MADE of the rows of entries is the layout's frame; of too many entries the rows need not be those
   pub rows-made : (h : Header) (es : List A) (c : ℕ) (r : Rows) (m : Made) → m ≡ madeBy l most pattern h c r
-      → r ≡ putRows (k .widths) ls ms (map numbers (take c es)) noRows → m ≡ listMade l k pattern most out h es c
+      → (wrongCount most c ≡ false → (length es ≤ most) × (r ≡ putRows (k .widths) ls ms (map numbers es) noRows))
+      → m ≡ inOrder (madeOrder l most h c (anyOf out es)) refusedMade (doneMade (frameWith pattern k h es))
   unfolding noRows
-  rows-made h es c r m em er =
-      em ∙ ap (madeBy l most pattern h c) rows ∙ last (wrongCount most c) refl
+  rows-made h es c r m em er = em ∙ go (wrongCount most c) refl
     where
-      us : List A
-      us = take c es
-
-      rows : r ≡ record { packer = pushedRows (k .widths) (rowsOf k us) emptyPacker; out = anyOf out us }
-      rows = er ∙ rows-put (k .widths) ls ms (map numbers us) noRows
-          ∙ ap₂ (λ p b. record { packer = p; out = b }) (pushed-alike us emptyPacker) (out-alike us)
-
-      last : (b : Bool) → wrongCount most c ≡ b
-          → inOrder (makeOrder l h ((wrongCount most c, 12) ∷ (anyOf out us, 10) ∷ [])) refusedMade
-          (doneMade (packedFrame pattern h (pushedRows (k .widths) (rowsOf k us) emptyPacker)))
-          ≡ inOrder (makeOrder l h ((wrongCount most c, 12) ∷ (anyOf out us, 10) ∷ [])) refusedMade (doneMade (frameWith pattern k h us))
-      last true e = rw e
-      last false e =
-          ap (λ g. inOrder (makeOrder l h ((wrongCount most c, 12) ∷ (anyOf out us, 10) ∷ [])) refusedMade (doneMade g))
-          (packed-frame k pattern h us _ narrow small refl)
+      go : (b : Bool) → wrongCount most c ≡ b
+          → madeBy l most pattern h c r ≡ inOrder (madeOrder l most h c (anyOf out es)) refusedMade (doneMade (frameWith pattern k h es))
+      go true e = rw e
+      go false e =
+          ap (madeBy l most pattern h c) rows
+          ∙ ap (λ g. inOrder (madeOrder l most h c (anyOf out es)) refusedMade (doneMade g)) (packed-frame k pattern h es _ narrow small refl)
         where
-          small : length us * span (k .widths) ≤ 744
-          small = omega (
-            arith,
-            few,
-            mul-le-mul-right {m = length us} {n = most} (span (k .widths)) (omega (arith, length-take c es, told-some-few c most e .1)),
-          )
+          rows : r ≡ record { packer = pushedRows (k .widths) (rowsOf k es) emptyPacker; out = anyOf out es }
+          rows = er e .1 ∙ rows-put (k .widths) ls ms (map numbers es) noRows
+              ∙ ap₂ (λ p b. record { packer = p; out = b }) (pushed-alike es emptyPacker) (out-alike es)
+
+          small : length es * span (k .widths) ≤ 744
+          small = omega (arith, few, mul-le-mul-right {m = length es} {n = most} (span (k .widths)) (er e .0))
+
+  -- of a list, whose entries past the count are not looked at
+  pub entries-made : (h : Header) (es : List A) (c : ℕ) (r : Rows) (m : Made) → m ≡ madeBy l most pattern h c r
+      → r ≡ putRows (k .widths) ls ms (map numbers (take c es)) noRows
+      → m ≡ inOrder (madeOrder l most h c (anyOf out (take c es))) refusedMade (doneMade (frameWith pattern k h (take c es)))
+  entries-made h es c r m em er =
+      rows-made h (take c es) c r m em (λ e. (omega (arith, length-take c es, told-some-few c most e .1), er))

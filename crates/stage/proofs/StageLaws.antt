@@ -22,8 +22,8 @@ use Rattle.stage.specs.declared.Counted.the-variants.{Entries, Misfit}
 use Rattle.stage.specs.declared.Size.the-variants.{Right, Wrong}
 use Rattle.stage.specs.declared.Indexed.the-variants.{Below, Past}
 use Rattle.stage.specs.declared.Ranged.the-variants as ranged
-use Rattle.stage.specs.declared.Suited.{Suited}
-use Rattle.stage.specs.declared.Suited.the-variants as suited
+use Rattle.stage.specs.declared.checks.Suited.{Suited}
+use Rattle.stage.specs.declared.checks.Suited.the-variants as suited
 use Rattle.stage.specs.declared.Count.the-variants as count
 use Rattle.stage.specs.Stages.{layoutNumber, otherLayout, askedOf, rangedOf, readOrder, makeOrder, refusedMade, doneMade}
 

@@ -30,8 +30,8 @@ use Rattle.stage.specs.declared.Place.{Place}
 use Rattle.stage.specs.declared.Place.the-variants as place
 use Rattle.stage.specs.declared.Count.{Count}
 use Rattle.stage.specs.declared.Count.the-variants as count
-use Rattle.stage.specs.declared.Suited.{Suited}
-use Rattle.stage.specs.declared.Suited.the-variants as suited
+use Rattle.stage.specs.declared.checks.Suited.{Suited}
+use Rattle.stage.specs.declared.checks.Suited.the-variants as suited
 use Rattle.stage.specs.declared.Making.{Making}
 use Rattle.stage.specs.declared.Making.the-variants as making
 use Rattle.stage.specs.declared.Made.{Made}
@@ -108,12 +108,13 @@ makeOrder asked h more = (headerOutside h, 5) ∷ (otherLayout asked (h .kind), 
 abbrev pub wrongCount : ℕ → ℕ → Bool
 wrongCount most c = eqb c 0 || ltb most c
 
--- a header suits a layout: 5, 6, 7; and a number of entries does: 12
-abbrev pub suitedBy : Layout → Header → Suited
-suitedBy asked h = inOrder (makeOrder asked h []) suited.Refused suited.Yes
+-- a header suits a layout, and a number of entries does: 5, 6, 7, 12
+abbrev pub suitedBy : Layout → Header → ℕ → ℕ → Suited
+suitedBy asked h most c = inOrder (makeOrder asked h ((wrongCount most c, 12) ∷ [])) suited.Refused suited.Yes
 
-abbrev pub suitedWith : Layout → Header → ℕ → ℕ → Suited
-suitedWith asked h most c = inOrder (makeOrder asked h ((wrongCount most c, 12) ∷ [])) suited.Refused suited.Yes
+-- the refusal of an entry that can't be sent: 11 for a character of a text, else 10
+abbrev pub entryRefusal : Layout → ℕ
+entryRefusal asked = cond (eqb (layoutNumber asked) (layoutNumber layout.Text)) 11 10
 
 -- a refusal to make, with the blank frame
 unfoldable pub refusedMade : ℕ → Made
@@ -126,10 +127,12 @@ doneMade f = record { answer = making.Done; frame = f }
 abbrev pub packedFrame : ℕ → Header → Packer → Frame
 packedFrame pattern h p = record { header = h; n = filledUp pattern p .at; words = filledUp pattern p .words }
 
--- a frame made of the rows of c entries: 5, 6, 7, 12, 10
+-- MAKING a frame of the rows of c entries: 5, 6, 7, 12, then 10 or 11
+abbrev pub madeOrder : Layout → ℕ → Header → ℕ → Bool → List Check
+madeOrder asked most h c out = makeOrder asked h ((wrongCount most c, 12) ∷ (out, entryRefusal asked) ∷ [])
+
 abbrev pub madeBy : Layout → ℕ → ℕ → Header → ℕ → Rows → Made
-madeBy asked most pattern h c r =
-    inOrder (makeOrder asked h ((wrongCount most c, 12) ∷ (r .out, 10) ∷ [])) refusedMade (doneMade (packedFrame pattern h (r .packer)))
+madeBy asked most pattern h c r = inOrder (madeOrder asked most h c (r .out)) refusedMade (doneMade (packedFrame pattern h (r .packer)))
 
 -- ---- what passes the first checks
 
@@ -168,10 +171,6 @@ saysPlace (place.Refused n) = refuses n
 abbrev pub saysCount : Count → Says ℕ
 saysCount (count.Of c) = answers c
 saysCount (count.Refused n) = refuses n
-
-abbrev pub saysSuited : Suited → Says (Unit {0})
-saysSuited suited.Yes = answers tt
-saysSuited (suited.Refused n) = refuses n
 
 -- a made frame, or the number alone
 abbrev pub saysMade : Made → Says Frame

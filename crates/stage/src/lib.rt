@@ -1,8 +1,12 @@
-// The stages that reading and making share, and their answers: the layout asked for, the count of a list and the place of an entry, a header to
-// make a frame under, a frame made of rows.
+// What the layouts share: the stages of reading, with the count of a list and the place of an entry, and the one way in which a frame is made.
+mod checks;
+
 ghost use mathlib.Core.Path.{_≡_};
 ghost use Rattle.stage.specs.Stages.{layoutNumber, askedOf, entriesIn, indexOf, countBy, placeBy, sizeOf};
-ghost use Rattle.stage.specs.Stages.{suitedBy, suitedWith, refusedMade, madeBy};
+ghost use Rattle.stage.specs.Stages.{refusedMade, madeBy};
+use crate::checks::Suited;
+use crate::checks::entry_refusal;
+use crate::checks::suits;
 use frame::Clock;
 use frame::Frame;
 use frame::Header;
@@ -49,12 +53,6 @@ pub enum Place {
 // A number of entries or characters, or the refusal's number.
 pub enum Count {
     Of(usize),
-    Refused(u8),
-}
-
-// Whether a frame may be made, or the refusal's number.
-pub enum Suited {
-    Yes,
     Refused(u8),
 }
 
@@ -178,41 +176,8 @@ pub fn size_of(wanted: usize, n: usize) -> Size
     Size::Wrong
 }
 
-// Whether a header suits a layout, so that frames of it may be made: 5, 6, 7.
-pub fn suits(layout: Layout, header: Header) -> Suited
-    ensures { λ r. ⌜ r ≡ suitedBy layout header ⌝ }
-{
-    let Widths::Within = frame::header_widths(header) else {
-        return Suited::Refused(5);
-    };
-    let Asked::Same = asked_of(layout, header.kind) else {
-        return Suited::Refused(6);
-    };
-    let Clock::Hour = frame::clock_of(header.z) else {
-        return Suited::Refused(7);
-    };
-    Suited::Yes
-}
-
-// Whether a header suits a layout, and a number of entries is 1 to the most that a frame of it has: 5, 6, 7, 12.
-pub fn suits_with(layout: Layout, header: Header, entries: usize, most: usize) -> Suited
-    ensures { λ r. ⌜ r ≡ suitedWith layout header most entries ⌝ }
-{
-    let suited = suits(layout, header);
-    if let Suited::Refused(n) = suited {
-        return Suited::Refused(n);
-    }
-    if entries == 0 {
-        return Suited::Refused(12);
-    }
-    if entries > most {
-        return Suited::Refused(12);
-    }
-    Suited::Yes
-}
-
 // A refusal, with the blank frame.
-pub fn refused(number: u8) -> Made
+fn refused(number: u8) -> Made
     ensures { λ r. ⌜ r ≡ refusedMade number ⌝ }
 {
     Made {
@@ -221,8 +186,8 @@ pub fn refused(number: u8) -> Made
     }
 }
 
-// A frame of the rows of a list's entries, the last word filled: 5, 6, 7, 12, 10.
-pub fn make_list(
+// A frame of the rows of `count` entries, its last word filled: 5, 6, 7, 12, then 10 or 11. A record that is no list is one entry of one.
+pub fn make_frame(
     layout: Layout,
     most: usize,
     fill: u32,
@@ -232,12 +197,12 @@ pub fn make_list(
 ) -> Made
     ensures { λ r. ⌜ r ≡ madeBy layout most fill header count rows ⌝ }
 {
-    let suited = suits_with(layout, header, count, most);
+    let suited = suits(layout, header, count, most);
     if let Suited::Refused(n) = suited {
         return refused(n);
     }
     if rows.out {
-        return refused(10);
+        return refused(entry_refusal(layout));
     }
     let packer = rows.packer;
     let full = pack::fill_up(packer, fill);

@@ -22,9 +22,7 @@ use Rattle.frame.specs.declared.Widths.the-variants.{Within, Outside}
 use Rattle.frame.specs.declared.Clock.the-variants.{Hour, Late}
 use Rattle.frame.specs.declared.Layout.the-variants as layout
 use Rattle.frame.proofs.WidthLaws.{both-false}
-use Rattle.pack.specs.declared.Packer.{Packer}
-use Rattle.pack.specs.Packing.{pushed, pushedRows}
-use Rattle.pack.specs.Coding.{frameBits, entryIn, rowsOf}
+use Rattle.pack.specs.Coding.{frameBits, entryIn}
 use Rattle.pack.proofs.Making.{fields-frame, rows-frame}
 use Rattle.stage.specs.declared.Asked.the-variants.{Same, Other}
 use Rattle.stage.specs.declared.Count.{Count}
@@ -122,10 +120,6 @@ meets i n h l = omega arith
 
 pub length-writing : (cs b : List ℕ) (i : ℕ) → i ≤ length cs → i ≤ length b → length (take i cs ++ drop i b) ≡ length b
 length-writing cs b i h l = omega (arith, length-append (take i cs) (drop i b), length-take i cs, length-drop i b)
-
-pub rows-next : (cs : List ℕ) (i : ℕ) (p : Packer) → i < length cs
-    → pushedRows widths (rowsOf coding (drop i cs)) p ≡ pushedRows widths (rowsOf coding (drop (i + 1) cs)) (pushed p 8 (getD cs i 0))
-rows-next cs i p h = ap (λ r. pushedRows widths (rowsOf coding r) p) (drop-cons cs i 0 h ∙ ap (λ k. getD cs i 0 ∷ drop k cs) (sym (add-one i)))
 
 -- ---- N and the number of characters
 

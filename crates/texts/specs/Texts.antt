@@ -12,6 +12,7 @@ use Rattle.frame.specs.declared.Header.{Header}
 use Rattle.frame.specs.declared.Frame.{Frame}
 use Rattle.frame.specs.declared.Layout.the-variants as layout
 use Rattle.pack.specs.Coding.{Coding, frameBits, entryIn, frameWith}
+use Rattle.pack.specs.Tables.{row}
 use Rattle.stage.specs.declared.Size.{Size}
 use Rattle.stage.specs.declared.Size.the-variants.{Right, Wrong}
 use Rattle.stage.specs.declared.Count.{Count}
@@ -35,6 +36,10 @@ codes c = c ∷ []
 
 abbrev pub coding : Coding ℕ
 coding = record { widths = widths; meant = meant; codes = codes }
+
+-- the row of a character
+abbrev pub numbers : ℕ → List ℕ
+numbers c = row (c ∷ [])
 
 -- the fill: zeros
 abbrev pub fill : ℕ

@@ -1,26 +1,23 @@
 // Type 16: text, 1 to 90 characters of eight bits, three a word.
 ghost use mathlib.Core.Path.{_≡_};
-ghost use mathlib.Core.List.{_++_};
+ghost use mathlib.Core.List.{[], _∷_, _++_, map};
 ghost use Prim.Native.Nat.{_*_, _≤_, _<_};
-ghost use lib.ListN.{length, drop};
+ghost use lib.ListN.{length, take, drop};
 ghost use Rattle.bits.specs.Rows.{dataBits};
-ghost use Rattle.frame.specs.Widths.{anyOf};
-ghost use Rattle.pack.specs.Packing.{emptyPacker, pushedRows, filledUp};
-ghost use Rattle.pack.specs.Coding.{entryIn, rowsOf};
-ghost use Rattle.texts.specs.Texts.{widths, coding, fill, characters, textLength, wordsSize, forbidden, charactersOf, roomOf};
+ghost use Rattle.pack.specs.Tables.{noRows, putRows};
+ghost use Rattle.pack.specs.Coding.{entryIn};
+ghost use Rattle.texts.specs.Texts.{widths, coding, numbers, characters, textLength, wordsSize, forbidden, charactersOf, roomOf};
 ghost use Rattle.texts.specs.Texts.{readText, bufferAfter, makeText};
 use frame::Clock;
 use frame::Frame;
 use frame::Header;
 use frame::Layout;
 use frame::Widths;
-use pack::Packer;
+use pack::Rows;
 use stage::Asked;
 use stage::Count;
 use stage::Made;
-use stage::Making;
 use stage::Size;
-use stage::Suited;
 
 // Whether every character of a text is allowed; one that is not is refusal 11.
 enum Characters {
@@ -33,6 +30,13 @@ enum Room {
     Enough,
     Short,
 }
+
+// THE LAYOUT: the width of a character, its least and its most; the last word is filled with zeros.
+const WIDTHS: [u32; 1] = [8];
+
+const LEAST: [u32; 1] = [1];
+
+const MOST: [u32; 1] = [127];
 
 // A character is not 1 to 127.
 fn is_forbidden(character: u32) -> bool
@@ -146,52 +150,27 @@ pub fn read_text(frame: Frame, buffer: &mut [u8]) -> Count
     Count::Of(count)
 }
 
-// A character of the text is forbidden.
-fn text_forbidden(text: &[u8]) -> bool
-    ensures { λ r. ⌜ r ≡ anyOf forbidden (now (text .entry)) ⌝ }
+// The rows of the characters, of 90 at most, a row a character.
+fn rows_of(text: &[u8]) -> Rows
+    ensures { λ r. ⌜ r ≡ putRows widths (1 ∷ []) (127 ∷ []) (map numbers (take 90 (now (text .entry)))) noRows ⌝ }
 {
+    let mut rows = pack::no_rows();
     let mut i = 0;
-    while i < text.len() {
-        if is_forbidden(text[i] as u32) {
-            return true;
+    while i < 90 {
+        if i >= text.len() {
+            return rows;
         }
+        let row = [text[i] as u32, 0, 0, 0, 0, 0, 0, 0, 0, 0, 0, 0];
+        rows = pack::put_row(rows, row, &WIDTHS, &LEAST, &MOST);
         i += 1;
     }
-    false
-}
-
-// The characters, then zeros to the end of the word.
-fn pack_text(text: &[u8]) -> Packer
-    ensures { λ r. ⌜ r ≡ filledUp fill (pushedRows widths (rowsOf coding (now (text .entry))) emptyPacker) ⌝ }
-{
-    let mut packer = pack::empty();
-    let mut i = 0;
-    while i < text.len() {
-        packer = pack::push(packer, 8, text[i] as u32);
-        i += 1;
-    }
-    pack::fill_up(packer, 0)
+    rows
 }
 
 // A frame of text: 5, 6, 7, 12, 11.
 pub fn make_text(header: Header, text: &[u8]) -> Made
     ensures { λ r. ⌜ r ≡ makeText header (now (text .entry)) ⌝ }
 {
-    let suited = stage::suits_with(Layout::Text, header, text.len(), 90);
-    if let Suited::Refused(n) = suited {
-        return stage::refused(n);
-    }
-    if text_forbidden(text) {
-        return stage::refused(11);
-    }
-    let packer = pack_text(text);
-    let words = packer.words;
-    Made {
-        answer: Making::Done,
-        frame: Frame {
-            header,
-            n: packer.at,
-            words,
-        },
-    }
+    let rows = rows_of(text);
+    stage::make_frame(Layout::Text, 90, 0, header, text.len(), rows)
 }

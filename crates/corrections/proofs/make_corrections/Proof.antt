@@ -5,18 +5,19 @@ use borrow.Author.Needs.{needs}
 use Rattle.frame.specs.declared.Layout.the-variants as layout
 use Rattle.pack.specs.Packing.{pushed}
 use Rattle.pack.proofs.TableLaws.{push-low}
-use Rattle.stage.proofs.ListLaws.{rows-made}
+use Rattle.stage.specs.Stages.{layoutNumber}
+use Rattle.stage.proofs.ListLaws.{entries-made}
 use Rattle.corrections.specs.Corrections.{coding, fill, least, most, numbers, outOfRange, makeCorrections}
 use Rattle.corrections.proofs.make_corrections.Statement.{statement}
 use Rattle.corrections.proofs.make_corrections.Tie as tie
 
 returns : tie.Need-returns
-unfolding makeCorrections
+unfolding makeCorrections layoutNumber
 returns c =
     let a = c .before .before .args in
-    rows-made layout.Correction coding fill 18 outOfRange numbers least most
+    entries-made layout.Correction coding fill 18 outOfRange numbers least most
     (λ e p. rw (push-low (pushed (pushed p 1 (e .scale)) 2 (e .udre)) 5 (e .satellite))) (λ e. refl) (search needs) (omega arith)
-    (a .header) (a .entries) (a .count) (c .before .rows-of .result) (c .make-list .result) (c .make-list .ensures) (c .before .rows-of .ensures)
+    (a .header) (a .entries) (a .count) (c .before .rows-of .result) (c .make-frame .result) (c .make-frame .ensures) (c .before .rows-of .ensures)
 
 pub make-corrections-spec : {M : Type 1} → statement M
 make-corrections-spec = tie.close (tie.spec (λ c κs. search needs) (λ c κs. search needs) returns)

@@ -5,18 +5,19 @@ use borrow.Author.Needs.{needs}
 use Rattle.frame.specs.declared.Layout.the-variants as layout
 use Rattle.pack.specs.Packing.{pushed}
 use Rattle.pack.proofs.TableLaws.{push-low}
-use Rattle.stage.proofs.ListLaws.{rows-made}
+use Rattle.stage.specs.Stages.{layoutNumber}
+use Rattle.stage.proofs.ListLaws.{entries-made}
 use Rattle.healths.specs.Healths.{coding, fill, least, most, numbers, outOfRange, makeHealths}
 use Rattle.healths.proofs.make_healths.Statement.{statement}
 use Rattle.healths.proofs.make_healths.Tie as tie
 
 returns : tie.Need-returns
-unfolding makeHealths
+unfolding makeHealths layoutNumber
 returns c =
     let a = c .before .before .args in
-    rows-made layout.Health coding fill 31 outOfRange numbers least most
+    entries-made layout.Health coding fill 31 outOfRange numbers least most
     (λ e p. rw (push-low (pushed p 1 (e .reserved)) 5 (e .satellite))) (λ e. refl) (search needs) (omega arith)
-    (a .header) (a .entries) (a .count) (c .before .rows-of .result) (c .make-list .result) (c .make-list .ensures) (c .before .rows-of .ensures)
+    (a .header) (a .entries) (a .count) (c .before .rows-of .result) (c .make-frame .result) (c .make-frame .ensures) (c .before .rows-of .ensures)
 
 pub make-healths-spec : {M : Type 1} → statement M
 make-healths-spec = tie.close (tie.spec (λ c κs. search needs) (λ c κs. search needs) returns)

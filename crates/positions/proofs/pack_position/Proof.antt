@@ -1,34 +1,42 @@
--- `pack_position` meets its contract: the pushes one after the other. Assumes nothing.
-use mathlib.Core.Path.{ap, _∙_}
+-- `pack_position` meets its contract: the codes pushed one after the other. Assumes nothing.
+use mathlib.Core.Path.{_≡_, ap, _∙_}
+use mathlib.Core.List.{[], _∷_}
+use Prim.Native.Nat.{ℕ}
 use mir.Syntax.{w32}
-use mir.ValLaws.{toZ-ofZ}
 use borrow.Author.Needs.{needs}
 use Rattle.bits.specs.Signed.{code}
-use Rattle.positions.proofs.PositionCode.{push-law}
+use Rattle.pack.specs.declared.Rows.{Rows}
+use Rattle.pack.specs.Packing.{emptyPacker, pushedRows}
+use Rattle.pack.specs.Coding.{rowsOf}
+use Rattle.pack.specs.Tables.{row, noRows, putRow}
+use Rattle.pack.proofs.SignedCode.{code-sent}
+use Rattle.positions.specs.declared.Position.{Position}
+use Rattle.positions.specs.Positions.{widths, coding}
 use Rattle.positions.proofs.pack_position.Statement.{statement}
 use Rattle.positions.proofs.pack_position.Tie as tie
 
+-- a row of the three codes is the position's
+one-row : (p : Position) (x y z : ℕ) (none rows : Rows) → x ≡ code 31 (p .x) → y ≡ code 31 (p .y) → z ≡ code 31 (p .z) → none ≡ noRows
+    → rows ≡ putRow widths [] [] (row (x ∷ y ∷ z ∷ [])) none → rows .packer ≡ pushedRows widths (rowsOf coding (p ∷ [])) emptyPacker
+unfolding putRow noRows
+one-row p x y z none rows ex ey ez en er = ap (λ (r : Rows). r .packer) er ∙ rw (ex, ey, ez, en)
+
 returns : tie.Need-returns
 returns c =
-    let c4 = c .before .before .before .before in
-    let c5 = c4 .before in
-    let c6 = c5 .before in
-    let c7 = c6 .before in
-    let c8 = c7 .before in
-    let c9 = c8 .before in
-    let c10 = c9 .before in
-    let c11 = c10 .before in
-    let p = c11 .args .position in
-    push-law p (c9 .code32 .result) (c7 .code322 .result) (c5 .code323 .result)
-    (c4 .empty .result) (c .before .before .before .push .result) (c .before .before .push2 .result) (c .before .push3 .result) (c .fill-up .result)
-    (c9 .code32 .ensures ∙ ap (code 31) (toZ-ofZ w32 (p .x) (record { sfits = c10 .struct-told .given .0 .1 })))
-    (c7 .code322 .ensures ∙ ap (code 31) (toZ-ofZ w32 (p .y) (record { sfits = c8 .struct-told2 .given .1 .0 .1 })))
-    (c5 .code323 .ensures ∙ ap (code 31) (toZ-ofZ w32 (p .z) (record { sfits = c6 .struct-told3 .given .1 .1 .0 .1 })))
-    (c4 .empty .ensures) (c .before .before .before .push .ensures) (c .before .before .push2 .ensures) (c .before .push3 .ensures)
-    (c .fill-up .ensures)
+    let put = c .before in
+    let none = put .before .before .before .before in
+    let c3 = none .before in
+    let c2 = c3 .before .before in
+    let c1 = c2 .before .before in
+    let p = c1 .before .before .args .position in
+    one-row p _ _ _ (none .no-rows .result) (put .put-row .result)
+    (code-sent w32 (p .x) _ (c1 .code32 .ensures) (c1 .before .struct-told .given .0 .1))
+    (code-sent w32 (p .y) _ (c2 .code322 .ensures) (c2 .before .struct-told2 .given .1 .0 .1))
+    (code-sent w32 (p .z) _ (c3 .code323 .ensures) (c3 .before .struct-told3 .given .1 .1 .0 .1))
+    (none .no-rows .ensures) (put .put-row .ensures)
 
 pub pack-position-spec : {M : Type 1} → statement M
 pack-position-spec =
     tie.close
     (tie.spec (λ c κs. search needs) (λ c κs. search needs) (λ c κs. search needs) (λ c κs. search needs)
-    (λ c κs. search needs) (λ c κs. search needs) (λ c κs. search needs) (λ c κs. search needs) returns)
+    (λ c. search needs) (λ c. search needs) (λ c. search needs) (λ c κs. search needs) returns)

@@ -1,32 +1,38 @@
--- `position_from` meets its contract: the fields one after the other. Assumes nothing.
-use mathlib.Core.Path.{_∙_}
+-- `position_from` meets its contract: the fields by the table, each as a signed number. Assumes nothing.
+use mathlib.Core.Path.{_≡_, ap, _∙_}
+use mathlib.Core.List.{List}
+use Prim.Native.Nat.{ℕ, _^_, _<_}
 use native.Mathlib.Omega.{arith}
+use lib.IntN.{ℤ}
+use lib.ListN.{getD}
 use mir.Syntax.{w32}
-use mir.ValLaws.{toZ-ofZ}
 use borrow.Author.Needs.{needs}
-use Rattle.pack.proofs.SignedCode.{meant-fits}
-use Rattle.positions.proofs.PositionCode.{position-law}
+use Rattle.bits.specs.Signed.{signed}
+use Rattle.pack.proofs.SignedCode.{signed-held}
+use Rattle.pack.proofs.TableLaws.{fields-fit, row-read}
+use Rattle.positions.specs.Positions.{widths, meant}
 use Rattle.positions.proofs.position_from.Statement.{statement}
 use Rattle.positions.proofs.position_from.Tie as tie
 
+fit : (c : tie.After-fields) (k : ℕ) → getD (c .fields .result) k 0 < 2 ^ getD widths k 0
+fit c k = let a = c .before .before .args in fields-fit (a .words) widths 0 (c .fields .result) (c .fields .ensures) k
+
+held : (vs : List ℕ) (x y z : ℤ) → x ≡ signed 31 (getD vs 0 0) → y ≡ signed 31 (getD vs 1 0) → z ≡ signed 31 (getD vs 2 0)
+    → record { x = x; y = y; z = z } ≡ meant vs
+held vs x y z ex ey ez = rw (ex, ey, ez)
+
 returns : tie.Need-returns
 returns c =
-    let c4 = c .before .before .before .before in
-    let c5 = c4 .before in
-    let c6 = c5 .before in
-    position-law (c6 .args .words) (c5 .field .result) (c .before .before .before .field2 .result) (c .before .field3 .result) _ _ _
-    (c5 .field .ensures .0)
-    (toZ-ofZ w32 (c4 .signed32 .result) (meant-fits w32 _ (c5 .field .result) (c4 .signed32 .ensures) (omega arith)) ∙ c4 .signed32 .ensures)
-    (c .before .before .before .field2 .ensures .0)
-    (toZ-ofZ w32 (c .before .before .signed322 .result)
-    (meant-fits w32 _ (c .before .before .before .field2 .result) (c .before .before .signed322 .ensures) (omega arith))
-    ∙ c .before .before .signed322 .ensures)
-    (c .before .field3 .ensures .0)
-    (toZ-ofZ w32 (c .signed323 .result) (meant-fits w32 _ (c .before .field3 .result) (c .signed323 .ensures) (omega arith))
-    ∙ c .signed323 .ensures)
+    let f = c .before .before .before in
+    let a = f .before .before .args in
+    held (f .fields .result) _ _ _
+    (signed-held w32 (c .before .before .signed32 .result) _ (c .before .before .signed32 .ensures) (fit f 0))
+    (signed-held w32 (c .before .signed322 .result) _ (c .before .signed322 .ensures) (fit f 1))
+    (signed-held w32 (c .signed323 .result) _ (c .signed323 .ensures) (fit f 2))
+    ∙ ap meant (row-read (a .words) widths 0 (f .fields .result) (f .fields .ensures) (search needs) (omega arith))
 
 pub position-from-spec : {M : Type 1} → statement M
 position-from-spec =
     tie.close
-    (tie.spec (λ c κs. search needs) (λ c κs. search needs) (λ c κs. search needs) (λ c κs. search needs)
-    (λ c κs. search needs) (λ c κs. search needs) returns)
+    (tie.spec (λ c. search needs) (λ c κs. search needs) (λ c. search needs) (λ c κs. search needs) (λ c. search needs)
+    (λ c κs. search needs) (λ c. search needs) (λ c κs. search needs) returns)
