@@ -15,7 +15,7 @@ use Rattle.reader.specs.declared.Next.{Next}
 use Rattle.reader.specs.declared.Taken.{Taken}
 use Rattle.state_bytes.specs.State.{startPut, statePut}
 use Rattle.state_bytes.proofs.RoundTrip.{put-held, put-read, put-again, start-put}
-use Rattle.state_bytes.proofs.Carried.{CarriedBy, carried-fit, order-holds}
+use Rattle.state_bytes.proofs.Carried.{CarriedBy, carried-narrow, carried-fit, carried-ended, carried-taken, order-holds}
 use Rattle.cabi.specs.Line.{doneBy, readBy}
 use Rattle.cabi.proofs.LineLaws.{read-by}
 
@@ -46,12 +46,12 @@ module _ (r : Reader) (k : CarriedBy r) (state : List ℕ) (h : 188 ≤ length s
       read-by answer call (statePut r state) (put-held r state h (carried-fit r k)) {x = call r} (ap call (sym (put-read r state h (carried-fit r k))))
 
   -- the bytes after feeding that left `next`
-  pub left-carried : (next : Reader) → statePut next (statePut r state) ≡ statePut next state
-  left-carried = put-again r state h (carried-fit r k)
+  pub left-carried : (next : Reader) → CarriedBy next → statePut next (statePut r state) ≡ statePut next state
+  left-carried next n = put-again r state h (carried-fit r k) next (carried-narrow next n)
 
   -- the bytes after ending and after taking: only their start is put
   pub ended-left : startPut (endedBy r .reader .candidate) (endedBy r .reader .ended) (statePut r state) ≡ statePut (endedBy r .reader) state
-  ended-left = start-put r state h (carried-fit r k) (endedBy r .reader) (ended-cells r)
+  ended-left = start-put r state h (carried-fit r k) (endedBy r .reader) (carried-narrow (endedBy r .reader) (carried-ended r k)) (ended-cells r)
 
   pub taken-left : startPut (takenBy r .reader .candidate) (takenBy r .reader .ended) (statePut r state) ≡ statePut (takenBy r .reader) state
-  taken-left = start-put r state h (carried-fit r k) (takenBy r .reader) (taken-cells r)
+  taken-left = start-put r state h (carried-fit r k) (takenBy r .reader) (carried-narrow (takenBy r .reader) (carried-taken r k)) (taken-cells r)

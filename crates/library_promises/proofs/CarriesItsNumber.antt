@@ -14,7 +14,9 @@ use Rattle.reader.specs.declared.Next.{Next}
 use Rattle.journal.specs.Journal.{recallOrder}
 use Rattle.writer.specs.Answer.{openChecks}
 use Rattle.value.proofs.AnswerLaws.{prc-says, rrc-says, cn0-says}
-use Rattle.state_bytes.specs.State.{stateIn}
+use Rattle.reader.specs.declared.Candidate.{Candidate}
+use Rattle.state_bytes.specs.State.{stateIn, putChecks, storedBy, saysStored}
+use Rattle.state_bytes.specs.declared.Stored.the-variants as stored
 use Rattle.pack.specs.Coding.{Coding}
 use Rattle.entry_bytes.specs.Rows.{putOrder, putBy, saysPut}
 use Rattle.entry_bytes.specs.declared.row.Put.the-variants as put
@@ -45,6 +47,10 @@ feed-order state byte =
 -- an entry as a row of bytes: 13
 pub put-ordered : {A : Type 0} (row : Coding A) (lent : List ℕ) → Ordered (13 ∷ []) (putOrder row lent) (saysPut (putBy row lent))
 put-ordered row lent = ordered (putOrder row lent) _ (says-order saysPut put.Refused (λ n. refl) put.Done (putOrder row lent) refl) refl refl
+
+-- a state as bytes: 5, 13
+pub put-stored : (c : Candidate) (bytes : List ℕ) → Ordered (5 ∷ 13 ∷ []) (putChecks c bytes) (saysStored (storedBy c bytes))
+put-stored c bytes = ordered (putChecks c bytes) _ (says-order saysStored stored.Refused (λ n. refl) stored.Done (putChecks c bytes) refl) refl refl
 
 pub library-numbers : LibraryNumbers
 library-numbers = record {
@@ -82,6 +88,8 @@ library-numbers = record {
   stops = λ prc rrc. ordered [] _ refl refl refl;
   udre-limit-mm = λ code udre. ordered (in-order.limitOrder code udre) _ (limit-order code udre) refl refl;
   cn0-dbhz = λ code. ordered ((ltb 31 code, 10) ∷ []) _ (cn0-says code) refl refl;
+  put-start = put-stored;
+  put-state = λ r bytes. put-stored (r .candidate) bytes;
   put-correction = put-ordered correction.row;
   put-health = put-ordered health.row;
 }

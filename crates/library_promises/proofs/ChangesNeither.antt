@@ -1,16 +1,15 @@
 -- A refusal before the last stage leaves the place alone; one of the last stage is that of the package's own call. Assumes nothing.
-use mathlib.Core.Path.{_≡_, refl}
+use mathlib.Core.Path.{refl, sym}
 use mathlib.Core.Bool.{Bool}
 use mathlib.Core.List.{List}
-use Prim.Native.Nat.{ℕ, _<_}
-use lib.ListN.{length}
-use borrow.Author.Tests.{lt-ltb}
+use Prim.Native.Nat.{ℕ}
 use Rattle.answer.specs.Order.{Says, refuses, answers}
+use Rattle.answer.proofs.OrderLaws.{refuses-apart}
 use Rattle.frame.specs.declared.Frame.{Frame}
 use Rattle.reader.specs.declared.Candidate.{Candidate}
 use Rattle.reader.specs.declared.Reader.{Reader}
 use Rattle.pack.specs.Coding.{Coding}
-use Rattle.state_bytes.specs.State.{startPut, statePut}
+use Rattle.state_bytes.specs.State.{storedBy, startPut, statePut, saysStored}
 use Rattle.entry_bytes.specs.Corrections as correction
 use Rattle.entry_bytes.specs.Healths as health
 use Rattle.cabi.specs.Header.{headed}
@@ -26,7 +25,7 @@ use Rattle.cabi.specs.Texts as texts
 use Rattle.promises.specs.ChangesNeither.{Keeps}
 use Rattle.promises.proofs.ChangesNeither.{keeps, changes-neither}
 use Rattle.library_promises.specs.ChangesNeither.{LibraryKeeps}
-use Rattle.library_promises.proofs.CarriesItsNumber.{put-ordered}
+use Rattle.library_promises.proofs.CarriesItsNumber.{put-ordered, put-stored}
 
 line-keeps : (s : Says Frame) (d29 d30 : ℕ) (line : List ℕ) → Keeps (writeSaid s d29 d30 line) (lineLent s d29 d30 line) line
 line-keeps (answers f) d29 d30 line = changes-neither .write f (pairOf d29 d30) line
@@ -48,14 +47,14 @@ entry-keeps row (refuses m) lent = λ n e. refl
 made-keeps : (s : Says Frame) (frame : List ℕ) (size : ℕ) → Keeps (keptTo s frame) (heldTo s frame) frame × Keeps (keptTo s frame) (sizeTo s frame size) size
 made-keeps s frame size = (frame-keeps s frame, λ n e. rw e)
 
--- bytes too few for a state
-start-short : (c : Candidate) (ended : Bool) (bytes : List ℕ) → length bytes < 188 → startPut c ended bytes ≡ bytes
+-- a state as bytes
+start-keeps : (c : Candidate) (ended : Bool) (bytes : List ℕ) → Keeps (saysStored (storedBy c bytes)) (startPut c ended bytes) bytes
 unfolding startPut
-start-short c ended bytes h = rw (lt-ltb (length bytes) 188 h)
+start-keeps c ended bytes = keeps (put-stored c bytes) (λ b. b) (λ n. bytes) _ _ (λ n. refl)
 
-state-short : (r : Reader) (bytes : List ℕ) → length bytes < 188 → statePut r bytes ≡ bytes
+state-keeps : (r : Reader) (bytes : List ℕ) → Keeps (saysStored (storedBy (r .candidate) bytes)) (statePut r bytes) bytes
 unfolding statePut
-state-short r bytes h = rw (lt-ltb (length bytes) 188 h)
+state-keeps r bytes = keeps (put-stored (r .candidate) bytes) (λ b. b) (λ n. bytes) _ _ (λ n. refl)
 
 pub library-keeps : LibraryKeeps
 library-keeps = record {
@@ -82,10 +81,11 @@ library-keeps = record {
   make-text = λ kind station z sequence code t. made-keeps (texts.makeSaid kind station z sequence code t);
   prc-mm = λ scale prc stop mm. (λ n e. rw e, λ n e. rw e);
   rrc-mm-s = λ scale rrc stop rate. (λ n e. rw e, λ n e. rw e);
+  stops = λ prc rrc stop n e. absurd (refuses-apart n _ (sym e));
   udre-limit-mm = λ code udre limited mm. (λ n e. rw e, λ n e. rw e);
   cn0-dbhz = λ code tracked dbhz. (λ n e. rw e, λ n e. rw e);
   put-correction = λ entry lent. entry-keeps correction.row (answers entry) lent;
   put-health = λ entry lent. entry-keeps health.row (answers entry) lent;
-  put-start = start-short;
-  put-state = state-short;
+  put-start = start-keeps;
+  put-state = state-keeps;
 }

@@ -10,8 +10,8 @@ pub library-calls : LibraryCalls
 library-calls = record {
   holds-state = record { asks-nothing = λ κs a. tt; settles = λ κs a z e p. p; ends = state_bytes.holds_state.Met.met };
   state-in = record { asks-nothing = λ κs a. tt; settles = λ κs a z e p. p; ends = state_bytes.state_in.Met.met };
-  put-start = record { asks-nothing = λ κs a. tt; settles = λ κs a z e p. refl; leaves = λ κs a z e p. p; ends = state_bytes.put_start.Met.met };
-  put-state = record { asks-nothing = λ κs a. tt; settles = λ κs a z e p. refl; leaves = λ κs a z e p. p; ends = state_bytes.put_state.Met.met };
+  put-start = record { asks-nothing = λ κs a. tt; settles = λ κs a z e p. p .0; leaves = λ κs a z e p. p .1; ends = state_bytes.put_start.Met.met };
+  put-state = record { asks-nothing = λ κs a. tt; settles = λ κs a z e p. p .0; leaves = λ κs a z e p. p .1; ends = state_bytes.put_state.Met.met };
   count-of = record { asks-nothing = λ κs a. tt; settles = λ κs a z e p. p; ends = entry_bytes.row.count_of.Met.met };
   corrections-in = record { asks-nothing = λ κs a. tt; settles = λ κs a z e p. p; ends = entry_bytes.correction.corrections_in.Met.met };
   put-correction = record { asks-nothing = λ κs a. tt; settles = λ κs a z e p. p .0; leaves = λ κs a z e p. p .1; ends = entry_bytes.correction.put_correction.Met.met };

@@ -24,6 +24,7 @@ use Rattle.reader.specs.declared.Taken.{Taken}
 use Rattle.journal.specs.Journal.{keepOrder, keptBy, heldBy, saysKept}
 use Rattle.journal.specs.declared.Kept.the-variants as kept-as
 use Rattle.state_bytes.specs.State.{startPut, statePut}
+use Rattle.state_bytes.proofs.Carried.{carried-fed, carried-fed-all}
 use Rattle.cabi.specs.Answer.{left, andThen}
 use Rattle.cabi.specs.Frames.{frameSaid}
 use Rattle.cabi.specs.Line.{doneBy, fedIn, fedAllIn, endedIn, takenIn}
@@ -54,7 +55,7 @@ module _ (r : Reader) (k : Called r) (state : List ℕ) (h : 188 ≤ length stat
   same-feed b = record {
     reply = ap replied (number-told (x .answer) x is (carries-its-number .feed r b) (λ s. tt) ∙ no-value (x .answer));
     leaves = left-told (x .answer) x is (λ (n : Next). statePut (n .reader) held) held (statePut (x .reader) state)
-        (left-carried r (k .carried) state h (x .reader)) (same-bytes (changes-neither .feed r b));
+        (left-carried r (k .carried) state h (x .reader) (carried-fed r (k .carried) b)) (same-bytes (changes-neither .feed r b));
   }
     where
       x : Next
@@ -68,7 +69,7 @@ module _ (r : Reader) (k : Called r) (state : List ℕ) (h : 188 ≤ length stat
   same-all bs u p = record {
     reply = ap used (number-told (x .answer) x is (carries-its-number .feed-all r bs) (λ s. (left s (λ f. f .used) u, left s (λ f. f .passed) p)));
     leaves = left-told (x .answer) x is (λ (f : FedAll). statePut (f .reader) held) held (statePut (x .reader) state)
-        (left-carried r (k .carried) state h (x .reader)) (same-bytes (changes-neither .feed-all r bs));
+        (left-carried r (k .carried) state h (x .reader) (carried-fed-all r (k .carried) bs)) (same-bytes (changes-neither .feed-all r bs));
   }
     where
       x : FedAll

@@ -11,7 +11,9 @@ use Rattle.frame.specs.declared.Layout.the-variants as layout
 use Rattle.reader.specs.Reading.{busy}
 use Rattle.journal.specs.Journal.{recallOrder}
 use Rattle.writer.specs.Answer.{openChecks}
-use Rattle.state_bytes.specs.State.{stateIn}
+use Rattle.reader.specs.declared.Candidate.{Candidate}
+use Rattle.reader.specs.declared.Reader.{Reader}
+use Rattle.state_bytes.specs.State.{stateIn, putChecks, storedBy, saysStored}
 use Rattle.entry_bytes.specs.Rows.{putOrder, putBy, saysPut}
 use Rattle.entry_bytes.specs.Corrections as correction
 use Rattle.entry_bytes.specs.Healths as health
@@ -37,7 +39,7 @@ afterRecord numbers = 14 ∷ 15 ∷ 16 ∷ 15 ∷ 16 ∷ 16 ∷ numbers
 abbrev pub afterHeader : List ℕ → List ℕ
 afterHeader numbers = 5 ∷ 5 ∷ 6 ∷ 7 ∷ numbers
 
--- every exported function but the one that answers a constant, and the two that put an entry in bytes. The order of `stops` is empty: it never refuses.
+-- every exported function but the one that answers a constant, and those that put a state or an entry in bytes. The order of `stops` is empty: it never refuses.
 pub record LibraryNumbers : Type 0 where
   -- reading the line
   pub start : (state : List ℕ) → Ordered (13 ∷ []) (in-order.startedOrder state) (startedIn state)
@@ -96,5 +98,7 @@ pub record LibraryNumbers : Type 0 where
   pub udre-limit-mm : (code udre : ℕ) → Ordered (5 ∷ 10 ∷ []) (in-order.limitOrder code udre) (limitSaid code udre)
   pub cn0-dbhz : (code : ℕ) → Ordered (10 ∷ []) ((ltb 31 code, 10) ∷ []) (strengthSaid code)
   -- an entry as a row of bytes
+  pub put-start : (c : Candidate) (bytes : List ℕ) → Ordered (5 ∷ 13 ∷ []) (putChecks c bytes) (saysStored (storedBy c bytes))
+  pub put-state : (r : Reader) (bytes : List ℕ) → Ordered (5 ∷ 13 ∷ []) (putChecks (r .candidate) bytes) (saysStored (storedBy (r .candidate) bytes))
   pub put-correction : (lent : List ℕ) → Ordered (13 ∷ []) (putOrder correction.row lent) (saysPut (putBy correction.row lent))
   pub put-health : (lent : List ℕ) → Ordered (13 ∷ []) (putOrder health.row lent) (saysPut (putBy health.row lent))

@@ -1,18 +1,17 @@
 -- DEMAND 1 of the library for C and Rust, ".. and changes neither state nor buffer": after a refusal every place lent to the function holds what it
 -- held. What is left there is said as in the function's field of LibraryCalls. Assumes nothing.
-use mathlib.Core.Path.{_≡_}
 use mathlib.Core.Bool.{Bool}
 use mathlib.Core.List.{List}
-use Prim.Native.Nat.{ℕ, _<_}
+use Prim.Native.Nat.{ℕ}
 use lib.IntN.{ℤ}
-use lib.ListN.{length}
+use Rattle.bits.specs.Bits.{val}
 use Rattle.reader.specs.declared.Candidate.{Candidate}
 use Rattle.reader.specs.declared.Reader.{Reader}
 use Rattle.corrections.specs.declared.Correction.{Correction}
 use Rattle.healths.specs.declared.SatelliteHealth.{SatelliteHealth}
 use Rattle.journal.specs.Journal.{heldBy}
 use Rattle.writer.specs.Answer.{openedTo}
-use Rattle.state_bytes.specs.State.{startPut, statePut}
+use Rattle.state_bytes.specs.State.{storedBy, startPut, statePut, saysStored}
 use Rattle.entry_bytes.specs.Rows.{putBy, rowAfter, saysPut}
 use Rattle.entry_bytes.specs.Corrections as entry-corrections
 use Rattle.entry_bytes.specs.Healths as entry-healths
@@ -29,7 +28,7 @@ use Rattle.cabi.specs.Healths as healths
 use Rattle.cabi.specs.Positions as positions
 use Rattle.cabi.specs.Nulls as nulls
 use Rattle.cabi.specs.Texts as texts
-use Rattle.cabi.specs.Values.{prcSaid, stopFlag, exactOr0, rrcSaid, limitSaid, limitFlag, limitOr0, strengthSaid, trackedFlag, dbHzOr0}
+use Rattle.cabi.specs.Values.{prcSaid, stopFlag, exactOr0, rrcSaid, stopsSaid, limitSaid, limitFlag, limitOr0, strengthSaid, trackedFlag, dbHzOr0}
 use Rattle.promises.specs.ChangesNeither.{Keeps}
 
 -- every function that is lent a place, and each of its places
@@ -90,6 +89,7 @@ pub record LibraryKeeps : Type 0 where
       Keeps s (left s stopFlag stop) stop × Keeps s (left s exactOr0 mm) mm
   pub rrc-mm-s : (scale : ℕ) (rrc : ℤ) (stop : ℕ) (rate : ℤ) → let s = rrcSaid scale rrc in
       Keeps s (left s stopFlag stop) stop × Keeps s (left s exactOr0 rate) rate
+  pub stops : (prc rrc : ℤ) (stop : ℕ) → Keeps (stopsSaid prc rrc) (left (stopsSaid prc rrc) val stop) stop
   pub udre-limit-mm : (code udre limited mm : ℕ) → let s = limitSaid code udre in
       Keeps s (left s limitFlag limited) limited × Keeps s (left s limitOr0 mm) mm
   pub cn0-dbhz : (code tracked dbhz : ℕ) → let s = strengthSaid code in
@@ -99,6 +99,6 @@ pub record LibraryKeeps : Type 0 where
       → Keeps (saysPut (putBy entry-corrections.row lent)) (rowAfter entry-corrections.row entry lent) lent
   pub put-health : (entry : SatelliteHealth) (lent : List ℕ)
       → Keeps (saysPut (putBy entry-healths.row lent)) (rowAfter entry-healths.row entry lent) lent
-  -- a state as bytes, which has no refusal: bytes that are too few for it stay as they are
-  pub put-start : (c : Candidate) (ended : Bool) (bytes : List ℕ) → length bytes < 188 → startPut c ended bytes ≡ bytes
-  pub put-state : (r : Reader) (bytes : List ℕ) → length bytes < 188 → statePut r bytes ≡ bytes
+  -- a state as bytes
+  pub put-start : (c : Candidate) (ended : Bool) (bytes : List ℕ) → Keeps (saysStored (storedBy c bytes)) (startPut c ended bytes) bytes
+  pub put-state : (r : Reader) (bytes : List ℕ) → Keeps (saysStored (storedBy (r .candidate) bytes)) (statePut r bytes) bytes

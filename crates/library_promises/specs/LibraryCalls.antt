@@ -4,7 +4,7 @@ use Prim.Native.Nat.{ℕ}
 use lib.IntN.{ℤ}
 use denote.Ref.{now}
 use Rattle.bits.specs.Bits.{val}
-use Rattle.state_bytes.specs.State.{holdsState, stateIn, startPut, statePut}
+use Rattle.state_bytes.specs.State.{holdsState, stateIn, storedBy, startPut, statePut}
 use Rattle.entry_bytes.specs.Rows.{countOf, entriesFrom, putBy, rowAfter}
 use Rattle.cabi.specs.Answer.{numberOf, left}
 use Rattle.cabi.specs.Line.{startedIn, fedIn, fedAllIn, endedIn, takenIn}
@@ -36,10 +36,10 @@ pub record LibraryCalls : Type 2 where
   pub holds-state : Answered state_bytes.holds_state.Reads.Asked state_bytes.holds_state.Reads.Learnt state_bytes.holds_state.Statement.statement (λ κs (bytes, _). holdsState (now bytes))
   pub state-in : Answered state_bytes.state_in.Reads.Asked state_bytes.state_in.Reads.Learnt state_bytes.state_in.Statement.statement (λ κs (bytes, _). stateIn (now bytes))
   pub put-start : AnsweredLent state_bytes.put_start.Reads.Asked state_bytes.put_start.Reads.Learnt state_bytes.put_start.Statement.statement
-      (λ κs a. tt)
+      (λ κs (c, (_, (bytes, _))). storedBy c (now bytes))
       (λ κs (_, (_, (bytes, _))). now bytes) (λ κs (c, (ended, (bytes, _))). startPut c ended (now bytes))
   pub put-state : AnsweredLent state_bytes.put_state.Reads.Asked state_bytes.put_state.Reads.Learnt state_bytes.put_state.Statement.statement
-      (λ κs a. tt)
+      (λ κs (reader, (bytes, _)). storedBy (reader .candidate) (now bytes))
       (λ κs (_, (bytes, _)). now bytes) (λ κs (reader, (bytes, _)). statePut reader (now bytes))
   -- entry_bytes::row
   pub count-of : Answered entry_bytes.row.count_of.Reads.Asked entry_bytes.row.count_of.Reads.Learnt entry_bytes.row.count_of.Statement.statement (λ κs (size, (length, _)). countOf size length)

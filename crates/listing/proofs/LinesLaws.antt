@@ -11,8 +11,8 @@ use Rattle.answer.specs.Order.{inOrder}
 use Rattle.bits.specs.Bits.{number}
 use Rattle.bits.proofs.Stores.{sets-append}
 use Rattle.line.specs.Line.{isData, six}
-use Rattle.frame.specs.Header.{headerOf}
-use Rattle.frame.specs.Frames.{framed, frameOf, blank}
+use Rattle.frame.specs.Header.{factors, headerOf}
+use Rattle.frame.specs.Frames.{framed, blank}
 use Rattle.frame.specs.Widths.{stateOutside}
 use Rattle.frame.proofs.StateLaws.{state-inside}
 use Rattle.stream.specs.Standing.{frameAt}

@@ -10,6 +10,7 @@ use borrow.Author.Tests.{ltb-false}
 use Rattle.answer.specs.Order.{Says, answers, Check, inOrder, NoneApplies}
 use Rattle.answer.proofs.OrderLaws.{order-answers, order-refuses}
 use Rattle.frame.specs.Frames.{blank}
+use Rattle.frame.specs.Widths.{numbersOutside, headerOutside, outside}
 use Rattle.reader.specs.Reading.{fedBy, fedAllBy, endedBy, takenBy, saysAnswer}
 use Rattle.reader.specs.declared.Reader.{Reader}
 use Rattle.reader.specs.declared.Answer.the-variants.{Refused}

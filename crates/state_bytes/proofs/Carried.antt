@@ -45,7 +45,8 @@ use Rattle.reader.specs.declared.Next.{Next}
 use Rattle.reader.specs.declared.FedAll.{FedAll}
 use Rattle.reader.specs.declared.Taken.{Taken}
 use Rattle.reader.proofs.Accepted.{Accepted, accept-free, length-step, accepted-step, accepted-end, accepted-take}
-use Rattle.state_bytes.specs.State.{stateNumbers}
+use Rattle.state_bytes.specs.State.{stateNumbers, tooWide}
+use Rattle.state_bytes.proofs.StateLaws.{narrow}
 
 -- ---- cells of 32 bits
 
@@ -119,6 +120,12 @@ fit-small (suc n) (x ∷ xs) e s = (s .0, fit-small n xs (omega arith) (s .1))
 small-val : (b : Bool) → val b < 2 ^ 32
 small-val true = omega arith
 small-val false = omega arith
+
+-- its counts fit in four bytes
+pub carried-narrow : (r : Reader) → CarriedBy r → tooWide (r .candidate) ≡ false
+carried-narrow r k =
+    let a = k .fine in
+    narrow (r .candidate) (omega (arith, a .top)) (omega (arith, a .top, a .low)) (omega (arith, a .few))
 
 -- every number fits in 32 bits
 pub carried-fit : (r : Reader) → CarriedBy r → Fit (replicate 47 32) (stateNumbers r)

@@ -2,11 +2,10 @@
 use mathlib.Core.Path.{_≡_, refl, sym, ap, ap₂, _∙_}
 use mathlib.Core.List.{List, [], _∷_, _++_, append-nil, append-assoc}
 use Prim.Native.Nat.{ℕ, zero, suc, _+_, _-_, _*_, _/_, _%_, _^_, _≤_, _<_}
-use native.Mathlib.Nat.{pow-suc, lt-of-lt-of-le}
+use native.Mathlib.Nat.{pow-suc}
 use native.Mathlib.Numerals.{add-one}
 use native.Mathlib.Omega.{arith}
-use lib.Pow.{pow-mono}
-use lib.ListN.{length, take, drop, getD, set, replicate, length-append, length-take, length-drop}
+use lib.ListN.{length, take, drop, getD, set, replicate, length-append, length-drop}
 use lib.Seq.{take-at, drop-at, drop-drop, take-add, length-take-le, set-at, append-snoc}
 use Rattle.bits.specs.Fields.{Fit, AreBytes}
 use Rattle.bits.proofs.FieldLaws.{fit-take, fit-drop}
@@ -38,17 +37,14 @@ bytes-number (b ∷ bs) f = ap₂ _∷_ low (ap (lowBytes (length bs)) high ∙ 
     high : (b + 256 * numberIn bs) / 256 ≡ numberIn bs
     high = omega (arith, f .0)
 
-number-lt : (bs : List ℕ) → AreBytes bs → numberIn bs < 256 ^ length bs
-unfolding numberIn
-number-lt [] f = omega arith
-number-lt (b ∷ bs) f = omega (arith, f .0, number-lt bs (f .1), pow-suc 256 (length bs))
-
 -- four bytes, or fewer, are less than 32 bits
 pub number-four : (bs : List ℕ) → AreBytes bs → numberIn (take 4 bs) < 2 ^ 32
-number-four bs f = lt-of-lt-of-le (number-lt (take 4 bs) (fit-take 4 bs f)) (pow-mono short)
-  where
-    short : length (take 4 bs) ≤ 4
-    short = omega (arith, length-take 4 bs)
+unfolding numberIn
+number-four [] f = omega arith
+number-four (a ∷ []) f = omega (arith, f .0)
+number-four (a ∷ b ∷ []) f = omega (arith, f .0, f .1 .0)
+number-four (a ∷ b ∷ c ∷ []) f = omega (arith, f .0, f .1 .0, f .1 .1 .0)
+number-four (a ∷ b ∷ c ∷ d ∷ bs) f = omega (arith, f .0, f .1 .0, f .1 .1 .0, f .1 .1 .1 .0)
 
 -- ---- numbers one after the other
 

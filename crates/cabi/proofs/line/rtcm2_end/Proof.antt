@@ -53,7 +53,7 @@ returns-3 c =
     let a = h .before .before .before .before .args in
     let state = now (a .state) in
     let e = read-done (λ (n : Next). n .answer) endedBy state (held h) (called f) (t .enum-told .given .1) in
-    (number-answered e, left-put (λ (n : Next). startPut (n .reader .candidate) (n .reader .ended) state) state e (p .put-start .ensures))
+    (number-answered e, left-put (λ (n : Next). startPut (n .reader .candidate) (n .reader .ended) state) state e (p .put-start .ensures .1))
 
 pub rtcm2-end-spec : {M : Type 1} → statement M
 rtcm2-end-spec =

@@ -53,7 +53,7 @@ returns-3 c =
     let a = h .before .before .before .before .args in
     let state = now (a .state) in
     let e = read-done (λ (n : Next). n .answer) (λ r. fedBy r (a .byte)) state (held h) (called f) (t .enum-told .given .1) in
-    (number-answered e, left-put (λ (n : Next). statePut (n .reader) state) state e (p .put-state .ensures))
+    (number-answered e, left-put (λ (n : Next). statePut (n .reader) state) state e (p .put-state .ensures .1))
 
 pub rtcm2-feed-spec : {M : Type 1} → statement M
 rtcm2-feed-spec =

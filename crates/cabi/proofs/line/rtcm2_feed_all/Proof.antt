@@ -65,7 +65,7 @@ returns-3 c =
     let e = read-done (λ (n : FedAll). n .answer) (λ r. fedAllBy r (now (a .bytes))) state (held h) (called f) (t .enum-told .given .1) in (
       number-answered e,
       (
-        left-put (λ (n : FedAll). statePut (n .reader) state) state e (p .put-state .ensures),
+        left-put (λ (n : FedAll). statePut (n .reader) state) state e (p .put-state .ensures .1),
         (left-put (λ (n : FedAll). n .used) (now (a .used)) e refl, left-put (λ (n : FedAll). n .passed) (now (a .passed)) e refl),
       ),
     )

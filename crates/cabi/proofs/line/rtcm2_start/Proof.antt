@@ -20,7 +20,7 @@ returns-2 c =
     let h = n .before in
     let state = now (h .before .before .args .state) in
     let e = start-done state (h .if1 .left) in
-    (number-answered e, left-put (λ r. statePut r state) state e (p .put-state .ensures ∙ ap (λ r. statePut r state) (n .new .ensures)))
+    (number-answered e, left-put (λ r. statePut r state) state e (p .put-state .ensures .1 ∙ ap (λ r. statePut r state) (n .new .ensures)))
 
 pub rtcm2-start-spec : {M : Type 1} → statement M
 rtcm2-start-spec = tie.close (tie.spec returns (λ c κs. search needs) (λ c κs. search needs) (λ c. search needs) returns-2)

@@ -119,7 +119,7 @@ returns-4 c =
     let e = take-done state frame (taken t) (sym (k .keep .ensures .0) ∙ z .size .given .1) in (
       number-answered e,
       (
-        left-put (λ (v : Both). startPut (v .1 .reader .candidate) (v .1 .reader .ended) state) state e (p .put-start .ensures),
+        left-put (λ (v : Both). startPut (v .1 .reader .candidate) (v .1 .reader .ended) state) state e (p .put-start .ensures .1),
         (
           left-put (λ (v : Both). heldBy (v .1 .frame) frame) frame e (k .keep .ensures .1),
           (left-put (λ (v : Both). v .0) (now (a .length)) e refl, left-put (λ (v : Both). v .1 .at) (now (a .at)) e refl),
