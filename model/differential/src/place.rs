@@ -47,7 +47,7 @@ impl Place {
 
     /// A place that starts with these bytes: mostly it holds no more, seldom 2^32 more.
     pub fn starting(rng: &mut Rng, bytes: &[u8]) -> Place {
-        let longer = match rng.below(1000) {
+        let longer = match rng.below(300) {
             0 => Place::far_longer(rng, bytes),
             _ => None,
         };
