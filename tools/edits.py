@@ -127,7 +127,7 @@ RESTS = "was not admitted"
 FORM = re.compile(r"has no field|that can be named from here")
 
 # a fact that is not proved: an equation of other sides, or one that was looked for and not found
-FACT = re.compile(r"two types|two values|expected type `.*(?:Core\.Path| ≡ )|does not hold|missing equation|`(?:simp|rw|search|omega)\b")
+FACT = re.compile(r"two types|two values|expected type `(?:Path \(|.*(?:Core\.Path| ≡ ))|does not hold|missing equation|`(?:simp|rw|search|omega)\b")
 
 
 @dataclass
