@@ -2,8 +2,8 @@
  * PRC in mm, RRC in mm/s, UDRE limit in mm, IOD; then how many frames and corrections there were. A satellite that is not to
  * be used has "stop" for PRC and RRC.
  *
- *   rt staticlib cabi
- *   cc -std=c11 -O2 -Wall -Wextra -Iinclude examples/c/corrections.c target/staticlib/libcabi.a -o corrections
+ *   rt staticlib rtcm2
+ *   cc -std=c11 -O2 -Wall -Wextra -Iinclude examples/c/corrections.c target/staticlib/librtcm2.a -o corrections
  *   ./corrections < examples/stream.bin
  */
 #include <inttypes.h>

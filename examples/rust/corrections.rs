@@ -3,8 +3,8 @@
 //! mm, IOD; then how many frames and corrections there were. A satellite that is
 //! not to be used has "stop" for PRC and RRC.
 //!
-//!     rt staticlib cabi
-//!     rustc --edition 2021 -O -L target/staticlib -l static=cabi examples/rust/corrections.rs
+//!     rt staticlib rtcm2
+//!     rustc --edition 2021 -O -L target/staticlib -l static=rtcm2 examples/rust/corrections.rs
 //!     ./corrections < examples/stream.bin
 
 mod rtcm2;

@@ -1,10 +1,10 @@
-//! Links libcabi.a from the folder in RTCM2_LIBRARY, or from target/staticlib.
+//! Links librtcm2.a from the folder in RTCM2_LIBRARY, or from target/staticlib.
 
 fn main() {
     let usual = concat!(env!("CARGO_MANIFEST_DIR"), "/../../target/staticlib");
     let folder = std::env::var("RTCM2_LIBRARY").unwrap_or_else(|_| usual.to_string());
     println!("cargo:rerun-if-env-changed=RTCM2_LIBRARY");
-    println!("cargo:rerun-if-changed={folder}/libcabi.a");
+    println!("cargo:rerun-if-changed={folder}/librtcm2.a");
     println!("cargo:rustc-link-search=native={folder}");
-    println!("cargo:rustc-link-lib=static=cabi");
+    println!("cargo:rustc-link-lib=static=rtcm2");
 }

@@ -10,8 +10,8 @@ use Rattle.frame.specs.Widths.{stateOutside, headerOutside, outside, lat
 use Rattle.frame.specs.declared.State.{State}
 use Rattle.frame.specs.declared.Header.{Header}
 use Rattle.frame.specs.declared.Frame.{Frame}
-use Rattle.frame.specs.declared.Health.{Health}
-use Rattle.frame.specs.declared.Health.the-variants as health
+use Rattle.frame.specs.declared.HealthCode.{HealthCode}
+use Rattle.frame.specs.declared.HealthCode.the-variants as health
 use Rattle.frame.specs.declared.HeaderWords.{HeaderWords}
 use Rattle.frame.specs.declared.HeaderWords.the-variants as words
 use Rattle.frame.specs.declared.Widths.{Widths}
@@ -20,7 +20,7 @@ use Rattle.frame.specs.declared.Clock.{Clock}
 use Rattle.frame.specs.declared.Clock.the-variants.{Hour, Late}
 
 -- a state's health code: refusal 5
-abbrev pub healthOf : State → Health
+abbrev pub healthOf : State → HealthCode
 healthOf s = inOrder ((stateOutside s, 5) ∷ []) health.Refused (health.Code (codeOf s))
 
 -- the data of words 1 and 2: refusal 5, also for N over 31
@@ -41,9 +41,9 @@ clockOf z = cond (late z) Late Hour
 
 -- ---- in the table's terms
 
-abbrev pub saysHealth : Health → Says ℕ
-saysHealth (health.Code c) = answers c
-saysHealth (health.Refused n) = refuses n
+abbrev pub saysHealthCode : HealthCode → Says ℕ
+saysHealthCode (health.Code c) = answers c
+saysHealthCode (health.Refused n) = refuses n
 
 abbrev pub saysWords : HeaderWords → Says (List Bool × List Bool)
 saysWords (words.Words a b) = answers (bits 24 a, bits 24 b)

@@ -39,7 +39,7 @@ pub struct Frame {
 }
 
 // A health code, or the refusal's number.
-pub enum Health {
+pub enum HealthCode {
     Code(u8),
     Refused(u8),
 }
@@ -90,13 +90,13 @@ pub fn state_of(health: u32) -> State
 }
 
 // A state's health code; 5 for a factor other than the six.
-pub fn health_of(state: State) -> Health
+pub fn health_of(state: State) -> HealthCode
     ensures { λ r. ⌜ r ≡ healthOf state ⌝ }
 {
     if state_outside(state) {
-        return Health::Refused(5);
+        return HealthCode::Refused(5);
     }
-    Health::Code(code_of(state))
+    HealthCode::Code(code_of(state))
 }
 
 // A type code, six bits, to the type number: 0 means 64.

@@ -15,7 +15,7 @@ use Rattle.frame.specs.Header.{codeOf}
 use Rattle.frame.specs.Widths.{stateOutside}
 use Rattle.frame.specs.Answer.{healthOf}
 use Rattle.frame.specs.declared.State.{State}
-use Rattle.frame.specs.declared.Health.the-variants.{Code, Refused}
+use Rattle.frame.specs.declared.HealthCode.the-variants.{Code, Refused}
 use Rattle.listing.specs.Text.{lastDigits, digitsUpTo, decimal, space, newline, afterNumber, spaced, framesLabel, bytesLabel, passedLabel, lastLine}
 use Rattle.listing.proofs.StoreLaws.{sets-last, length-stored, length-marked, stored-then}
 

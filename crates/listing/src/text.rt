@@ -10,7 +10,7 @@ ghost use Rattle.frame.specs.Widths.{stateOutside};
 ghost use Rattle.listing.specs.Listing.{lineRoom};
 ghost use Rattle.listing.specs.Text.{digitsUpTo, decimal, spaced, frameLine, lastLine};
 use frame::Frame;
-use frame::Health;
+use frame::HealthCode;
 
 // How many digits a number has.
 fn digits_in(n: u64) -> usize
@@ -80,7 +80,7 @@ pub(crate) fn put_frame(at: u32, frame: Frame, place: usize, buffer: &mut [u8]) 
 {
     let header = frame.header;
     let state = header.state;
-    let Health::Code(health) = frame::health_of(state) else {
+    let HealthCode::Code(health) = frame::health_of(state) else {
         return place;
     };
     let numbers = [

@@ -14,10 +14,10 @@ use Rattle.word.specs.Answer.{saysSent}
 use Rattle.word.specs.declared.Sent.the-variants as sent
 use Rattle.frame.specs.Frames.{blank}
 use Rattle.frame.specs.Widths.{anyOf, stateOutside, late}
-use Rattle.frame.specs.Answer.{saysHealth, saysWords, saysWidths, saysClock}
+use Rattle.frame.specs.Answer.{saysHealthCode, saysWords, saysWidths, saysClock}
 use Rattle.frame.specs.declared.Layout.{Layout}
 use Rattle.frame.specs.declared.Layout.the-variants as layout
-use Rattle.frame.specs.declared.Health.the-variants as health
+use Rattle.frame.specs.declared.HealthCode.the-variants as health
 use Rattle.frame.specs.declared.HeaderWords.the-variants as words
 use Rattle.frame.specs.declared.Widths.the-variants.{Within, Outside}
 use Rattle.frame.specs.declared.Clock.the-variants.{Hour, Late}
@@ -31,22 +31,22 @@ use Rattle.writer.specs.declared.Opened.the-variants as opened
 use Rattle.writer.specs.declared.Written.the-variants as written
 use Rattle.journal.specs.Journal.{refusedRecall, saysKept, saysRecalled}
 use Rattle.journal.specs.declared.Kept.the-variants as kept
-use Rattle.stage.specs.Stages.{layoutNumber, entryRefusal, refusedMade, doneMade, saysAsked, saysSize, saysCount, saysPlace, saysMade}
-use Rattle.corrections.specs.Corrections.{countCorrections, correctionAt, makeCorrections, saysCorrectionRead}
-use Rattle.healths.specs.Healths.{countHealths, healthAt, makeHealths, saysHealthRead}
-use Rattle.positions.specs.Positions.{readPosition, makePosition, saysPositionRead}
-use Rattle.nulls.specs.Nulls.{readNull, makeNull, saysNullRead}
-use Rattle.texts.specs.Texts.{readText, makeText}
-use Rattle.stage.specs.declared.Count.the-variants as count
-use Rattle.corrections.specs.declared.CorrectionRead.the-variants as correction
-use Rattle.healths.specs.declared.HealthRead.the-variants as healths
-use Rattle.positions.specs.declared.PositionRead.the-variants as position
-use Rattle.nulls.specs.declared.NullRead.the-variants as null
-use Rattle.stage.specs.declared.Asked.the-variants.{Same, Other}
-use Rattle.stage.specs.declared.Place.the-variants as place
-use Rattle.stage.specs.declared.Size.the-variants.{Right, Wrong}
-use Rattle.value.specs.Values.{prcValue, rrcValue, udreValue, cn0Value}
-use Rattle.value.proofs.AnswerLaws.{prc-says, rrc-says, udre-says, cn0-says, minutes-says, z-says}
+use Rattle.record_stages.specs.Stages.{layoutNumber, entryRefusal, refusedMade, doneMade, saysAsked, saysSize, saysCount, saysPlace, saysMade}
+use Rattle.record_corrections.specs.Corrections.{countCorrections, correctionAt, makeCorrections, saysCorrectionRead}
+use Rattle.record_healths.specs.Healths.{countHealths, healthAt, makeHealths, saysHealthRead}
+use Rattle.record_positions.specs.Positions.{readPosition, makePosition, saysPositionRead}
+use Rattle.record_nulls.specs.Nulls.{readNull, makeNull, saysNullRead}
+use Rattle.record_texts.specs.Texts.{readText, makeText}
+use Rattle.record_stages.specs.declared.Count.the-variants as count
+use Rattle.record_corrections.specs.declared.CorrectionRead.the-variants as correction
+use Rattle.record_healths.specs.declared.HealthRead.the-variants as healths
+use Rattle.record_positions.specs.declared.PositionRead.the-variants as position
+use Rattle.record_nulls.specs.declared.NullRead.the-variants as null
+use Rattle.record_stages.specs.declared.Asked.the-variants.{Same, Other}
+use Rattle.record_stages.specs.declared.Place.the-variants as place
+use Rattle.record_stages.specs.declared.Size.the-variants.{Right, Wrong}
+use Rattle.record_values.specs.Values.{prcValue, rrcValue, udreValue, cn0Value}
+use Rattle.record_values.proofs.AnswerLaws.{prc-says, rrc-says, udre-says, cn0-says, minutes-says, z-says}
 use Rattle.listing.specs.Listing.{pieceBy, finishBy}
 use Rattle.listing.specs.Listing as listing
 use Rattle.listing.specs.declared.Listed.{Listed}
@@ -109,7 +109,7 @@ carries-its-number = record {
   recall = λ bs. told saysRecalled refusedRecall _ _ refl refl refl;
   six-of = λ b. told saysSix six.Refused _ _ refl refl refl;
   word-of = λ c d. told saysSent sent.Refused _ _ refl refl refl;
-  health-of = λ s. told saysHealth health.Refused _ _ refl refl refl;
+  health-of = λ s. told saysHealthCode health.Refused _ _ refl refl refl;
   header-words = λ h n. told saysWords words.Refused _ _ refl refl refl;
   header-widths = λ h. told saysWidths (λ n. Outside) Within tt refl refl refl;
   frame-widths = λ f. told saysWidths (λ n. Outside) Within tt refl refl refl;

@@ -27,16 +27,16 @@ use Rattle.journal.specs.Journal.{refusedRecall as unrecalled}
 use Rattle.journal.specs.declared.Recalled.{Recalled}
 use Rattle.journal.specs.declared.Kept.the-variants as kept
 use Rattle.journal.proofs.KeepLaws.{length-record}
-use Rattle.pack.specs.Coding.{frameBits}
-use Rattle.texts.proofs.TextCode.{length-characters}
-use Rattle.stage.specs.Stages.{refusedMade, saysCount}
-use Rattle.corrections.specs.Corrections.{makeCorrections}
-use Rattle.healths.specs.Healths.{makeHealths}
-use Rattle.positions.specs.Positions.{makePosition}
-use Rattle.nulls.specs.Nulls.{makeNull}
-use Rattle.stage.specs.declared.Made.{Made}
-use Rattle.stage.specs.declared.Count.the-variants as count
-use Rattle.texts.specs.Texts.{lengthIn, textIn, readText, bufferAfter, makeText}
+use Rattle.record_fields.specs.Coding.{frameBits}
+use Rattle.record_texts.proofs.TextCode.{length-characters}
+use Rattle.record_stages.specs.Stages.{refusedMade, saysCount}
+use Rattle.record_corrections.specs.Corrections.{makeCorrections}
+use Rattle.record_healths.specs.Healths.{makeHealths}
+use Rattle.record_positions.specs.Positions.{makePosition}
+use Rattle.record_nulls.specs.Nulls.{makeNull}
+use Rattle.record_stages.specs.declared.Made.{Made}
+use Rattle.record_stages.specs.declared.Count.the-variants as count
+use Rattle.record_texts.specs.Texts.{lengthIn, textIn, readText, bufferAfter, makeText}
 use Rattle.listing.specs.Listing.{Lines, lineRoom, endRoom, refusedListing, listed, linesOf, finalLines, pieceBy, pieceText, finishBy, finishText}
 use Rattle.listing.specs.declared.Listing.{Listing}
 use Rattle.listing.specs.declared.Listed.{Listed}

@@ -15,29 +15,29 @@ use Rattle.frame.specs.declared.Layout.{Layout}
 use Rattle.frame.specs.declared.Layout.the-variants as layout
 use Rattle.stream.specs.Standing.{frameAt}
 use Rattle.stream.proofs.Data.{frame-full}
-use Rattle.pack.specs.Coding.{Each}
-use Rattle.stage.specs.Stages.{otherLayout, refusedMade, doneMade, saysCount, saysMade}
-use Rattle.corrections.specs.Corrections.{countCorrections, correctionAt, makeCorrections, saysCorrectionRead, Typed}
-use Rattle.healths.specs.Healths.{countHealths, healthAt, makeHealths, saysHealthRead}
-use Rattle.positions.specs.Positions.{readPosition, makePosition, saysPositionRead}
-use Rattle.nulls.specs.Nulls.{readNull, makeNull, saysNullRead}
-use Rattle.texts.specs.Texts.{readText, makeText}
-use Rattle.corrections.specs.declared.Correction.{Correction}
-use Rattle.corrections.specs.declared.CorrectionRead.{CorrectionRead}
-use Rattle.corrections.specs.declared.CorrectionRead.the-variants as correction
-use Rattle.healths.specs.declared.SatelliteHealth.{SatelliteHealth}
-use Rattle.healths.specs.declared.HealthRead.{HealthRead}
-use Rattle.healths.specs.declared.HealthRead.the-variants as health
-use Rattle.positions.specs.declared.Position.{Position}
-use Rattle.positions.specs.declared.PositionRead.{PositionRead}
-use Rattle.positions.specs.declared.PositionRead.the-variants as position
-use Rattle.nulls.specs.declared.NullRead.{NullRead}
-use Rattle.nulls.specs.declared.NullRead.the-variants as null
-use Rattle.stage.specs.declared.Making.{Making}
-use Rattle.stage.specs.declared.Making.the-variants as making
-use Rattle.stage.specs.declared.Made.{Made}
-use Rattle.stage.proofs.StageLaws.{done-apart}
-use Rattle.stage.proofs.ListCode.{told-some-few}
+use Rattle.record_fields.specs.Coding.{Each}
+use Rattle.record_stages.specs.Stages.{otherLayout, refusedMade, doneMade, saysCount, saysMade}
+use Rattle.record_corrections.specs.Corrections.{countCorrections, correctionAt, makeCorrections, saysCorrectionRead, Typed}
+use Rattle.record_healths.specs.Healths.{countHealths, healthAt, makeHealths, saysHealthRead}
+use Rattle.record_positions.specs.Positions.{readPosition, makePosition, saysPositionRead}
+use Rattle.record_nulls.specs.Nulls.{readNull, makeNull, saysNullRead}
+use Rattle.record_texts.specs.Texts.{readText, makeText}
+use Rattle.record_corrections.specs.declared.Correction.{Correction}
+use Rattle.record_corrections.specs.declared.CorrectionRead.{CorrectionRead}
+use Rattle.record_corrections.specs.declared.CorrectionRead.the-variants as correction
+use Rattle.record_healths.specs.declared.SatelliteHealth.{SatelliteHealth}
+use Rattle.record_healths.specs.declared.HealthRead.{HealthRead}
+use Rattle.record_healths.specs.declared.HealthRead.the-variants as health
+use Rattle.record_positions.specs.declared.Position.{Position}
+use Rattle.record_positions.specs.declared.PositionRead.{PositionRead}
+use Rattle.record_positions.specs.declared.PositionRead.the-variants as position
+use Rattle.record_nulls.specs.declared.NullRead.{NullRead}
+use Rattle.record_nulls.specs.declared.NullRead.the-variants as null
+use Rattle.record_stages.specs.declared.Making.{Making}
+use Rattle.record_stages.specs.declared.Making.the-variants as making
+use Rattle.record_stages.specs.declared.Made.{Made}
+use Rattle.record_stages.proofs.StageLaws.{done-apart}
+use Rattle.record_stages.proofs.ListCode.{told-some-few}
 use Rattle.record_laws.proofs.CorrectionTrips.{corrections-made-read, corrections-read-made, corrections-read, corrections-held}
 use Rattle.record_laws.proofs.HealthTrips.{healths-made-read, healths-read-made, healths-read, healths-held}
 use Rattle.record_laws.proofs.PositionTrips.{position-made-read, position-read-made, position-read, position-held}

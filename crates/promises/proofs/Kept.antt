@@ -22,12 +22,12 @@ use Rattle.stream.proofs.Scanning.{scan-hit}
 use Rattle.stream.proofs.Prefix.{decided-hit}
 use Rattle.stream.proofs.Hunting.{MayCome, Idle, Hunts, hunts}
 use Rattle.reader.specs.Cells.{heldBits, roomEnd}
-use Rattle.reader.specs.Hunting.{stopOf, huntOf}
+use Rattle.reader.specs.Hunting.{haltOf, huntOf}
 use Rattle.reader.specs.Reading.{candidateBits, bitsOf, started, movedTo, stepCells, stepTo, steppedBy, endTo, takeTo}
 use Rattle.reader.specs.declared.Candidate.{Candidate}
 use Rattle.reader.specs.declared.Reader.{Reader}
 use Rattle.reader.proofs.Buffer.{length-held, held-part, held-none}
-use Rattle.reader.proofs.Accepted.{Accepted, room-free, room-all, so-far-known, rest-bits, accepted-stop, length-step, step-top, step-low, step-bits}
+use Rattle.reader.proofs.Accepted.{Accepted, room-free, room-all, so-far-known, rest-bits, accepted-halt, length-step, step-top, step-low, step-bits}
 use Rattle.promises.specs.Calls.{reported}
 
 -- where the hunt is after `hits` in the stream s, with d left: at position 2 + gone
@@ -79,10 +79,10 @@ module _ (s : List Bool) (out : List (ℕ × Frame)) (hits : List Placed) (given
   rest = rest-bits cells len end n top low k ended
 
   pub settled : Kept s out (record { cells = cells; candidate = movedTo at end held (huntOf cells end n k ended); ended = ended })
-  unfolding movedTo candidateBits huntOf stopOf
+  unfolding movedTo candidateBits huntOf haltOf
   settled = record {
     len = len;
-    accepted = accepted-stop cells len end n top low k ended at held room few (omega (arith, so-far-known k (heldBits cells end n) p, length-held cells end n len top low));
+    accepted = accepted-halt cells len end n top low k ended at held room few (omega (arith, so-far-known k (heldBits cells end n) p, length-held cells end n len top low));
     hits = hits;
     given = given;
     gone = gone + h .gone;

@@ -15,9 +15,9 @@ use Rattle.stream.proofs.Stand.{stands-long}
 use Rattle.stream.proofs.Turning.{drop-turned, n-turned}
 use Rattle.stream.proofs.Hunting.{turnedHunt, hunt-turned}
 use Rattle.reader.specs.Cells.{heldBits, roomEnd}
-use Rattle.reader.specs.Hunting.{stopOf, huntOf}
+use Rattle.reader.specs.Hunting.{haltOf, huntOf}
 use Rattle.reader.specs.Reading.{candidateBits, movedTo, stepCells, stepTo, endTo, takeTo}
-use Rattle.reader.specs.declared.hunt.Stop.{Stop}
+use Rattle.reader.specs.declared.hunt.Halt.{Halt}
 use Rattle.reader.specs.declared.Candidate.{Candidate}
 use Rattle.reader.proofs.Buffer.{held-part, length-held}
 use Rattle.reader.proofs.Accepted.{Accepted, rest-bits, length-step, step-top, step-low, step-bits}
@@ -31,26 +31,26 @@ pub record Opposed (cells : List ℕ) (c : Candidate) (cells′ : List ℕ) (c�
 
 -- ---- the hunt goes on
 
-same-stop : (h : Hunted) → stopOf (turnedHunt h) ≡ stopOf h
-unfolding stopOf turnedHunt
-same-stop h = ap (λ n. record { left = n; words = h .words; found = h .found }) (length-map (h .rest) not)
+same-halt : (h : Hunted) → haltOf (turnedHunt h) ≡ haltOf h
+unfolding haltOf turnedHunt
+same-halt h = ap (λ n. record { left = n; words = h .words; found = h .found }) (length-map (h .rest) not)
 
 module _ (cells cells′ : List ℕ) (len : length cells ≡ 40) (len′ : length cells′ ≡ 40) (end end′ n : ℕ) (top : end ≤ 1280) (top′ : end′ ≤ 1280) (low : n ≤ end) (low′ : n ≤ end′)
     (k : ℕ) (e : Bool) (is : heldBits cells′ end′ n ≡ map not (heldBits cells end n)) where
-  stop : huntOf cells′ end′ n k e ≡ huntOf cells end n k e
+  halt : huntOf cells′ end′ n k e ≡ huntOf cells end n k e
   unfolding huntOf
-  stop = ap (λ d. stopOf (hunt e k d)) is ∙ ap stopOf (hunt-turned e k (heldBits cells end n)) ∙ same-stop (hunt e k (heldBits cells end n))
+  halt = ap (λ d. haltOf (hunt e k d)) is ∙ ap haltOf (hunt-turned e k (heldBits cells end n)) ∙ same-halt (hunt e k (heldBits cells end n))
 
   rest : heldBits cells′ end′ (huntOf cells end n k e .left) ≡ map not (heldBits cells end (huntOf cells end n k e .left))
   rest =
-      ap (λ (s : Stop). heldBits cells′ end′ (s .left)) (sym stop)
+      ap (λ (s : Halt). heldBits cells′ end′ (s .left)) (sym halt)
       ∙ rest-bits cells′ len′ end′ n top′ low′ k e
       ∙ ap (λ d. hunt e k d .rest) is
       ∙ ap (λ (h : Hunted). h .rest) (hunt-turned e k (heldBits cells end n))
       ∙ (unfold turnedHunt in ap (map not) (sym (rest-bits cells len end n top low k e)))
 
   pub stopped-opposed : (at held : ℕ) → Opposed cells (movedTo at end held (huntOf cells end n k e)) cells′ (movedTo at end′ held (huntOf cells′ end′ n k e))
-  stopped-opposed at held = subst (λ s. Opposed cells (movedTo at end held (huntOf cells end n k e)) cells′ (movedTo at end′ held s)) (sym stop) same
+  stopped-opposed at held = subst (λ s. Opposed cells (movedTo at end held (huntOf cells end n k e)) cells′ (movedTo at end′ held s)) (sym halt) same
     where
       same : Opposed cells (movedTo at end held (huntOf cells end n k e)) cells′ (movedTo at end′ held (huntOf cells end n k e))
       same = unfold movedTo candidateBits in record { bits = rest; held = refl; words = refl; at = refl; waits = refl }

@@ -16,17 +16,17 @@ use Rattle.frame.specs.declared.Frame.{Frame}
 use Rattle.frame.specs.declared.Layout.{Layout}
 use Rattle.frame.specs.declared.Layout.the-variants as layout
 use Rattle.frame.proofs.FrameLaws.{n-within, length-framed}
-use Rattle.pack.specs.Coding.{entryBits, frameWith}
-use Rattle.stage.specs.Stages.{wrongCount, makeOrder, refusedMade, doneMade, HeaderFor, IsMade, saysCount, saysMade}
-use Rattle.corrections.specs.declared.Correction.{Correction}
-use Rattle.healths.specs.declared.SatelliteHealth.{SatelliteHealth}
-use Rattle.positions.specs.declared.Position.{Position}
-use Rattle.corrections.specs.Corrections as corrections
-use Rattle.healths.specs.Healths as healths
-use Rattle.positions.specs.Positions as positions
-use Rattle.nulls.specs.Nulls as nulls
-use Rattle.texts.specs.Texts as texts
-use Rattle.stage.proofs.StageLaws.{done-apart, done-frame}
+use Rattle.record_fields.specs.Coding.{entryBits, frameWith}
+use Rattle.record_stages.specs.Stages.{wrongCount, makeOrder, refusedMade, doneMade, HeaderFor, IsMade, saysCount, saysMade}
+use Rattle.record_corrections.specs.declared.Correction.{Correction}
+use Rattle.record_healths.specs.declared.SatelliteHealth.{SatelliteHealth}
+use Rattle.record_positions.specs.declared.Position.{Position}
+use Rattle.record_corrections.specs.Corrections as corrections
+use Rattle.record_healths.specs.Healths as healths
+use Rattle.record_positions.specs.Positions as positions
+use Rattle.record_nulls.specs.Nulls as nulls
+use Rattle.record_texts.specs.Texts as texts
+use Rattle.record_stages.proofs.StageLaws.{done-apart, done-frame}
 use Rattle.record_laws.proofs.CorrectionTrips.{corrections-sent}
 use Rattle.record_laws.proofs.HealthTrips.{healths-sent}
 use Rattle.record_laws.proofs.PositionTrips.{position-sent}

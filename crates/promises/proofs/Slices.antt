@@ -10,7 +10,7 @@ use lib.Seq.{take-append-le}
 use Rattle.line.specs.Line.{lineBits}
 use Rattle.frame.specs.declared.Frame.{Frame}
 use Rattle.stream.proofs.Words.{unlike}
-use Rattle.pack.specs.Coding.{Each}
+use Rattle.record_fields.specs.Coding.{Each}
 use Rattle.reader.specs.Reading.{started, fedAllBy}
 use Rattle.reader.specs.declared.Reader.{Reader}
 use Rattle.reader.specs.declared.FedAll.{FedAll}

@@ -32,23 +32,23 @@ use Rattle.frame.specs.declared.Header.{Header}
 use Rattle.frame.specs.declared.Frame.{Frame}
 use Rattle.frame.specs.declared.Layout.the-variants as layout
 use Rattle.frame.proofs.HeaderLaws.{length-first, length-second, header-words, n-words, first-preambled, first-header, second-header, header-inside, n-lt, words-answered}
-use Rattle.pack.specs.Coding.{frameBits}
-use Rattle.pack.proofs.SatelliteLaws.{satellite-back, code-back}
+use Rattle.record_fields.specs.Coding.{frameBits}
+use Rattle.record_fields.proofs.SatelliteLaws.{satellite-back, code-back}
 use Rattle.record_laws.proofs.ListTrips.{CountRead, count-read}
-use Rattle.texts.proofs.TextCode.{length-le, some-words}
-use Rattle.stage.specs.Stages.{saysCount}
-use Rattle.corrections.specs.Corrections as corrections
-use Rattle.corrections.specs.Corrections.{countCorrections}
-use Rattle.healths.specs.Healths as healths
-use Rattle.healths.specs.Healths.{countHealths}
-use Rattle.texts.specs.Texts.{lengthIn, textOrder, readText}
-use Rattle.stage.specs.declared.Count.{Count}
-use Rattle.stage.specs.declared.Count.the-variants as count
-use Rattle.value.specs.Values.{Reading, upTo, noLimit, dbHz, notTracked, signedValue, hundredthsOf, limits, udreValue, cn0Value}
-use Rattle.value.specs.Answer.{prcMm, rrcMmS, cn0DbHz, saysDistance, saysRate, saysStrength}
-use Rattle.value.proofs.Readings.{lowest-stops, only-lowest-stops, exact-value, stops-either}
-use Rattle.value.proofs.LimitLaws.{limit-whole}
-use Rattle.value.proofs.AnswerLaws.{prc-says, rrc-says, both-exact, udre-says, cn0-says, minutes-says, z-says}
+use Rattle.record_texts.proofs.TextCode.{length-le, some-words}
+use Rattle.record_stages.specs.Stages.{saysCount}
+use Rattle.record_corrections.specs.Corrections as corrections
+use Rattle.record_corrections.specs.Corrections.{countCorrections}
+use Rattle.record_healths.specs.Healths as healths
+use Rattle.record_healths.specs.Healths.{countHealths}
+use Rattle.record_texts.specs.Texts.{lengthIn, textOrder, readText}
+use Rattle.record_stages.specs.declared.Count.{Count}
+use Rattle.record_stages.specs.declared.Count.the-variants as count
+use Rattle.record_values.specs.Values.{Reading, upTo, noLimit, dbHz, notTracked, signedValue, hundredthsOf, limits, udreValue, cn0Value}
+use Rattle.record_values.specs.Answer.{prcMm, rrcMmS, cn0DbHz, saysDistance, saysRate, saysStrength}
+use Rattle.record_values.proofs.Readings.{lowest-stops, only-lowest-stops, exact-value, stops-either}
+use Rattle.record_values.proofs.LimitLaws.{limit-whole}
+use Rattle.record_values.proofs.AnswerLaws.{prc-says, rrc-says, both-exact, udre-says, cn0-says, minutes-says, z-says}
 use Rattle.writer.specs.Answer.{saysWritten}
 use Rattle.writer.specs.declared.Carried.{Carried}
 use Rattle.writer.specs.declared.Written.{Written}

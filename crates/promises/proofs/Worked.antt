@@ -12,9 +12,9 @@ use Rattle.frame.specs.Header.{factors, stateOf, codeOf, preambled, nOf, header
 use Rattle.frame.specs.Frames.{framed}
 use Rattle.frame.specs.Widths.{stateOutside, numbersOutside, headerOutside, outside}
 use Rattle.frame.specs.Layout.{layoutOf}
-use Rattle.stage.specs.Stages.{layoutNumber, otherLayout, misfit}
-use Rattle.corrections.specs.Corrections.{countCorrections}
-use Rattle.value.specs.Values.{signedValue, hundredthsOf, limits, udreValue}
+use Rattle.record_stages.specs.Stages.{layoutNumber, otherLayout, misfit}
+use Rattle.record_corrections.specs.Corrections.{countCorrections}
+use Rattle.record_values.specs.Values.{signedValue, hundredthsOf, limits, udreValue}
 use Rattle.stream.specs.Standing.{right, nAt, dataFrom, frameAt, placed, allRight, stands, scan, framesIn}
 use Rattle.listing.specs.Text.{lastDigits, digitsUpTo, decimal, spaced, lastLine, linesIn, textOf}
 use Rattle.reader.specs.Reading.{started, saysNext}

@@ -12,7 +12,7 @@ use Rattle.line.specs.Line.{isData}
 use Rattle.line.specs.Answer.{sixOf, saysSix}
 use Rattle.word.specs.Answer.{wordOf, saysSent}
 use Rattle.frame.specs.Widths.{anyOf, stateOutside, headerOutside, outside, late}
-use Rattle.frame.specs.Answer.{healthOf, headerWords, headerWidths, frameWidths, clockOf, saysHealth, saysWords, saysWidths, saysClock}
+use Rattle.frame.specs.Answer.{healthOf, headerWords, headerWidths, frameWidths, clockOf, saysHealthCode, saysWords, saysWidths, saysClock}
 use Rattle.frame.specs.declared.State.{State}
 use Rattle.frame.specs.declared.Header.{Header}
 use Rattle.frame.specs.declared.Frame.{Frame}
@@ -23,18 +23,18 @@ use Rattle.reader.specs.declared.Reader.{Reader}
 use Rattle.writer.specs.Answer.{openChecks, openedBy, writeChecks, writtenBy, saysOpened, saysWritten}
 use Rattle.writer.specs.declared.Carried.{Carried}
 use Rattle.journal.specs.Journal.{keepOrder, keptBy, recallOrder, recalledBy, saysKept, saysRecalled}
-use Rattle.pack.specs.declared.Rows.{Rows}
-use Rattle.stage.specs.Stages.{wrongCount, otherLayout, misfit, wrongSize, askedOf, countBy, placeBy, sizeOf, entryRefusal, madeBy}
-use Rattle.stage.specs.Stages.{readOrder, entryOrder, makeOrder, madeOrder, saysAsked, saysSize, saysCount, saysPlace, saysMade}
-use Rattle.corrections.specs.Corrections as corrections
-use Rattle.healths.specs.Healths as healths
-use Rattle.positions.specs.Positions as positions
-use Rattle.nulls.specs.Nulls as nulls
-use Rattle.texts.specs.Texts as texts
-use Rattle.corrections.specs.declared.Correction.{Correction}
-use Rattle.healths.specs.declared.SatelliteHealth.{SatelliteHealth}
-use Rattle.positions.specs.declared.Position.{Position}
-use Rattle.value.specs.Answer.{prcMm, rrcMmS, udreLimit, cn0DbHz, minutesOf, zTenths, saysDistance, saysRate, saysLimit, saysStrength, saysTime, saysSinceHour}
+use Rattle.record_fields.specs.declared.Rows.{Rows}
+use Rattle.record_stages.specs.Stages.{wrongCount, otherLayout, misfit, wrongSize, askedOf, countIn, placeBy, sizeOf, entryRefusal, madeBy}
+use Rattle.record_stages.specs.Stages.{readOrder, entryOrder, makeOrder, madeOrder, saysAsked, saysSize, saysCount, saysPlace, saysMade}
+use Rattle.record_corrections.specs.Corrections as corrections
+use Rattle.record_healths.specs.Healths as healths
+use Rattle.record_positions.specs.Positions as positions
+use Rattle.record_nulls.specs.Nulls as nulls
+use Rattle.record_texts.specs.Texts as texts
+use Rattle.record_corrections.specs.declared.Correction.{Correction}
+use Rattle.record_healths.specs.declared.SatelliteHealth.{SatelliteHealth}
+use Rattle.record_positions.specs.declared.Position.{Position}
+use Rattle.record_values.specs.Answer.{prcMm, rrcMmS, udreLimit, cn0DbHz, minutesOf, zTenths, saysDistance, saysRate, saysLimit, saysStrength, saysTime, saysSinceHour}
 use Rattle.listing.specs.Listing.{pieceOrder, pieceBy, endOrder, finishBy}
 use Rattle.listing.specs.declared.Listing.{Listing}
 
@@ -100,13 +100,13 @@ pub record CarriesItsNumber : Type 0 where
   -- the parts: a byte, a word, a header, a frame, a layout asked for, a count, an entry's place, an N, a frame of rows
   pub six-of : (b : ℕ) → Ordered (1 ∷ []) ((not (isData b), 1) ∷ []) (saysSix (sixOf b))
   pub word-of : (c d : ℕ) → Ordered (5 ∷ 5 ∷ []) ((leb 4 c, 5) ∷ (leb (2 ^ 24) d, 5) ∷ []) (saysSent (wordOf c d))
-  pub health-of : (s : State) → Ordered (5 ∷ []) ((stateOutside s, 5) ∷ []) (saysHealth (healthOf s))
+  pub health-of : (s : State) → Ordered (5 ∷ []) ((stateOutside s, 5) ∷ []) (saysHealthCode (healthOf s))
   pub header-words : (h : Header) (n : ℕ) → Ordered (5 ∷ 5 ∷ []) ((headerOutside h, 5) ∷ (ltb 31 n, 5) ∷ []) (saysWords (headerWords h n))
   pub header-widths : (h : Header) → Ordered (5 ∷ []) ((headerOutside h, 5) ∷ []) (saysWidths (headerWidths h))
   pub frame-widths : (f : Frame) → Ordered (5 ∷ []) ((outside f, 5) ∷ []) (saysWidths (frameWidths f))
   pub clock-of : (z : ℕ) → Ordered (7 ∷ []) ((late z, 7) ∷ []) (saysClock (clockOf z))
   pub asked-of : (l : Layout) (kind : ℕ) → Ordered (6 ∷ []) ((otherLayout l kind, 6) ∷ []) (saysAsked (askedOf l kind))
-  pub count-in : (l : Layout) (w : ℕ) (f : Frame) → Ordered (5 ∷ 6 ∷ 7 ∷ 8 ∷ []) (readOrder l f (misfit w (f .n)) []) (saysCount (countBy l w f))
+  pub count-in : (l : Layout) (w : ℕ) (f : Frame) → Ordered (5 ∷ 6 ∷ 7 ∷ 8 ∷ []) (readOrder l f (misfit w (f .n)) []) (saysCount (countIn l w f))
   pub entry-place : (l : Layout) (w : ℕ) (f : Frame) (i : ℕ) → Ordered (5 ∷ 6 ∷ 7 ∷ 8 ∷ 9 ∷ []) (entryOrder l w f i []) (saysPlace (placeBy l w f i))
   pub size-of : (wanted n : ℕ) → Ordered (8 ∷ []) ((wrongSize wanted n, 8) ∷ []) (saysSize (sizeOf wanted n))
   pub make-frame : (l : Layout) (most pattern : ℕ) (h : Header) (c : ℕ) (r : Rows)

@@ -15,15 +15,15 @@ use Rattle.reader.specs.declared.Reader.{Reader}
 use Rattle.writer.specs.Answer.{openedBy, openedTo, writtenBy, writtenTo, saysOpened, saysWritten}
 use Rattle.writer.specs.declared.Carried.{Carried}
 use Rattle.journal.specs.Journal.{keptBy, heldBy, recalledBy, saysKept, saysRecalled}
-use Rattle.stage.specs.Stages.{saysCount, saysMade}
-use Rattle.corrections.specs.Corrections.{makeCorrections}
-use Rattle.healths.specs.Healths.{makeHealths}
-use Rattle.positions.specs.Positions.{makePosition}
-use Rattle.nulls.specs.Nulls.{makeNull}
-use Rattle.texts.specs.Texts.{readText, bufferAfter, makeText}
-use Rattle.corrections.specs.declared.Correction.{Correction}
-use Rattle.healths.specs.declared.SatelliteHealth.{SatelliteHealth}
-use Rattle.positions.specs.declared.Position.{Position}
+use Rattle.record_stages.specs.Stages.{saysCount, saysMade}
+use Rattle.record_corrections.specs.Corrections.{makeCorrections}
+use Rattle.record_healths.specs.Healths.{makeHealths}
+use Rattle.record_positions.specs.Positions.{makePosition}
+use Rattle.record_nulls.specs.Nulls.{makeNull}
+use Rattle.record_texts.specs.Texts.{readText, bufferAfter, makeText}
+use Rattle.record_corrections.specs.declared.Correction.{Correction}
+use Rattle.record_healths.specs.declared.SatelliteHealth.{SatelliteHealth}
+use Rattle.record_positions.specs.declared.Position.{Position}
 use Rattle.listing.specs.Listing.{pieceBy, pieceText, finishBy, finishText}
 use Rattle.listing.specs.declared.Listing.{Listing}
 

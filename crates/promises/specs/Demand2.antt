@@ -12,18 +12,18 @@ use Rattle.line.specs.Line.{lineBits}
 use Rattle.frame.specs.declared.Header.{Header}
 use Rattle.frame.specs.declared.Frame.{Frame}
 use Rattle.stream.specs.Standing.{size, Stands, frameAt}
-use Rattle.pack.specs.Coding.{frameBits, entryIn, Each}
-use Rattle.stage.specs.declared.Made.{Made}
-use Rattle.corrections.specs.declared.Correction.{Correction}
-use Rattle.healths.specs.declared.SatelliteHealth.{SatelliteHealth}
-use Rattle.positions.specs.declared.Position.{Position}
-use Rattle.stage.specs.Stages.{saysCount, saysMade}
-use Rattle.corrections.specs.Corrections.{countCorrections, correctionAt, makeCorrections, StandardFill, Typed, saysCorrectionRead, HoldsCorrections, coding as correctionCoding}
-use Rattle.healths.specs.Healths.{countHealths, healthAt, makeHealths, saysHealthRead, HoldsHealths, coding as healthCoding}
-use Rattle.positions.specs.Positions.{readPosition, makePosition, positionIn, saysPositionRead, HoldsPosition}
-use Rattle.positions.specs.Positions as positions
-use Rattle.nulls.specs.Nulls.{readNull, makeNull, saysNullRead, HoldsNull}
-use Rattle.texts.specs.Texts.{textIn, readText, bufferAfter, makeText, HoldsText}
+use Rattle.record_fields.specs.Coding.{frameBits, entryIn, Each}
+use Rattle.record_stages.specs.declared.Made.{Made}
+use Rattle.record_corrections.specs.declared.Correction.{Correction}
+use Rattle.record_healths.specs.declared.SatelliteHealth.{SatelliteHealth}
+use Rattle.record_positions.specs.declared.Position.{Position}
+use Rattle.record_stages.specs.Stages.{saysCount, saysMade}
+use Rattle.record_corrections.specs.Corrections.{countCorrections, correctionAt, makeCorrections, StandardFill, Typed, saysCorrectionRead, HoldsCorrections, coding as correctionCoding}
+use Rattle.record_healths.specs.Healths.{countHealths, healthAt, makeHealths, saysHealthRead, HoldsHealths, coding as healthCoding}
+use Rattle.record_positions.specs.Positions.{readPosition, makePosition, positionIn, saysPositionRead, HoldsPosition}
+use Rattle.record_positions.specs.Positions as positions
+use Rattle.record_nulls.specs.Nulls.{readNull, makeNull, saysNullRead, HoldsNull}
+use Rattle.record_texts.specs.Texts.{textIn, readText, bufferAfter, makeText, HoldsText}
 use Rattle.journal.specs.Journal.{keptBy, heldBy, recalledBy, saysKept, saysRecalled}
 use Rattle.writer.specs.Sending.{carriedOn}
 use Rattle.writer.specs.Answer.{writtenBy, writtenTo, saysWritten}

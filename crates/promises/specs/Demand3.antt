@@ -13,12 +13,12 @@ use Rattle.frame.specs.declared.Frame.{Frame}
 use Rattle.stream.specs.Standing.{Stands, frameAt, Placed, placed, scan, framesIn}
 use Rattle.stream.specs.Verdict.{RightSoFar, decided}
 use Rattle.stream.specs.Places.{StandsIn, FoundOrCovered, Apart, Damaged}
-use Rattle.pack.specs.Coding.{Each}
+use Rattle.record_fields.specs.Coding.{Each}
 use Rattle.reader.specs.Reading.{bitsOf, started, past, fedBy, fedAllBy, takenBy, saysNext, saysFedAll, saysTaken}
 use Rattle.reader.specs.declared.Reader.{Reader}
 use Rattle.promises.specs.Calls.{Call, feeds, feedsAll, ends, takes, Reply, replied, answerOf, replyTo, after, afterAll, replies, Outcome, outcome, reported, takesAll, served, inSlices, unused}
 
--- Each sentence is of an outcome: of calls on this package's reader here, and of calls of the library in library_promises.
+-- Each sentence is of an outcome: of calls on this package's reader here, and of calls of the library in rtcm2_promises.
 
 -- the frames that were handed out, with their positions in the whole stream: the first ones of the scan of the bits taken
 unfoldable pub found : Outcome → List Placed

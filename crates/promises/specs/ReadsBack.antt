@@ -11,18 +11,18 @@ use Rattle.frame.specs.Widths.{outside}
 use Rattle.frame.specs.declared.Header.{Header}
 use Rattle.frame.specs.declared.Frame.{Frame}
 use Rattle.stream.specs.Standing.{frameAt}
-use Rattle.pack.specs.Coding.{frameBits, Each}
-use Rattle.stage.specs.declared.Made.{Made}
-use Rattle.corrections.specs.declared.Correction.{Correction}
-use Rattle.healths.specs.declared.SatelliteHealth.{SatelliteHealth}
-use Rattle.positions.specs.declared.Position.{Position}
-use Rattle.stage.specs.Stages.{saysCount, saysMade}
-use Rattle.corrections.specs.Corrections.{countCorrections, correctionAt, makeCorrections, saysCorrectionRead, Typed, SendableCorrections}
-use Rattle.healths.specs.Healths.{countHealths, healthAt, makeHealths, saysHealthRead, SendableHealths}
-use Rattle.positions.specs.Positions.{readPosition, makePosition, saysPositionRead, SendablePosition}
-use Rattle.positions.specs.Positions as positions
-use Rattle.nulls.specs.Nulls.{readNull, makeNull, saysNullRead, SendableNull}
-use Rattle.texts.specs.Texts.{readText, bufferAfter, makeText, SendableText}
+use Rattle.record_fields.specs.Coding.{frameBits, Each}
+use Rattle.record_stages.specs.declared.Made.{Made}
+use Rattle.record_corrections.specs.declared.Correction.{Correction}
+use Rattle.record_healths.specs.declared.SatelliteHealth.{SatelliteHealth}
+use Rattle.record_positions.specs.declared.Position.{Position}
+use Rattle.record_stages.specs.Stages.{saysCount, saysMade}
+use Rattle.record_corrections.specs.Corrections.{countCorrections, correctionAt, makeCorrections, saysCorrectionRead, Typed, SendableCorrections}
+use Rattle.record_healths.specs.Healths.{countHealths, healthAt, makeHealths, saysHealthRead, SendableHealths}
+use Rattle.record_positions.specs.Positions.{readPosition, makePosition, saysPositionRead, SendablePosition}
+use Rattle.record_positions.specs.Positions as positions
+use Rattle.record_nulls.specs.Nulls.{readNull, makeNull, saysNullRead, SendableNull}
+use Rattle.record_texts.specs.Texts.{readText, bufferAfter, makeText, SendableText}
 use Rattle.writer.specs.Answer.{writtenBy, writtenTo, saysWritten}
 use Rattle.writer.specs.OneFrame.{lineAfter, Wrote}
 use Rattle.writer.specs.declared.Carried.{Carried}

@@ -1,76 +1,76 @@
 -- DEMAND 1, call by call: records, what they share, and what their numbers stand for. Assumes nothing.
 use Prim.Native.Nat.{_%_}
 use denote.Ref.{now}
-use Rattle.pack.specs.Packing.{fieldIn, filledUp}
-use Rattle.pack.specs.Tables.{row, fieldsIn, noRows, putRow}
+use Rattle.record_fields.specs.Packing.{fieldIn, filledUp}
+use Rattle.record_fields.specs.Tables.{row, fieldsIn, noRows, putRow}
 use Rattle.bits.specs.Signed.{signed as signedOf, code as codeOf}
-use Rattle.pack.specs.Satellites.{satelliteOf}
-use Rattle.stage.specs.Stages.{askedOf, countBy, placeBy, sizeOf, madeBy}
-use Rattle.corrections.specs.Corrections.{countCorrections, correctionAt, makeCorrections}
-use Rattle.healths.specs.Healths.{countHealths, healthAt, makeHealths}
-use Rattle.positions.specs.Positions.{readPosition, makePosition}
-use Rattle.nulls.specs.Nulls.{readNull, makeNull}
-use Rattle.texts.specs.Texts.{readText, bufferAfter, makeText}
-use Rattle.value.specs.Values.{stopsUse}
-use Rattle.value.specs.Answer.{prcMm, rrcMmS, udreLimit, cn0DbHz, minutesOf, zTenths}
-use Rattle.pack.proofs as pack
-use Rattle.stage.proofs as stage
-use Rattle.corrections.proofs as corrections
-use Rattle.healths.proofs as healths
-use Rattle.positions.proofs as positions
-use Rattle.nulls.proofs as nulls
-use Rattle.texts.proofs as texts
-use Rattle.value.proofs as value
+use Rattle.record_fields.specs.Satellites.{satelliteOf}
+use Rattle.record_stages.specs.Stages.{askedOf, countIn, placeBy, sizeOf, madeBy}
+use Rattle.record_corrections.specs.Corrections.{countCorrections, correctionAt, makeCorrections}
+use Rattle.record_healths.specs.Healths.{countHealths, healthAt, makeHealths}
+use Rattle.record_positions.specs.Positions.{readPosition, makePosition}
+use Rattle.record_nulls.specs.Nulls.{readNull, makeNull}
+use Rattle.record_texts.specs.Texts.{readText, bufferAfter, makeText}
+use Rattle.record_values.specs.Values.{stopsUse}
+use Rattle.record_values.specs.Answer.{prcMm, rrcMmS, udreLimit, cn0DbHz, minutesOf, zTenths}
+use Rattle.record_fields.proofs as record_fields
+use Rattle.record_stages.proofs as record_stages
+use Rattle.record_corrections.proofs as record_corrections
+use Rattle.record_healths.proofs as record_healths
+use Rattle.record_positions.proofs as record_positions
+use Rattle.record_nulls.proofs as record_nulls
+use Rattle.record_texts.proofs as record_texts
+use Rattle.record_values.proofs as record_values
 use Rattle.promises.specs.Answered.{Answered, AnsweredLent}
 
 pub record RecordCalls : Type 2 where
-  -- pack
-  pub pack-field : Answered pack.field.Reads.Asked pack.field.Reads.Learnt pack.field.Statement.statement (λ κs (words, (offset, (width, _))). fieldIn words offset width)
-  pub pack-fields : Answered pack.fields.Reads.Asked pack.fields.Reads.Learnt pack.fields.Statement.statement
+  -- record_fields
+  pub pack-field : Answered record_fields.field.Reads.Asked record_fields.field.Reads.Learnt record_fields.field.Statement.statement (λ κs (words, (offset, (width, _))). fieldIn words offset width)
+  pub pack-fields : Answered record_fields.fields.Reads.Asked record_fields.fields.Reads.Learnt record_fields.fields.Statement.statement
       (λ κs (words, (at, (widths, _))). row (fieldsIn words (now widths) at))
-  pub no-rows : Answered pack.no_rows.Reads.Asked pack.no_rows.Reads.Learnt pack.no_rows.Statement.statement (λ κs a. noRows)
-  pub put-row : Answered pack.put_row.Reads.Asked pack.put_row.Reads.Learnt pack.put_row.Statement.statement
+  pub no-rows : Answered record_fields.no_rows.Reads.Asked record_fields.no_rows.Reads.Learnt record_fields.no_rows.Statement.statement (λ κs a. noRows)
+  pub put-row : Answered record_fields.put_row.Reads.Asked record_fields.put_row.Reads.Learnt record_fields.put_row.Statement.statement
       (λ κs (rows, (values, (widths, (least, (most, _))))). putRow (now widths) (now least) (now most) values rows)
-  pub fill-up : Answered pack.fill_up.Reads.Asked pack.fill_up.Reads.Learnt pack.fill_up.Statement.statement (λ κs (packer, (pattern, _)). filledUp pattern packer)
-  pub signed8 : Answered pack.signed8.Reads.Asked pack.signed8.Reads.Learnt pack.signed8.Statement.statement (λ κs (n, _). signedOf 7 (n % 256))
-  pub signed16 : Answered pack.signed16.Reads.Asked pack.signed16.Reads.Learnt pack.signed16.Statement.statement (λ κs (n, _). signedOf 15 (n % 65536))
-  pub signed32 : Answered pack.signed32.Reads.Asked pack.signed32.Reads.Learnt pack.signed32.Statement.statement (λ κs (n, _). signedOf 31 n)
-  pub code8 : Answered pack.code8.Reads.Asked pack.code8.Reads.Learnt pack.code8.Statement.statement (λ κs (z, _). codeOf 7 z)
-  pub code16 : Answered pack.code16.Reads.Asked pack.code16.Reads.Learnt pack.code16.Statement.statement (λ κs (z, _). codeOf 15 z)
-  pub code32 : Answered pack.code32.Reads.Asked pack.code32.Reads.Learnt pack.code32.Statement.statement (λ κs (z, _). codeOf 31 z)
-  pub satellite-of : Answered pack.satellite_of.Reads.Asked pack.satellite_of.Reads.Learnt pack.satellite_of.Statement.statement (λ κs (code, _). satelliteOf (code % 32))
-  -- stage
-  pub asked-of : Answered stage.asked_of.Reads.Asked stage.asked_of.Reads.Learnt stage.asked_of.Statement.statement (λ κs (layout, (kind, _)). askedOf layout kind)
-  pub count-in : Answered stage.count_in.Reads.Asked stage.count_in.Reads.Learnt stage.count_in.Statement.statement (λ κs (layout, (width, (frame, _))). countBy layout width frame)
-  pub entry-place : Answered stage.entry_place.Reads.Asked stage.entry_place.Reads.Learnt stage.entry_place.Statement.statement
+  pub fill-up : Answered record_fields.fill_up.Reads.Asked record_fields.fill_up.Reads.Learnt record_fields.fill_up.Statement.statement (λ κs (packer, (pattern, _)). filledUp pattern packer)
+  pub signed8 : Answered record_fields.signed8.Reads.Asked record_fields.signed8.Reads.Learnt record_fields.signed8.Statement.statement (λ κs (n, _). signedOf 7 (n % 256))
+  pub signed16 : Answered record_fields.signed16.Reads.Asked record_fields.signed16.Reads.Learnt record_fields.signed16.Statement.statement (λ κs (n, _). signedOf 15 (n % 65536))
+  pub signed32 : Answered record_fields.signed32.Reads.Asked record_fields.signed32.Reads.Learnt record_fields.signed32.Statement.statement (λ κs (n, _). signedOf 31 n)
+  pub code8 : Answered record_fields.code8.Reads.Asked record_fields.code8.Reads.Learnt record_fields.code8.Statement.statement (λ κs (z, _). codeOf 7 z)
+  pub code16 : Answered record_fields.code16.Reads.Asked record_fields.code16.Reads.Learnt record_fields.code16.Statement.statement (λ κs (z, _). codeOf 15 z)
+  pub code32 : Answered record_fields.code32.Reads.Asked record_fields.code32.Reads.Learnt record_fields.code32.Statement.statement (λ κs (z, _). codeOf 31 z)
+  pub satellite-of : Answered record_fields.satellite_of.Reads.Asked record_fields.satellite_of.Reads.Learnt record_fields.satellite_of.Statement.statement (λ κs (code, _). satelliteOf (code % 32))
+  -- record_stages
+  pub asked-of : Answered record_stages.asked_of.Reads.Asked record_stages.asked_of.Reads.Learnt record_stages.asked_of.Statement.statement (λ κs (layout, (kind, _)). askedOf layout kind)
+  pub count-in : Answered record_stages.count_in.Reads.Asked record_stages.count_in.Reads.Learnt record_stages.count_in.Statement.statement (λ κs (layout, (width, (frame, _))). countIn layout width frame)
+  pub entry-place : Answered record_stages.entry_place.Reads.Asked record_stages.entry_place.Reads.Learnt record_stages.entry_place.Statement.statement
       (λ κs (layout, (width, (frame, (index, _)))). placeBy layout width frame index)
-  pub size-of : Answered stage.size_of.Reads.Asked stage.size_of.Reads.Learnt stage.size_of.Statement.statement (λ κs (wanted, (n, _)). sizeOf wanted n)
-  pub make-frame : Answered stage.make_frame.Reads.Asked stage.make_frame.Reads.Learnt stage.make_frame.Statement.statement
+  pub size-of : Answered record_stages.size_of.Reads.Asked record_stages.size_of.Reads.Learnt record_stages.size_of.Statement.statement (λ κs (wanted, (n, _)). sizeOf wanted n)
+  pub make-frame : Answered record_stages.make_frame.Reads.Asked record_stages.make_frame.Reads.Learnt record_stages.make_frame.Statement.statement
       (λ κs (layout, (most, (fill, (header, (count, (rows, _)))))). madeBy layout most fill header count rows)
-  -- corrections
-  pub count-corrections : Answered corrections.count_corrections.Reads.Asked corrections.count_corrections.Reads.Learnt corrections.count_corrections.Statement.statement (λ κs (frame, _). countCorrections frame)
-  pub correction-at : Answered corrections.correction_at.Reads.Asked corrections.correction_at.Reads.Learnt corrections.correction_at.Statement.statement (λ κs (frame, (index, _)). correctionAt frame index)
-  pub make-corrections : Answered corrections.make_corrections.Reads.Asked corrections.make_corrections.Reads.Learnt corrections.make_corrections.Statement.statement (λ κs (header, (entries, (count, _))). makeCorrections header entries count)
-  -- healths
-  pub count-healths : Answered healths.count_healths.Reads.Asked healths.count_healths.Reads.Learnt healths.count_healths.Statement.statement (λ κs (frame, _). countHealths frame)
-  pub health-at : Answered healths.health_at.Reads.Asked healths.health_at.Reads.Learnt healths.health_at.Statement.statement (λ κs (frame, (index, _)). healthAt frame index)
-  pub make-healths : Answered healths.make_healths.Reads.Asked healths.make_healths.Reads.Learnt healths.make_healths.Statement.statement (λ κs (header, (entries, (count, _))). makeHealths header entries count)
-  -- positions
-  pub read-position : Answered positions.read_position.Reads.Asked positions.read_position.Reads.Learnt positions.read_position.Statement.statement (λ κs (frame, _). readPosition frame)
-  pub make-position : Answered positions.make_position.Reads.Asked positions.make_position.Reads.Learnt positions.make_position.Statement.statement (λ κs (header, (position, _)). makePosition header position)
-  -- nulls
-  pub read-null : Answered nulls.read_null.Reads.Asked nulls.read_null.Reads.Learnt nulls.read_null.Statement.statement (λ κs (frame, _). readNull frame)
-  pub make-null : Answered nulls.make_null.Reads.Asked nulls.make_null.Reads.Learnt nulls.make_null.Statement.statement (λ κs (header, _). makeNull header)
-  -- texts
-  pub read-text : AnsweredLent texts.read_text.Reads.Asked texts.read_text.Reads.Learnt texts.read_text.Statement.statement
+  -- record_corrections
+  pub count-corrections : Answered record_corrections.count_corrections.Reads.Asked record_corrections.count_corrections.Reads.Learnt record_corrections.count_corrections.Statement.statement (λ κs (frame, _). countCorrections frame)
+  pub correction-at : Answered record_corrections.correction_at.Reads.Asked record_corrections.correction_at.Reads.Learnt record_corrections.correction_at.Statement.statement (λ κs (frame, (index, _)). correctionAt frame index)
+  pub make-corrections : Answered record_corrections.make_corrections.Reads.Asked record_corrections.make_corrections.Reads.Learnt record_corrections.make_corrections.Statement.statement (λ κs (header, (entries, (count, _))). makeCorrections header entries count)
+  -- record_healths
+  pub count-healths : Answered record_healths.count_healths.Reads.Asked record_healths.count_healths.Reads.Learnt record_healths.count_healths.Statement.statement (λ κs (frame, _). countHealths frame)
+  pub health-at : Answered record_healths.health_at.Reads.Asked record_healths.health_at.Reads.Learnt record_healths.health_at.Statement.statement (λ κs (frame, (index, _)). healthAt frame index)
+  pub make-healths : Answered record_healths.make_healths.Reads.Asked record_healths.make_healths.Reads.Learnt record_healths.make_healths.Statement.statement (λ κs (header, (entries, (count, _))). makeHealths header entries count)
+  -- record_positions
+  pub read-position : Answered record_positions.read_position.Reads.Asked record_positions.read_position.Reads.Learnt record_positions.read_position.Statement.statement (λ κs (frame, _). readPosition frame)
+  pub make-position : Answered record_positions.make_position.Reads.Asked record_positions.make_position.Reads.Learnt record_positions.make_position.Statement.statement (λ κs (header, (position, _)). makePosition header position)
+  -- record_nulls
+  pub read-null : Answered record_nulls.read_null.Reads.Asked record_nulls.read_null.Reads.Learnt record_nulls.read_null.Statement.statement (λ κs (frame, _). readNull frame)
+  pub make-null : Answered record_nulls.make_null.Reads.Asked record_nulls.make_null.Reads.Learnt record_nulls.make_null.Statement.statement (λ κs (header, _). makeNull header)
+  -- record_texts
+  pub read-text : AnsweredLent record_texts.read_text.Reads.Asked record_texts.read_text.Reads.Learnt record_texts.read_text.Statement.statement
       (λ κs (frame, (buffer, _)). readText frame (now buffer))
       (λ κs (_, (buffer, _)). now buffer) (λ κs (frame, (buffer, _)). bufferAfter frame (now buffer))
-  pub make-text : Answered texts.make_text.Reads.Asked texts.make_text.Reads.Learnt texts.make_text.Statement.statement (λ κs (header, (text, _)). makeText header (now text))
-  -- value
-  pub prc-mm : Answered value.prc_mm.Reads.Asked value.prc_mm.Reads.Learnt value.prc_mm.Statement.statement (λ κs (scale, (prc, _)). prcMm scale prc)
-  pub rrc-mm-s : Answered value.rrc_mm_s.Reads.Asked value.rrc_mm_s.Reads.Learnt value.rrc_mm_s.Statement.statement (λ κs (scale, (rrc, _)). rrcMmS scale rrc)
-  pub stops : Answered value.stops.Reads.Asked value.stops.Reads.Learnt value.stops.Statement.statement (λ κs (prc, (rrc, _)). stopsUse prc rrc)
-  pub udre-limit : Answered value.udre_limit.Reads.Asked value.udre_limit.Reads.Learnt value.udre_limit.Statement.statement (λ κs (state, (udre, _)). udreLimit state udre)
-  pub cn0-dbhz : Answered value.cn0_dbhz.Reads.Asked value.cn0_dbhz.Reads.Learnt value.cn0_dbhz.Statement.statement (λ κs (code, _). cn0DbHz code)
-  pub value-minutes : Answered value.minutes.Reads.Asked value.minutes.Reads.Learnt value.minutes.Statement.statement (λ κs (code, _). minutesOf code)
-  pub z-tenths : Answered value.z_tenths.Reads.Asked value.z_tenths.Reads.Learnt value.z_tenths.Statement.statement (λ κs (z, _). zTenths z)
+  pub make-text : Answered record_texts.make_text.Reads.Asked record_texts.make_text.Reads.Learnt record_texts.make_text.Statement.statement (λ κs (header, (text, _)). makeText header (now text))
+  -- record_values
+  pub prc-mm : Answered record_values.prc_mm.Reads.Asked record_values.prc_mm.Reads.Learnt record_values.prc_mm.Statement.statement (λ κs (scale, (prc, _)). prcMm scale prc)
+  pub rrc-mm-s : Answered record_values.rrc_mm_s.Reads.Asked record_values.rrc_mm_s.Reads.Learnt record_values.rrc_mm_s.Statement.statement (λ κs (scale, (rrc, _)). rrcMmS scale rrc)
+  pub stops : Answered record_values.stops.Reads.Asked record_values.stops.Reads.Learnt record_values.stops.Statement.statement (λ κs (prc, (rrc, _)). stopsUse prc rrc)
+  pub udre-limit : Answered record_values.udre_limit.Reads.Asked record_values.udre_limit.Reads.Learnt record_values.udre_limit.Statement.statement (λ κs (state, (udre, _)). udreLimit state udre)
+  pub cn0-dbhz : Answered record_values.cn0_dbhz.Reads.Asked record_values.cn0_dbhz.Reads.Learnt record_values.cn0_dbhz.Statement.statement (λ κs (code, _). cn0DbHz code)
+  pub value-minutes : Answered record_values.minutes.Reads.Asked record_values.minutes.Reads.Learnt record_values.minutes.Statement.statement (λ κs (code, _). minutesOf code)
+  pub z-tenths : Answered record_values.z_tenths.Reads.Asked record_values.z_tenths.Reads.Learnt record_values.z_tenths.Statement.statement (λ κs (z, _). zTenths z)

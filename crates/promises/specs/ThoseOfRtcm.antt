@@ -24,17 +24,17 @@ use Rattle.frame.specs.declared.State.the-variants.{Factor, Unmonitored, Down}
 use Rattle.frame.specs.declared.Header.{Header}
 use Rattle.frame.specs.declared.Frame.{Frame}
 use Rattle.stream.specs.Standing.{size, Stands, frameAt}
-use Rattle.stage.specs.Stages.{saysCount}
-use Rattle.corrections.specs.Corrections.{countCorrections}
-use Rattle.corrections.specs.declared.Correction.{Correction}
-use Rattle.healths.specs.Healths.{countHealths}
-use Rattle.positions.specs.Positions.{readPosition, saysPositionRead}
-use Rattle.nulls.specs.Nulls.{readNull, saysNullRead}
-use Rattle.texts.specs.Texts.{readText}
-use Rattle.positions.specs.declared.Position.{Position}
-use Rattle.pack.specs.Satellites.{satelliteOf, satelliteCode}
-use Rattle.value.specs.Values.{Reading, exactly, stop, upTo, noLimit, dbHz, notTracked, stepOf, stopsUse, hundredthsOf}
-use Rattle.value.specs.Answer.{prcMm, rrcMmS, udreLimit, cn0DbHz, minutesOf, zTenths, saysDistance, saysRate, saysLimit, saysStrength, saysTime, saysSinceHour}
+use Rattle.record_stages.specs.Stages.{saysCount}
+use Rattle.record_corrections.specs.Corrections.{countCorrections}
+use Rattle.record_corrections.specs.declared.Correction.{Correction}
+use Rattle.record_healths.specs.Healths.{countHealths}
+use Rattle.record_positions.specs.Positions.{readPosition, saysPositionRead}
+use Rattle.record_nulls.specs.Nulls.{readNull, saysNullRead}
+use Rattle.record_texts.specs.Texts.{readText}
+use Rattle.record_positions.specs.declared.Position.{Position}
+use Rattle.record_fields.specs.Satellites.{satelliteOf, satelliteCode}
+use Rattle.record_values.specs.Values.{Reading, exactly, stop, upTo, noLimit, dbHz, notTracked, stepOf, stopsUse, hundredthsOf}
+use Rattle.record_values.specs.Answer.{prcMm, rrcMmS, udreLimit, cn0DbHz, minutesOf, zTenths, saysDistance, saysRate, saysLimit, saysStrength, saysTime, saysSinceHour}
 use Rattle.writer.specs.Answer.{writtenBy, saysWritten}
 use Rattle.writer.specs.OneFrame.{Wrote, itsBits, WritesBack}
 use Rattle.writer.specs.Streams.{AllWritable, streamBytes, StreamWritten}

@@ -14,10 +14,10 @@ use Rattle.frame.specs.declared.Frame.{Frame}
 use Rattle.frame.specs.declared.State.the-variants.{Factor}
 use Rattle.reader.specs.Reading.{started}
 use Rattle.listing.specs.Listing.{endRoom}
-use Rattle.stage.specs.Stages.{saysCount}
-use Rattle.corrections.specs.Corrections.{countCorrections}
-use Rattle.value.specs.Values.{exactly, stop, upTo, dbHz, notTracked}
-use Rattle.value.specs.Answer.{prcMm, rrcMmS, udreLimit, cn0DbHz, saysDistance, saysRate, saysLimit, saysStrength}
+use Rattle.record_stages.specs.Stages.{saysCount}
+use Rattle.record_corrections.specs.Corrections.{countCorrections}
+use Rattle.record_values.specs.Values.{exactly, stop, upTo, dbHz, notTracked}
+use Rattle.record_values.specs.Answer.{prcMm, rrcMmS, udreLimit, cn0DbHz, saysDistance, saysRate, saysLimit, saysStrength}
 use Rattle.promises.specs.Calls.{feeds, ends, replied, replyTo, bitsGiven, handedOut, takesAll, served}
 use Rattle.promises.specs.Course.{Piece, listedText, Roomy}
 

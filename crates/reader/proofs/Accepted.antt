@@ -13,7 +13,7 @@ use Rattle.stream.specs.Standing.{wordAt, right, size}
 use Rattle.stream.specs.Verdict.{RightSoFar, Verdict, out, standing, undecided, judged, verdictFrom, Hunted, huntBy, hunt}
 use Rattle.stream.proofs.HuntSteps.{hunt-short, hunt-suffix, Bounded, hunt-bounded}
 use Rattle.reader.specs.Cells.{heldBits, roomEnd}
-use Rattle.reader.specs.Hunting.{stopOf, huntOf}
+use Rattle.reader.specs.Hunting.{haltOf, huntOf}
 use Rattle.reader.specs.Reading.{candidateBits, knownBits, pastBy, pastOf, movedTo, stepCells, stepTo, endTo, takeTo}
 use Rattle.reader.specs.declared.Candidate.{Candidate}
 use Rattle.reader.proofs.Buffer.{length-held, held-part}
@@ -152,8 +152,8 @@ hunt-known e k (b ∷ d) h = go (verdictFrom (33 - k) k (b ∷ d)) e (verdict-kn
     go (undecided j) true l r = r
     go (undecided j) false l r = l
 
-stop-room : (h : Hunted) → Bounded h → length (h .rest) ≤ 997 → length (h .rest) ≤ cond (h .found) 997 991
-stop-room h b l = go (h .found) refl
+halt-room : (h : Hunted) → Bounded h → length (h .rest) ≤ 997 → length (h .rest) ≤ cond (h .found) 997 991
+halt-room h b l = go (h .found) refl
   where
     go : (f : Bool) → h .found ≡ f → length (h .rest) ≤ cond f 997 991
     go true e = l
@@ -164,25 +164,25 @@ module _ (cells : List ℕ) (len : length cells ≡ 40) (end held : ℕ) (top : 
   long = length-held cells end held len top low
 
   pub left-le : huntOf cells end held k e .left ≤ held
-  unfolding huntOf stopOf
+  unfolding huntOf haltOf
   left-le = omega (arith, hunt-short e k (heldBits cells end held), long)
 
   -- the bits held from there on are what the hunt left
   pub rest-bits : heldBits cells end (huntOf cells end held k e .left) ≡ hunt e k (heldBits cells end held) .rest
-  unfolding huntOf stopOf
+  unfolding huntOf haltOf
   rest-bits =
       sym (hunt-suffix e k (heldBits cells end held)
       ∙ ap (λ n. drop (n - length (hunt e k (heldBits cells end held) .rest)) (heldBits cells end held)) long
       ∙ held-part cells end held (length (hunt e k (heldBits cells end held) .rest)) (omega (arith, hunt-short e k (heldBits cells end held), long)) low)
 
-  pub accepted-stop : (at : ℕ) (held₀ : ℕ) → held ≤ 997 → k ≤ 32 → knownBits k ≤ held → Accepted (movedTo at end held₀ (huntOf cells end held k e))
+  pub accepted-halt : (at : ℕ) (held₀ : ℕ) → held ≤ 997 → k ≤ 32 → knownBits k ≤ held → Accepted (movedTo at end held₀ (huntOf cells end held k e))
   unfolding movedTo candidateBits
-  accepted-stop at held₀ room few known = record {
+  accepted-halt at held₀ room few known = record {
     top = top;
     low = omega (arith, left-le, low);
-    few = unfold huntOf stopOf in b .few;
-    known = unfold huntOf stopOf in hunt-known e k (heldBits cells end held) (subst (λ n. knownBits k ≤ n) (sym long) known);
-    room = unfold huntOf stopOf in stop-room (hunt e k (heldBits cells end held)) b (omega (arith, hunt-short e k (heldBits cells end held), long));
+    few = unfold huntOf haltOf in b .few;
+    known = unfold huntOf haltOf in hunt-known e k (heldBits cells end held) (subst (λ n. knownBits k ≤ n) (sym long) known);
+    room = unfold huntOf haltOf in halt-room (hunt e k (heldBits cells end held)) b (omega (arith, hunt-short e k (heldBits cells end held), long));
   }
     where
       b : Bounded (hunt e k (heldBits cells end held))
@@ -205,7 +205,7 @@ module _ (cells : List ℕ) (len : length cells ≡ 40) (c : Candidate) (a : Acc
     pub accepted-step : Accepted (stepTo cells c six)
     unfolding stepTo
     accepted-step =
-        accepted-stop (stepCells cells c six) length-step (roomEnd (c .end) (c .held) + 6) (c .held + 6) step-top step-low (c .words) false (c .at) (c .held + 6)
+        accepted-halt (stepCells cells c six) length-step (roomEnd (c .end) (c .held) + 6) (c .held + 6) step-top step-low (c .words) false (c .at) (c .held + 6)
         (omega (arith, room-free c a w)) (a .few) (omega (arith, a .known))
 
     -- the bits held after six more, before the hunt
@@ -215,10 +215,10 @@ module _ (cells : List ℕ) (len : length cells ≡ 40) (c : Candidate) (a : Acc
 
   pub accepted-end : Accepted (endTo cells c)
   unfolding endTo
-  accepted-end = accepted-stop cells len (c .end) (c .held) (a .top) (a .low) (c .words) true (c .at) (c .held) (room-all c a) (a .few) (a .known)
+  accepted-end = accepted-halt cells len (c .end) (c .held) (a .top) (a .low) (c .words) true (c .at) (c .held) (room-all c a) (a .few) (a .known)
 
   pub accepted-take : (ended : Bool) → Accepted (takeTo cells c ended)
   unfolding takeTo
   accepted-take ended =
-      accepted-stop cells len (c .end) (c .held - 30 * size (candidateBits cells c)) (a .top) (omega (arith, a .low)) 0 ended (c .at) (c .held)
+      accepted-halt cells len (c .end) (c .held - 30 * size (candidateBits cells c)) (a .top) (omega (arith, a .low)) 0 ended (c .at) (c .held)
       (omega (arith, room-all c a)) (omega arith) (omega arith)

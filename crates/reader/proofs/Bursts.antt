@@ -12,7 +12,7 @@ use Rattle.line.proofs.LineLaws.{six-lt}
 use Rattle.reader.specs.Cells.{putCells, putFive, pushedCells, roomEnd}
 use Rattle.reader.specs.Hunting.{huntOf}
 use Rattle.reader.specs.Reading.{movedTo, stepCells, stepTo, manyCells, manyTo, Carried, Run, spent, runTo}
-use Rattle.reader.specs.declared.hunt.Stop.{Stop}
+use Rattle.reader.specs.declared.hunt.Halt.{Halt}
 use Rattle.reader.specs.declared.Candidate.{Candidate}
 use Rattle.reader.proofs.Pushing.{length-puts, push-in}
 use Rattle.reader.proofs.Steps.{step-wait}
@@ -162,18 +162,18 @@ module _ (cells : List ℕ) (c : Candidate) (len : length cells ≡ 40) (top : c
   unfolding end held manyCells manyTo
   many-cells = on-cells c₄ (end + 6 + 6 + 6 + 6) (held + 6 + 6 + 6 + 6) words _ f len₄ (omega (arith, top)) (omega (arith, low)) _ _ k₄ s₄ ∙ five-is
 
-  pub many-to : (after : List ℕ) → after ≡ putFive cells (c .end) a b d e f → (stop : Stop) → stop ≡ huntOf after (c .end + 30) (c .held + 30) (c .words) false
-      → manyTo cells c (a ∷ b ∷ d ∷ e ∷ f ∷ []) ≡ movedTo (c .at) (c .end + 30) (c .held + 30) stop
+  pub many-to : (after : List ℕ) → after ≡ putFive cells (c .end) a b d e f → (halt : Halt) → halt ≡ huntOf after (c .end + 30) (c .held + 30) (c .words) false
+      → manyTo cells c (a ∷ b ∷ d ∷ e ∷ f ∷ []) ≡ movedTo (c .at) (c .end + 30) (c .held + 30) halt
   unfolding end held words at movedTo manyCells manyTo
-  many-to after ea stop es =
+  many-to after ea halt es =
       let ends : c .end + 6 + 6 + 6 + 6 + 6 ≡ c .end + 30 = omega arith in
       let helds : c .held + 6 + 6 + 6 + 6 + 6 ≡ c .held + 30 = omega arith in
       on-to c₄ (end + 6 + 6 + 6 + 6) (held + 6 + 6 + 6 + 6) words (at % 2 ^ 32 % 2 ^ 32 % 2 ^ 32 % 2 ^ 32) f len₄ (omega (arith, top)) (omega (arith, low)) _ _ k₄ s₄
       ∙ ap₂ (λ m n. movedTo (at % 2 ^ 32 % 2 ^ 32 % 2 ^ 32 % 2 ^ 32) m n (huntOf (putCells c₄ (end + 6 + 6 + 6 + 6) f) m n words false)) ends helds
       ∙ ap (movedTo (at % 2 ^ 32 % 2 ^ 32 % 2 ^ 32 % 2 ^ 32) (c .end + 30) (c .held + 30)) (ap (λ l. huntOf l (c .end + 30) (c .held + 30) (c .words) false) (five-is ∙ sym ea) ∙ sym es)
-      ∙ ap (λ n. record { end = c .end + 30; held = stop .left; words = stop .words; at = n; waits = stop .found }) same
+      ∙ ap (λ n. record { end = c .end + 30; held = halt .left; words = halt .words; at = n; waits = halt .found }) same
     where
-      same : (c .at % 2 ^ 32 % 2 ^ 32 % 2 ^ 32 % 2 ^ 32 + (c .held + 30 - stop .left)) % 2 ^ 32 ≡ (c .at + (c .held + 30 - stop .left)) % 2 ^ 32
+      same : (c .at % 2 ^ 32 % 2 ^ 32 % 2 ^ 32 % 2 ^ 32 + (c .held + 30 - halt .left)) % 2 ^ 32 ≡ (c .at + (c .held + 30 - halt .left)) % 2 ^ 32
       same = omega arith
 
   pub many-quiet : Quiet cells c (a ∷ b ∷ d ∷ e ∷ f ∷ [])

@@ -11,7 +11,7 @@ use Rattle.line.specs.Line.{isData, six}
 use Rattle.reader.specs.Cells.{roomEnd, pushedCells}
 use Rattle.reader.specs.Hunting.{huntOf}
 use Rattle.reader.specs.Reading.{pastOf, busy, readyOf, movedTo, stepCells, stepTo, steppedBy, fedBy, Run, runTo, ranBy, fedAllBy, endTo, endedBy}
-use Rattle.reader.specs.declared.hunt.Stop.{Stop}
+use Rattle.reader.specs.declared.hunt.Halt.{Halt}
 use Rattle.reader.specs.declared.Candidate.{Candidate}
 use Rattle.reader.specs.declared.Reader.{Reader}
 use Rattle.reader.specs.declared.Answer.the-variants as answer
@@ -55,12 +55,12 @@ free r state is e = go (pastOf (r .candidate)) refl (r .ended) refl (r .candidat
 
 -- ---- six bits more
 
-pub step-law : (cells : List ℕ) (c : Candidate) (six : ℕ) (after : List ℕ) (end : ℕ) (stop : Stop)
+pub step-law : (cells : List ℕ) (c : Candidate) (six : ℕ) (after : List ℕ) (end : ℕ) (halt : Halt)
     → after ≡ pushedCells cells (c .end) (c .held) six → end ≡ roomEnd (c .end) (c .held) + 6
-    → stop ≡ huntOf after end (c .held + 6) (c .words) false
-    → movedTo (c .at) end (c .held + 6) stop ≡ stepTo cells c six
+    → halt ≡ huntOf after end (c .held + 6) (c .words) false
+    → movedTo (c .at) end (c .held + 6) halt ≡ stepTo cells c six
 unfolding stepTo stepCells
-step-law cells c six after end stop a e s = rw (s, a, e)
+step-law cells c six after end halt a e s = rw (s, a, e)
 
 -- ---- a byte fed
 
@@ -104,7 +104,7 @@ module _ (r : Reader) (state : Ready) (is : state ≡ readyOf (r .candidate) (r 
   unfolding endedBy
   end-refused n e = not-ready (λ m. record { answer = answer.Refused m; reader = r }) _ r state is n e
 
-  pub end-done : state ≡ Yes → (s : Stop) → s ≡ huntOf (r .cells) (r .candidate .end) (r .candidate .held) (r .candidate .words) true
+  pub end-done : state ≡ Yes → (s : Halt) → s ≡ huntOf (r .cells) (r .candidate .end) (r .candidate .held) (r .candidate .words) true
       → (c : Candidate) → c ≡ movedTo (r .candidate .at) (r .candidate .end) (r .candidate .held) s
       → record { answer = answer.Done; reader = record { cells = r .cells; candidate = c; ended = true } } ≡ endedBy r
   unfolding endedBy endTo

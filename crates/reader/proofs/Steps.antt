@@ -15,7 +15,7 @@ use Rattle.stream.specs.Verdict.{hunt}
 use Rattle.stream.proofs.Words.{word-long}
 use Rattle.stream.proofs.HuntSteps.{hunt-next, hunt-whole, hunt-out, hunt-wait, hunt-cut, hunt-none}
 use Rattle.reader.specs.Cells.{cellBits, heldBits}
-use Rattle.reader.specs.Hunting.{stopOf, huntOf}
+use Rattle.reader.specs.Hunting.{haltOf, huntOf}
 use Rattle.reader.proofs.Buffer.{length-held, held-word, held-bit, held-drop, held-none, drop-take}
 use Rattle.reader.proofs.Leaves.{no-preamble}
 
@@ -53,15 +53,15 @@ module _ (cells : List ℕ) (len : length cells ≡ 40) (end : ℕ) (top : end �
 
     pub step-next : right k (bits 32 w) ≡ true → suc k < size (heldBits cells end left) → huntOf cells end left k e ≡ huntOf cells end left (suc k) e
     unfolding huntOf
-    step-next r t = ap stopOf (hunt-next e k low-k (heldBits cells end left) here (ap (right k) (sym (word-is k w c is)) ∙ r) t)
+    step-next r t = ap haltOf (hunt-next e k low-k (heldBits cells end left) here (ap (right k) (sym (word-is k w c is)) ∙ r) t)
 
     pub step-whole : right k (bits 32 w) ≡ true → size (heldBits cells end left) ≤ suc k → huntOf cells end left k e ≡ record { left = left; words = 0; found = true }
-    unfolding huntOf stopOf
+    unfolding huntOf haltOf
     step-whole r t = rw (hunt-whole e k low-k (heldBits cells end left) here (ap (right k) (sym (word-is k w c is)) ∙ r) t, long)
 
     pub step-out : right k (bits 32 w) ≡ false → huntOf cells end left k e ≡ huntOf cells end (left - 1) 0 e
     unfolding huntOf
-    step-out r = ap stopOf (hunt-out e k low-k (heldBits cells end left) here (ap (right k) (sym (word-is k w c is)) ∙ r)
+    step-out r = ap haltOf (hunt-out e k low-k (heldBits cells end left) here (ap (right k) (sym (word-is k w c is)) ∙ r)
         ∙ ap (hunt e 0) (next-bits (omega arith)))
 
   -- no preamble stands at the candidate
@@ -73,7 +73,7 @@ module _ (cells : List ℕ) (len : length cells ≡ 40) (end : ℕ) (top : end �
       → huntOf cells end left k ended ≡ huntOf cells end (left - 1) k ended
   unfolding huntOf
   step-seek ended k t z c e f g =
-      rw z (ap stopOf (hunt-out ended 0 (omega arith) (heldBits cells end left) (omega (arith, long)) headless ∙ ap (hunt ended 0) (next-bits (omega arith))))
+      rw z (ap haltOf (hunt-out ended 0 (omega arith) (heldBits cells end left) (omega (arith, long)) headless ∙ ap (hunt ended 0) (next-bits (omega arith))))
     where
       is : t ≡ number (take 9 (drop 1 (wordAt 0 (heldBits cells end left))))
       is = e ∙ nine-held c
@@ -83,13 +83,13 @@ module _ (cells : List ℕ) (len : length cells ≡ 40) (end : ℕ) (top : end �
           (no-preamble (wordAt 0 (heldBits cells end left)) (word-long 0 (heldBits cells end left) (omega (arith, long))) (λ x. f (is ∙ x)) (λ x. g (is ∙ x)))
 
   pub step-wait : (k : ℕ) → k ≤ 32 → left < 32 + 30 * k → huntOf cells end left k false ≡ record { left = left; words = k; found = false }
-  unfolding huntOf stopOf
+  unfolding huntOf haltOf
   step-wait k h c = rw (hunt-wait k (heldBits cells end left) h (omega (arith, long)), long)
 
   pub step-cut : (k : ℕ) → k ≤ 32 → 0 < left → left < 32 + 30 * k → huntOf cells end left k true ≡ huntOf cells end (left - 1) 0 true
   unfolding huntOf
-  step-cut k h l c = ap stopOf (hunt-cut k (heldBits cells end left) h (omega (arith, long)) (omega (arith, long)) ∙ ap (hunt true 0) (next-bits (omega arith)))
+  step-cut k h l c = ap haltOf (hunt-cut k (heldBits cells end left) h (omega (arith, long)) (omega (arith, long)) ∙ ap (hunt true 0) (next-bits (omega arith)))
 
 pub step-none : (cells : List ℕ) (end : ℕ) (e : Bool) (k : ℕ) → huntOf cells end 0 k e ≡ record { left = 0; words = k; found = false }
-unfolding huntOf stopOf
+unfolding huntOf haltOf
 step-none cells end e k = rw (held-none cells end, hunt-none e k)

@@ -21,7 +21,7 @@ use Rattle.reader.specs.Cells.{heldBits}
 use Rattle.reader.specs.Hunting.{huntOf}
 use Rattle.reader.specs.Reading.{bitsOf, past, frameWaits, movedTo, takeTo, refusedTaking, takenBy}
 use Rattle.reader.specs.Taking.{noneThere, someThere, thereIn, RightTo, HeaderIn}
-use Rattle.reader.specs.declared.hunt.Stop.{Stop}
+use Rattle.reader.specs.declared.hunt.Halt.{Halt}
 use Rattle.reader.specs.declared.Candidate.{Candidate}
 use Rattle.reader.specs.declared.Reader.{Reader}
 use Rattle.reader.specs.declared.Taken.{Taken}
@@ -191,11 +191,11 @@ module _ (r : Reader) where
       pub come-there : length (bitsOf r) ≡ r .candidate .held → 30 * (x .frame .n + 2) ≤ r .candidate .held
       come-there long = omega (arith, n-there, test-stands (bitsOf r) (sym stands-is ∙ s) .taken)
 
-      pub take-done : (stop : Stop) → stop ≡ huntOf (r .cells) (r .candidate .end) (r .candidate .held - 30 * (x .frame .n + 2)) 0 (r .ended)
-          → (c : Candidate) → c ≡ movedTo (r .candidate .at) (r .candidate .end) (r .candidate .held) stop
+      pub take-done : (halt : Halt) → halt ≡ huntOf (r .cells) (r .candidate .end) (r .candidate .held - 30 * (x .frame .n + 2)) 0 (r .ended)
+          → (c : Candidate) → c ≡ movedTo (r .candidate .at) (r .candidate .end) (r .candidate .held) halt
           → record { answer = Done; at = r .candidate .at; frame = x .frame; reader = record { cells = r .cells; candidate = c; ended = r .ended } } ≡ takenBy r
       unfolding given takeTo
-      take-done stop es c ec = rw (frame-there, ec, es, words) (sym (by-checks false true p (waits-is ∙ s)))
+      take-done halt es c ec = rw (frame-there, ec, es, words) (sym (by-checks false true p (waits-is ∙ s)))
         where
           words : x .frame .n + 2 ≡ size (bitsOf r)
           words = omega (arith, n-there)

@@ -13,7 +13,7 @@ use Rattle.frame.specs.declared.Frame.{Frame}
 use Rattle.stream.specs.Standing.{size, stands, frameAt}
 use Rattle.reader.specs.Cells.{heldBits, roomEnd, pushedCells}
 use Rattle.reader.specs.Hunting.{huntOf}
-use Rattle.reader.specs.declared.hunt.Stop.{Stop}
+use Rattle.reader.specs.declared.hunt.Halt.{Halt}
 use Rattle.reader.specs.declared.Candidate.{Candidate}
 use Rattle.reader.specs.declared.Reader.{Reader}
 use Rattle.reader.specs.declared.Answer.{Answer}
@@ -61,7 +61,7 @@ frameWaits r = r .candidate .waits && stands (bitsOf r)
 -- ---- the hunt goes on
 
 -- the candidate where a hunt stops
-unfoldable pub movedTo : ℕ → ℕ → ℕ → Stop → Candidate
+unfoldable pub movedTo : ℕ → ℕ → ℕ → Halt → Candidate
 movedTo at end held s = record { end = end; held = s .left; words = s .words; at = (at + (held - s .left)) % 2 ^ 32; waits = s .found }
 
 -- six bits more, as a number

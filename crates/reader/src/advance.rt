@@ -8,7 +8,7 @@ ghost use Rattle.reader.specs.Reading.{knownBits, movedTo, stepCells, st
 use crate::Candidate;
 use crate::cells::push;
 use crate::cells::put_five;
-use crate::hunt::Stop;
+use crate::hunt::Halt;
 use crate::hunt::hunt;
 use crate::hunt::seek;
 use line::Six;
@@ -27,16 +27,16 @@ pub(crate) enum Five {
 }
 
 // The candidate where a hunt stops.
-pub(crate) fn moved(at: u32, end: usize, held: usize, stop: Stop) -> Candidate
-    requires { ⌜ (stop .left ≤ held) × (held ≤ 1280) ⌝ }
-    ensures { λ r. ⌜ r ≡ movedTo at end held stop ⌝ }
+pub(crate) fn moved(at: u32, end: usize, held: usize, halt: Halt) -> Candidate
+    requires { ⌜ (halt .left ≤ held) × (held ≤ 1280) ⌝ }
+    ensures { λ r. ⌜ r ≡ movedTo at end held halt ⌝ }
 {
     Candidate {
         end,
-        held: stop.left,
-        words: stop.words,
-        at: std::num::wrapping_add_u32(at, (held - stop.left) as u32),
-        waits: stop.found,
+        held: halt.left,
+        words: halt.words,
+        at: std::num::wrapping_add_u32(at, (held - halt.left) as u32),
+        waits: halt.found,
     }
 }
 
@@ -47,7 +47,7 @@ fn hold(cells: &mut [u32; 40], c: Candidate, six: u32) -> Candidate
 {
     let held = c.held + 6;
     let end = push(cells, c.end, c.held, six);
-    let undecided = Stop {
+    let undecided = Halt {
         left: held,
         words: c.words,
         found: false,
@@ -65,15 +65,15 @@ pub(crate) fn step(cells: &mut [u32; 40], c: Candidate, six: u32) -> Candidate
     let end = push(cells, c.end, c.held, six);
     let left = seek(cells, end, held, words);
     if left < 32 + 30 * words {
-        let undecided = Stop {
+        let undecided = Halt {
             left,
             words,
             found: false,
         };
         return moved(c.at, end, held, undecided);
     }
-    let stop = hunt(cells, end, left, words, false);
-    moved(c.at, end, held, stop)
+    let halt = hunt(cells, end, left, words, false);
+    moved(c.at, end, held, halt)
 }
 
 // The sixes of the next five bytes, where each carries six, the first four bring no word to its end, and there is room for all.
@@ -124,15 +124,15 @@ fn burst(cells: &mut [u32; 40], c: Candidate, a: u32, b: u32, d: u32, e: u32, f:
     put_five(cells, c.end, a, b, d, e, f);
     let left = seek(cells, end, held, words);
     if left < 32 + 30 * words {
-        let undecided = Stop {
+        let undecided = Halt {
             left,
             words,
             found: false,
         };
         return moved(c.at, end, held, undecided);
     }
-    let stop = hunt(cells, end, left, words, false);
-    moved(c.at, end, held, stop)
+    let halt = hunt(cells, end, left, words, false);
+    moved(c.at, end, held, halt)
 }
 
 // Bytes fed until a frame waits or none is left.

@@ -11,7 +11,7 @@ ghost use Rattle.reader.specs.Hunting.{huntOf, Headless};
 
 // Where a hunt stops: the bits left from two before that position on, how many of its words are known right (0 where a frame stands), and whether
 // a frame stands there.
-pub struct Stop {
+pub struct Halt {
     pub left: usize,
     pub words: usize,
     pub found: bool,
@@ -99,7 +99,7 @@ pub(crate) fn seek(cells: &[u32; 40], end: usize, left: usize, words: usize) -> 
 }
 
 // The hunt from word `words` of the candidate on: a word that has come and fails rules its position out.
-pub(crate) fn hunt(cells: &[u32; 40], end: usize, held: usize, words: usize, ended: bool) -> Stop
+pub(crate) fn hunt(cells: &[u32; 40], end: usize, held: usize, words: usize, ended: bool) -> Halt
     requires { ⌜ (length (now cells) ≡ 40) × (end ≤ 1280) × (held ≤ end) × (words ≤ 32) ⌝ }
     ensures { λ r. ⌜ (r ≡ huntOf (now (cells .entry)) end held words ended) × (r .left ≤ held) ⌝ }
 {
@@ -117,7 +117,7 @@ pub(crate) fn hunt(cells: &[u32; 40], end: usize, held: usize, words: usize, end
             if 2 <= good {
                 let n = n_in(crate::cells::window(cells, end - left + 30));
                 if n + 2 <= good {
-                    return Stop {
+                    return Halt {
                         left,
                         words: 0,
                         found: true,
@@ -126,7 +126,7 @@ pub(crate) fn hunt(cells: &[u32; 40], end: usize, held: usize, words: usize, end
             }
         }
         if !ended {
-            return Stop {
+            return Halt {
                 left,
                 words: good,
                 found: false,
@@ -135,7 +135,7 @@ pub(crate) fn hunt(cells: &[u32; 40], end: usize, held: usize, words: usize, end
         left -= 1;
         good = 0;
     }
-    Stop {
+    Halt {
         left: 0,
         words: good,
         found: false,

@@ -147,14 +147,14 @@ pub fn end(reader: Reader) -> Next
             reader,
         };
     }
-    let stop = hunt(
+    let halt = hunt(
         &reader.cells,
         candidate.end,
         candidate.held,
         candidate.words,
         true,
     );
-    let last = moved(candidate.at, candidate.end, candidate.held, stop);
+    let last = moved(candidate.at, candidate.end, candidate.held, halt);
     let mut next = reader;
     next.candidate = last;
     next.ended = true;
@@ -193,14 +193,14 @@ pub fn take(reader: Reader) -> Taken
         return untaken(next, 4);
     }
     let frame = there.frame;
-    let stop = hunt(
+    let halt = hunt(
         &next.cells,
         c.end,
         c.held - 30 * (frame.n + 2),
         0,
         next.ended,
     );
-    let last = moved(c.at, c.end, c.held, stop);
+    let last = moved(c.at, c.end, c.held, halt);
     next.candidate = last;
     Taken {
         answer: Answer::Done,

@@ -12,15 +12,15 @@ use Rattle.bits.proofs.SignedLaws.{code-signed, signed-code, code-lt}
 use Rattle.frame.specs.declared.Header.{Header}
 use Rattle.frame.specs.declared.Frame.{Frame}
 use Rattle.frame.specs.declared.Layout.the-variants as layout
-use Rattle.pack.specs.Coding.{frameWith, Each}
-use Rattle.pack.proofs.Round.{Faithful}
-use Rattle.pack.proofs.TableLaws.{row-fine, row-told}
-use Rattle.pack.proofs.SatelliteLaws.{satellite-back, code-back, satellite-some, satellite-few}
-use Rattle.stage.specs.declared.Count.the-variants as count
-use Rattle.stage.specs.Stages.{countIn, doneMade, IsMade}
-use Rattle.corrections.specs.declared.Correction.{Correction}
-use Rattle.corrections.specs.declared.CorrectionRead.the-variants as read
-use Rattle.corrections.specs.Corrections.{widths, meant, codes, coding, fill, StandardFill, least, most, numbers, outOfRange, countCorrections, correctionAt, makeCorrections, Typed, CorrectionsMade, InRange, SendableCorrections, HoldsCorrections, ReadsCorrections}
+use Rattle.record_fields.specs.Coding.{frameWith, Each}
+use Rattle.record_fields.proofs.Round.{Faithful}
+use Rattle.record_fields.proofs.TableLaws.{row-fine, row-told}
+use Rattle.record_fields.proofs.SatelliteLaws.{satellite-back, code-back, satellite-some, satellite-few}
+use Rattle.record_stages.specs.declared.Count.the-variants as count
+use Rattle.record_stages.specs.Stages.{entriesHeld, doneMade, IsMade}
+use Rattle.record_corrections.specs.declared.Correction.{Correction}
+use Rattle.record_corrections.specs.declared.CorrectionRead.the-variants as read
+use Rattle.record_corrections.specs.Corrections.{widths, meant, codes, coding, fill, StandardFill, least, most, numbers, outOfRange, countCorrections, correctionAt, makeCorrections, Typed, CorrectionsMade, InRange, SendableCorrections, HoldsCorrections, ReadsCorrections}
 use Rattle.record_laws.proofs.ListTrips.{list-held, made-then-read, read-then-made}
 use Rattle.record_laws.proofs.SentLaws.{list-made, list-told, list-read}
 
@@ -89,7 +89,7 @@ in-range (a ∷ b ∷ s ∷ vs) f =
     row-fine least most (numbers (meant (a ∷ b ∷ s ∷ vs)))
     (omega arith, omega (arith, f .0), (omega arith, omega (arith, f .1 .0), (satellite-some s (f .1 .1 .0), satellite-few s (f .1 .1 .0), tt)))
 
-sized : (c : ℕ) → 0 < c → c ≤ 18 → (c * 40 ≤ 744) × (countIn 40 ((c * 40 + 23) / 24) ≡ c)
+sized : (c : ℕ) → 0 < c → c ≤ 18 → (c * 40 ≤ 744) × (entriesHeld 40 ((c * 40 + 23) / 24) ≡ c)
 sized c l h = (omega arith, omega arith)
 
 -- ---- N as RULES 8 writes it: 5k, 5k + 2, 5k + 4 words for 3k, 3k + 1, 3k + 2 satellites

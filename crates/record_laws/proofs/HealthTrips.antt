@@ -12,16 +12,16 @@ use Rattle.frame.specs.declared.Header.{Header}
 use Rattle.frame.specs.declared.Frame.{Frame}
 use Rattle.frame.specs.declared.Layout.the-variants as layout
 use Rattle.frame.proofs.WidthLaws.{both-false}
-use Rattle.pack.specs.Coding.{frameWith}
-use Rattle.pack.proofs.Round.{Faithful}
-use Rattle.pack.proofs.TableLaws.{row-fine, row-told}
-use Rattle.pack.specs.Satellites.{satelliteOf}
-use Rattle.pack.proofs.SatelliteLaws.{satellite-back, code-back, satellite-some, satellite-few}
-use Rattle.stage.specs.declared.Count.the-variants as count
-use Rattle.stage.specs.Stages.{countIn, doneMade, IsMade}
-use Rattle.healths.specs.declared.SatelliteHealth.{SatelliteHealth}
-use Rattle.healths.specs.declared.HealthRead.the-variants as read
-use Rattle.healths.specs.Healths.{widths, meant, codes, coding, fill, least, most, numbers, outOfRange, countHealths, healthAt, makeHealths, HealthsMade, InRange, SendableHealths, HoldsHealths, ReadsHealths}
+use Rattle.record_fields.specs.Coding.{frameWith}
+use Rattle.record_fields.proofs.Round.{Faithful}
+use Rattle.record_fields.proofs.TableLaws.{row-fine, row-told}
+use Rattle.record_fields.specs.Satellites.{satelliteOf}
+use Rattle.record_fields.proofs.SatelliteLaws.{satellite-back, code-back, satellite-some, satellite-few}
+use Rattle.record_stages.specs.declared.Count.the-variants as count
+use Rattle.record_stages.specs.Stages.{entriesHeld, doneMade, IsMade}
+use Rattle.record_healths.specs.declared.SatelliteHealth.{SatelliteHealth}
+use Rattle.record_healths.specs.declared.HealthRead.the-variants as read
+use Rattle.record_healths.specs.Healths.{widths, meant, codes, coding, fill, least, most, numbers, outOfRange, countHealths, healthAt, makeHealths, HealthsMade, InRange, SendableHealths, HoldsHealths, ReadsHealths}
 use Rattle.record_laws.proofs.ListTrips.{list-held, made-then-read, read-then-made, each-any, no-fill}
 use Rattle.record_laws.proofs.SentLaws.{list-made, list-told, list-read}
 
@@ -108,7 +108,7 @@ in-range (a ∷ b ∷ c ∷ d ∷ e ∷ f ∷ g ∷ h ∷ i ∷ j ∷ ks) q =
     row-fine least most (numbers (meant (a ∷ b ∷ c ∷ d ∷ e ∷ f ∷ g ∷ h ∷ i ∷ j ∷ ks)))
     (omega arith, omega (arith, q .0), (satellite-some b (q .1 .0), satellite-few b (q .1 .0), (omega arith, omega (arith, q .1 .1 .0), (omega arith, omega (arith, q .1 .1 .1 .0), (omega arith, omega (arith, q .1 .1 .1 .1 .0), (omega arith, omega (arith, q .1 .1 .1 .1 .1 .0), (omega arith, omega (arith, q .1 .1 .1 .1 .1 .1 .0), (omega arith, omega (arith, q .1 .1 .1 .1 .1 .1 .1 .0), (omega arith, omega (arith, q .1 .1 .1 .1 .1 .1 .1 .1 .0), (omega arith, omega (arith, q .1 .1 .1 .1 .1 .1 .1 .1 .1 .0), tt))))))))))
 
-sized : (c : ℕ) → 0 < c → c ≤ 31 → (c * 24 ≤ 744) × (countIn 24 ((c * 24 + 23) / 24) ≡ c)
+sized : (c : ℕ) → 0 < c → c ≤ 31 → (c * 24 ≤ 744) × (entriesHeld 24 ((c * 24 + 23) / 24) ≡ c)
 sized c l h = (omega arith, omega arith)
 
 -- ---- the theorems

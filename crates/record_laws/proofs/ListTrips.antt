@@ -23,13 +23,13 @@ use Rattle.frame.specs.declared.Frame.{Frame}
 use Rattle.frame.specs.declared.Layout.{Layout}
 use Rattle.frame.proofs.FrameLaws.{header-within, n-within, length-data as length-data-words}
 use Rattle.frame.proofs.WidthLaws.{both-false}
-use Rattle.pack.specs.Coding.{Coding, frameBits, entryIn, frameWith, Each}
-use Rattle.pack.proofs.Round.{Faithful, made-n, made-inside, made-fill, made-entry, entries-read, made-again, none-read}
-use Rattle.stage.specs.declared.Count.the-variants as count
-use Rattle.stage.specs.Stages.{wrongCount, otherLayout, countIn, misfit, readOrder, makeOrder, refusedMade, doneMade}
-use Rattle.stage.specs.Lists.{listCount, listEntry, listMade, MadeReads, Sendable, Holding, ListRead}
-use Rattle.stage.proofs.ListCode.{fitting, some-few}
-use Rattle.stage.proofs.StageLaws.{done-frame, of-apart, of-inj}
+use Rattle.record_fields.specs.Coding.{Coding, frameBits, entryIn, frameWith, Each}
+use Rattle.record_fields.proofs.Round.{Faithful, made-n, made-inside, made-fill, made-entry, entries-read, made-again, none-read}
+use Rattle.record_stages.specs.declared.Count.the-variants as count
+use Rattle.record_stages.specs.Stages.{wrongCount, otherLayout, entriesHeld, misfit, readOrder, makeOrder, refusedMade, doneMade}
+use Rattle.record_stages.specs.Lists.{listCount, listEntry, listMade, MadeReads, Sendable, Holding, ListRead}
+use Rattle.record_stages.proofs.ListCode.{fitting, some-few}
+use Rattle.record_stages.proofs.StageLaws.{done-frame, of-apart, of-inj}
 use Rattle.record_laws.proofs.SentLaws.{told-layout, frame-for, none-taken, list-made, list-told, list-read}
 
 -- what every value has, each entry has
@@ -42,7 +42,7 @@ pub record CountRead {A : Type 0} (asked : Layout) (k : Coding A) (f : Frame) (c
   pub inside : outside f ≡ false
   pub same : otherLayout asked (f .header .kind) ≡ false
   pub hour : late (f .header .z) ≡ false
-  pub held : countIn (span (k .widths)) (f .n) ≡ c
+  pub held : entriesHeld (span (k .widths)) (f .n) ≡ c
   pub some : 0 < c
   pub up : (c * span (k .widths) + 23) / 24 ≡ f .n
 
@@ -52,17 +52,17 @@ count-read asked k f c e = record { inside = t .0 .0; same = t .0 .1 .0; hour = 
     w : ℕ
     w = span (k .widths)
 
-    t : NoneApplies (readOrder asked f (misfit w (f .n)) []) × (count.Of (countIn w (f .n)) ≡ count.Of c)
-    t = order-told count.Refused (count.Of (countIn w (f .n))) (count.Of c) (λ m. of-apart m c) (readOrder asked f (misfit w (f .n)) []) e
+    t : NoneApplies (readOrder asked f (misfit w (f .n)) []) × (count.Of (entriesHeld w (f .n)) ≡ count.Of c)
+    t = order-told count.Refused (count.Of (entriesHeld w (f .n))) (count.Of c) (λ m. of-apart m c) (readOrder asked f (misfit w (f .n)) []) e
 
-    held : countIn w (f .n) ≡ c
-    held = of-inj (countIn w (f .n)) c (t .1)
+    held : entriesHeld w (f .n) ≡ c
+    held = of-inj (entriesHeld w (f .n)) c (t .1)
 
     fit : (0 < c) × ((c * w + 23) / 24 ≡ f .n)
     fit = let s = fitting w (f .n) (t .0 .1 .1 .1 .0) in subst (λ m. (0 < m) × ((m * w + 23) / 24 ≡ f .n)) held (s .some, s .up)
 
 -- and what is read held a list
-pub list-held : {A : Type 0} (asked : Layout) (k : Coding A) (most : ℕ) → ((n : ℕ) → n ≤ 31 → countIn (span (k .widths)) n ≤ most)
+pub list-held : {A : Type 0} (asked : Layout) (k : Coding A) (most : ℕ) → ((n : ℕ) → n ≤ 31 → entriesHeld (span (k .widths)) n ≤ most)
     → (f : Frame) (c : ℕ) → listCount asked k f ≡ count.Of c → Holding asked k most f c
 list-held asked k most bounded f c e = record {
   frame = record {
@@ -81,7 +81,7 @@ list-held asked k most bounded f c e = record {
 -- entries that end with a word leave nothing to fill
 pub no-fill : {A : Type 0} (asked : Layout) (k : Coding A) (pattern : ℕ) (f : Frame) (c : ℕ) → length (f .words) ≡ 31
     → listCount asked k f ≡ count.Of c
-    → ((n : ℕ) → 24 * n ≤ countIn (span (k .widths)) n * span (k .widths)) → FillAfter pattern (c * span (k .widths)) (frameBits f)
+    → ((n : ℕ) → 24 * n ≤ entriesHeld (span (k .widths)) n * span (k .widths)) → FillAfter pattern (c * span (k .widths)) (frameBits f)
 unfolding frameBits fillOf
 no-fill asked k pattern f c full n whole = none ∙ sym (ap (λ l. take (length l) (bits 24 pattern)) none)
   where
@@ -109,7 +109,7 @@ each-good out Typed Good good (x ∷ es) t e =
 module _ {A B : Type 0} (asked : Layout) (k : Coding A) (pattern most : ℕ) (out : A → Bool) (refuse : ℕ → B) (entry : A → B)
     (Typed Good : A → Type 0) (law : Faithful k Good)
     (good : (e : A) → Typed e → out e ≡ false → Good e)
-    (sized : (c : ℕ) → 0 < c → c ≤ most → (c * span (k .widths) ≤ 744) × (countIn (span (k .widths)) ((c * span (k .widths) + 23) / 24) ≡ c)) where
+    (sized : (c : ℕ) → 0 < c → c ≤ most → (c * span (k .widths) ≤ 744) × (entriesHeld (span (k .widths)) ((c * span (k .widths) + 23) / 24) ≡ c)) where
   module _ (h : Header) (es : List A) (c : ℕ) (d : A) (typed : Each Typed (take c es)) (s : Sendable asked most (λ e. out e ≡ false) h es c d) where
     abbrev made : Frame
     made = frameWith pattern k h (take c es)
@@ -161,7 +161,7 @@ module _ {A B : Type 0} (asked : Layout) (k : Coding A) (pattern most : ℕ) (ou
 
   -- READ, THEN MADE
   module _ (none : (vs : List ℕ) → Fit (k .widths) vs → out (k .meant vs) ≡ false)
-      (bounded : (n : ℕ) → n ≤ 31 → countIn (span (k .widths)) n ≤ most)
+      (bounded : (n : ℕ) → n ≤ 31 → entriesHeld (span (k .widths)) n ≤ most)
       (refuse-apart : (n : ℕ) (e : A) → refuse n ≡ entry e → ⊥) (entry-inj : (a b : A) → entry a ≡ entry b → a ≡ b) where
     pub read-then-made : (f : Frame) (es : List A) (c : ℕ) (d : A) → length (f .words) ≡ 31 → c ≤ length es
         → listCount asked k f ≡ count.Of c → ((i : ℕ) → i < c → listEntry asked k refuse entry f i ≡ entry (getD es i d))
@@ -195,7 +195,7 @@ module _ {A B : Type 0} (asked : Layout) (k : Coding A) (pattern most : ℕ) (ou
             getD-take c es i d h
             ∙ sym (entry-inj _ _
             (order-told refuse (entry (entryIn k i (frameBits f))) (entry (getD es i d)) (λ m. refuse-apart m (getD es i d))
-            (readOrder asked f (misfit (span (k .widths)) (f .n)) ((leb (countIn (span (k .widths)) (f .n)) i, 9) ∷ [])) (e i h) .1))
+            (readOrder asked f (misfit (span (k .widths)) (f .n)) ((leb (entriesHeld (span (k .widths)) (f .n)) i, 9) ∷ [])) (e i h) .1))
 
         same : take c es ≡ map (k .meant) (rowsAt (k .widths) c 0 (frameBits f))
         same = entries-read k Good law pattern f (r .inside) full c (r .up) fill d (take c es) (omega (arith, length-take c es)) at

@@ -13,10 +13,10 @@ use Rattle.frame.specs.declared.Header.{Header}
 use Rattle.frame.specs.declared.Frame.{Frame}
 use Rattle.frame.specs.declared.Layout.the-variants as layout
 use Rattle.frame.proofs.FrameLaws.{header-within, framed-inside, framed-again}
-use Rattle.stage.specs.Stages.{wrongSize, readOrder, makeOrder, refusedMade, doneMade, IsMade}
-use Rattle.stage.proofs.StageLaws.{done-apart, done-frame}
-use Rattle.nulls.specs.declared.NullRead.the-variants as read
-use Rattle.nulls.specs.Nulls.{readNull, makeNull, NullMade, SendableNull, HoldsNull}
+use Rattle.record_stages.specs.Stages.{wrongSize, readOrder, makeOrder, refusedMade, doneMade, IsMade}
+use Rattle.record_stages.proofs.StageLaws.{done-apart, done-frame}
+use Rattle.record_nulls.specs.declared.NullRead.the-variants as read
+use Rattle.record_nulls.specs.Nulls.{readNull, makeNull, NullMade, SendableNull, HoldsNull}
 use Rattle.record_laws.proofs.SentLaws.{make-passes, make-passed, read-passes, read-passed, frame-for, right-size, told-size}
 
 apart : (n : ℕ) → read.Refused n ≡ read.Null → ⊥

@@ -25,13 +25,13 @@ use Rattle.frame.specs.declared.Frame.{Frame}
 use Rattle.frame.specs.declared.Layout.the-variants as layout
 use Rattle.frame.proofs.FrameLaws.{header-within, length-data as length-data-words}
 use Rattle.frame.proofs.WidthLaws.{both-false}
-use Rattle.pack.specs.Coding.{frameBits, frameWith}
-use Rattle.pack.proofs.Round.{Faithful, made-n, made-inside, made-entry, made-again}
-use Rattle.stage.specs.Stages.{wrongSize, readOrder, makeOrder, refusedMade, doneMade, IsMade}
-use Rattle.stage.proofs.StageLaws.{done-apart, done-frame}
-use Rattle.positions.specs.declared.Position.{Position}
-use Rattle.positions.specs.declared.PositionRead.the-variants as read
-use Rattle.positions.specs.Positions.{widths, meant, codes, coding, fill, tooLow, outOfRange, positionIn, readPosition, makePosition, Typed, PositionMade, lowest, InRange, SendablePosition, HoldsPosition}
+use Rattle.record_fields.specs.Coding.{frameBits, frameWith}
+use Rattle.record_fields.proofs.Round.{Faithful, made-n, made-inside, made-entry, made-again}
+use Rattle.record_stages.specs.Stages.{wrongSize, readOrder, makeOrder, refusedMade, doneMade, IsMade}
+use Rattle.record_stages.proofs.StageLaws.{done-apart, done-frame}
+use Rattle.record_positions.specs.declared.Position.{Position}
+use Rattle.record_positions.specs.declared.PositionRead.the-variants as read
+use Rattle.record_positions.specs.Positions.{widths, meant, codes, coding, fill, tooLow, outOfRange, positionIn, readPosition, makePosition, Typed, PositionMade, lowest, InRange, SendablePosition, HoldsPosition}
 use Rattle.record_laws.proofs.SentLaws.{make-passes, make-passed, read-passes, read-passed, frame-for, right-size, told-size}
 
 -- ---- the three laws on codes

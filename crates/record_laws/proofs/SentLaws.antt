@@ -20,12 +20,12 @@ use Rattle.frame.specs.declared.Layout.{Layout}
 use Rattle.frame.specs.declared.Layout.the-variants as layout
 use Rattle.frame.proofs.WidthLaws.{both-false}
 use Rattle.frame.proofs.FrameLaws.{n-within}
-use Rattle.pack.specs.Coding.{Coding, frameBits, entryIn, frameWith}
-use Rattle.stage.specs.declared.Count.the-variants as count
-use Rattle.stage.specs.Stages.{wrongCount, layoutNumber, otherLayout, countIn, misfit, wrongSize, readOrder, makeOrder, refusedMade, doneMade, HeaderFor, FrameFor}
-use Rattle.stage.specs.Lists.{listMade, listCount, listEntry, Sendable, Holding, ListRead}
-use Rattle.stage.proofs.ListCode.{count-right, some-few, told-some-few}
-use Rattle.stage.proofs.StageLaws.{done-apart}
+use Rattle.record_fields.specs.Coding.{Coding, frameBits, entryIn, frameWith}
+use Rattle.record_stages.specs.declared.Count.the-variants as count
+use Rattle.record_stages.specs.Stages.{wrongCount, layoutNumber, otherLayout, entriesHeld, misfit, wrongSize, readOrder, makeOrder, refusedMade, doneMade, HeaderFor, FrameFor}
+use Rattle.record_stages.specs.Lists.{listMade, listCount, listEntry, Sendable, Holding, ListRead}
+use Rattle.record_stages.proofs.ListCode.{count-right, some-few, told-some-few}
+use Rattle.record_stages.proofs.StageLaws.{done-apart}
 
 -- ---- the layout asked for
 
@@ -154,22 +154,22 @@ module _ {A : Type 0} (asked : Layout) (k : Coding A) (pattern most : ℕ) (out 
 -- ---- frames that hold a list
 
 module _ {A B : Type 0} (asked : Layout) (k : Coding A) (most : ℕ) (refuse : ℕ → B) (entry : A → B)
-    (held : (c : ℕ) → 0 < c → c ≤ most → countIn (span (k .widths)) ((c * span (k .widths) + 23) / 24) ≡ c) where
+    (held : (c : ℕ) → 0 < c → c ≤ most → entriesHeld (span (k .widths)) ((c * span (k .widths) + 23) / 24) ≡ c) where
   -- READ: its count and every entry, none refused
   pub list-read : (f : Frame) (c : ℕ) → Holding asked k most f c → ListRead k (listCount asked k) (listEntry asked k refuse entry) entry f c
   list-read f c s = record {
-    counts = order-answers count.Refused (count.Of (countIn w (f .n))) (readOrder asked f (misfit w (f .n)) [])
+    counts = order-answers count.Refused (count.Of (entriesHeld w (f .n))) (readOrder asked f (misfit w (f .n)) [])
         (read-passes asked f (misfit w (f .n)) [] (s .frame) fits tt) ∙ ap count.Of is;
     entries = λ i l.
-        order-answers refuse (entry (entryIn k i (frameBits f))) (readOrder asked f (misfit w (f .n)) ((leb (countIn w (f .n)) i, 9) ∷ []))
-        (read-passes asked f (misfit w (f .n)) ((leb (countIn w (f .n)) i, 9) ∷ []) (s .frame) fits (ap (λ m. leb m i) is ∙ lt-leb c i l, tt));
+        order-answers refuse (entry (entryIn k i (frameBits f))) (readOrder asked f (misfit w (f .n)) ((leb (entriesHeld w (f .n)) i, 9) ∷ []))
+        (read-passes asked f (misfit w (f .n)) ((leb (entriesHeld w (f .n)) i, 9) ∷ []) (s .frame) fits (ap (λ m. leb m i) is ∙ lt-leb c i l, tt));
   }
     where
       w : ℕ
       w = span (k .widths)
 
-      is : countIn w (f .n) ≡ c
-      is = ap (countIn w) (s .n) ∙ held c (s .some) (s .few)
+      is : entriesHeld w (f .n) ≡ c
+      is = ap (entriesHeld w) (s .n) ∙ held c (s .some) (s .few)
 
       fits : misfit w (f .n) ≡ false
       fits = count-right w (f .n) (n-within f (s .frame .inside)) (λ z. omega (arith, is, z, s .some)) (ap (λ m. (m * w + 23) / 24) is ∙ sym (s .n))

@@ -18,13 +18,13 @@ use Rattle.frame.specs.Widths.{anyOf, outside}
 use Rattle.frame.specs.declared.Frame.{Frame}
 use Rattle.frame.specs.declared.Layout.the-variants as layout
 use Rattle.frame.proofs.FrameLaws.{header-within, length-data as length-data-words}
-use Rattle.pack.specs.Coding.{frameBits, entryIn, rowsOf, frameWith}
-use Rattle.pack.proofs.Round.{made-again}
-use Rattle.stage.specs.declared.Count.the-variants as count
-use Rattle.stage.specs.Stages.{wrongCount, makeOrder, refusedMade, doneMade}
-use Rattle.stage.proofs.StageLaws.{of-apart, of-inj}
-use Rattle.texts.specs.Texts.{widths, coding, fill, characters, lengthIn, textIn, forbidden, textOrder, readText, bufferAfter, makeText}
-use Rattle.texts.proofs.TextCode.{length-characters, length-le, some-words}
+use Rattle.record_fields.specs.Coding.{frameBits, entryIn, rowsOf, frameWith}
+use Rattle.record_fields.proofs.Round.{made-again}
+use Rattle.record_stages.specs.declared.Count.the-variants as count
+use Rattle.record_stages.specs.Stages.{wrongCount, makeOrder, refusedMade, doneMade}
+use Rattle.record_stages.proofs.StageLaws.{of-apart, of-inj}
+use Rattle.record_texts.specs.Texts.{widths, coding, fill, characters, lengthIn, textIn, forbidden, textOrder, readText, bufferAfter, makeText}
+use Rattle.record_texts.proofs.TextCode.{length-characters, length-le, some-words}
 use Rattle.record_laws.proofs.TextHeld.{closing}
 use Rattle.record_laws.proofs.TextLaws.{Good, faithful, zeros-fill}
 

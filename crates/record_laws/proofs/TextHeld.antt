@@ -15,12 +15,12 @@ use Rattle.answer.proofs.OrderLaws.{order-answers, order-told}
 use Rattle.frame.specs.Widths.{anyOf}
 use Rattle.frame.specs.declared.Frame.{Frame}
 use Rattle.frame.specs.declared.Layout.the-variants as layout
-use Rattle.pack.specs.Coding.{frameBits, entryIn}
-use Rattle.stage.specs.declared.Count.the-variants as count
-use Rattle.stage.proofs.StageLaws.{of-apart, of-inj}
-use Rattle.stage.proofs.ListCode.{some-few, told-some-few}
-use Rattle.texts.specs.Texts.{coding, characters, textLength, lengthIn, textIn, wrongWords, forbidden, textOrder, readText, bufferAfter, Allowed, HoldsText, ReadsText}
-use Rattle.texts.proofs.TextCode.{length-characters, character-at, length-all, length-less, length-least, Ends, none, one, two, ends}
+use Rattle.record_fields.specs.Coding.{frameBits, entryIn}
+use Rattle.record_stages.specs.declared.Count.the-variants as count
+use Rattle.record_stages.proofs.StageLaws.{of-apart, of-inj}
+use Rattle.record_stages.proofs.ListCode.{some-few, told-some-few}
+use Rattle.record_texts.specs.Texts.{coding, characters, textLength, lengthIn, textIn, wrongWords, forbidden, textOrder, readText, bufferAfter, Allowed, HoldsText, ReadsText}
+use Rattle.record_texts.proofs.TextCode.{length-characters, character-at, length-all, length-less, length-least, Ends, none, one, two, ends}
 use Rattle.record_laws.proofs.SentLaws.{read-passes, read-passed, none-entry, told-entry, any-entry}
 use Rattle.record_laws.proofs.TextLaws.{allowed, not-zero}
 

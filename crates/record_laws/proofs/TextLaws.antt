@@ -12,9 +12,9 @@ use Rattle.bits.specs.Fields.{Fit}
 use Rattle.bits.specs.Rows.{packedRows, AllFit, fillOf}
 use Rattle.frame.specs.Widths.{anyOf}
 use Rattle.frame.proofs.WidthLaws.{both-false}
-use Rattle.pack.specs.Coding.{rowsOf, Each}
-use Rattle.pack.proofs.Round.{Faithful}
-use Rattle.texts.specs.Texts.{widths, meant, codes, coding, fill, forbidden}
+use Rattle.record_fields.specs.Coding.{rowsOf, Each}
+use Rattle.record_fields.proofs.Round.{Faithful}
+use Rattle.record_texts.specs.Texts.{widths, meant, codes, coding, fill, forbidden}
 
 -- ---- the three laws on codes
 

@@ -15,12 +15,12 @@ use Rattle.frame.specs.Widths.{anyOf, outside}
 use Rattle.frame.specs.declared.Header.{Header}
 use Rattle.frame.specs.declared.Frame.{Frame}
 use Rattle.frame.specs.declared.Layout.the-variants as layout
-use Rattle.pack.specs.Coding.{frameBits, entryIn, rowsOf, entryBits, frameWith}
-use Rattle.pack.proofs.Round.{fill-left, length-entries, made-bits, made-n, made-inside, made-fill, made-entry}
-use Rattle.stage.specs.Stages.{wrongCount, makeOrder, refusedMade, doneMade, IsMade}
-use Rattle.stage.proofs.StageLaws.{done-apart, done-frame}
-use Rattle.stage.proofs.ListCode.{some-few, told-some-few}
-use Rattle.texts.specs.Texts.{widths, meant, codes, coding, fill, characters, forbidden, makeText, TextMade, SendableText, HoldsText}
+use Rattle.record_fields.specs.Coding.{frameBits, entryIn, rowsOf, entryBits, frameWith}
+use Rattle.record_fields.proofs.Round.{fill-left, length-entries, made-bits, made-n, made-inside, made-fill, made-entry}
+use Rattle.record_stages.specs.Stages.{wrongCount, makeOrder, refusedMade, doneMade, IsMade}
+use Rattle.record_stages.proofs.StageLaws.{done-apart, done-frame}
+use Rattle.record_stages.proofs.ListCode.{some-few, told-some-few}
+use Rattle.record_texts.specs.Texts.{widths, meant, codes, coding, fill, characters, forbidden, makeText, TextMade, SendableText, HoldsText}
 use Rattle.record_laws.proofs.SentLaws.{make-passes, make-passed, frame-for}
 use Rattle.record_laws.proofs.TextHeld.{allowed-fine, allowed-told, characters-are, characters-zeros, text-read}
 use Rattle.record_laws.proofs.TextLaws.{Good, faithful, all-good, zeros-fit, zeros-at, zeros-fill}

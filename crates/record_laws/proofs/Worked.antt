@@ -16,16 +16,16 @@ use Rattle.frame.specs.Widths.{stateOutside, numbersOutside, headerOutside, out
 use Rattle.frame.specs.declared.Header.{Header}
 use Rattle.frame.specs.declared.Frame.{Frame}
 use Rattle.frame.specs.declared.State.the-variants.{Factor}
-use Rattle.pack.specs.Coding.{frameBits, entryBits, frameWith}
-use Rattle.stage.specs.Stages.{layoutNumber, otherLayout, misfit, refusedMade, doneMade, saysCount, saysMade}
-use Rattle.corrections.specs.declared.Correction.{Correction}
-use Rattle.corrections.specs.Corrections.{countCorrections, correctionAt, makeCorrections, saysCorrectionRead}
-use Rattle.healths.specs.declared.SatelliteHealth.{SatelliteHealth}
-use Rattle.healths.specs.Healths.{countHealths, healthAt, makeHealths, saysHealthRead}
-use Rattle.positions.specs.declared.Position.{Position}
-use Rattle.positions.specs.Positions.{tooLow, outOfRange as positionOut, readPosition, makePosition, saysPositionRead}
-use Rattle.nulls.specs.Nulls.{readNull, makeNull, saysNullRead}
-use Rattle.texts.specs.Texts.{characters, textLength, readText, bufferAfter, makeText}
+use Rattle.record_fields.specs.Coding.{frameBits, entryBits, frameWith}
+use Rattle.record_stages.specs.Stages.{layoutNumber, otherLayout, misfit, refusedMade, doneMade, saysCount, saysMade}
+use Rattle.record_corrections.specs.declared.Correction.{Correction}
+use Rattle.record_corrections.specs.Corrections.{countCorrections, correctionAt, makeCorrections, saysCorrectionRead}
+use Rattle.record_healths.specs.declared.SatelliteHealth.{SatelliteHealth}
+use Rattle.record_healths.specs.Healths.{countHealths, healthAt, makeHealths, saysHealthRead}
+use Rattle.record_positions.specs.declared.Position.{Position}
+use Rattle.record_positions.specs.Positions.{tooLow, outOfRange as positionOut, readPosition, makePosition, saysPositionRead}
+use Rattle.record_nulls.specs.Nulls.{readNull, makeNull, saysNullRead}
+use Rattle.record_texts.specs.Texts.{characters, textLength, readText, bufferAfter, makeText}
 
 -- the header of a type: station 5, Z count 100, sequence 3, health 0
 abbrev pub header : ℕ → Header

@@ -58,8 +58,8 @@ returns c =
     let q = c .before .before .before .before .put-five .ensures in
     let len = ap length q ∙ length-five (now (a .cells)) (a .c .end) (a .a) (a .b) (a .d) (a .e) (a .f) ∙ s .pre .0 in
     let left = c .before .before .seek .result in
-    let stop = c .before .before .seek .ensures .1 false ∙ step-wait (c .before .before .before .before .put-five .last .0) len (a .c .end + 30) (omega (arith, s .pre .1)) left (omega (arith, s .pre .2, c .before .before .seek .ensures .0)) (a .c .words) (s .pre .4) (c .before .if1 .taken) in
-    (c .moved .ensures ∙ sym (many-to (now (a .cells)) (a .c) (s .pre .0) (s .pre .1) (s .pre .2) (s .pre .4) (s .pre .5) (a .a) (a .b) (a .d) (a .e) (a .f) (c .before .before .before .before .put-five .last .0) q _ (sym stop)), q ∙ sym (many-cells (now (a .cells)) (a .c) (s .pre .0) (s .pre .1) (s .pre .2) (s .pre .4) (s .pre .5) (a .a) (a .b) (a .d) (a .e) (a .f)))
+    let halt = c .before .before .seek .ensures .1 false ∙ step-wait (c .before .before .before .before .put-five .last .0) len (a .c .end + 30) (omega (arith, s .pre .1)) left (omega (arith, s .pre .2, c .before .before .seek .ensures .0)) (a .c .words) (s .pre .4) (c .before .if1 .taken) in
+    (c .moved .ensures ∙ sym (many-to (now (a .cells)) (a .c) (s .pre .0) (s .pre .1) (s .pre .2) (s .pre .4) (s .pre .5) (a .a) (a .b) (a .d) (a .e) (a .f) (c .before .before .before .before .put-five .last .0) q _ (sym halt)), q ∙ sym (many-cells (now (a .cells)) (a .c) (s .pre .0) (s .pre .1) (s .pre .2) (s .pre .4) (s .pre .5) (a .a) (a .b) (a .d) (a .e) (a .f)))
 
 -- src/advance.rt:138:9
 hunt-requires : tie.Need-hunt-requires
@@ -81,8 +81,8 @@ returns-2 c =
     let a = s .args in
     let q = c .before .before .before .before .before .before .put-five .ensures in
     let len = ap length q ∙ length-five (now (a .cells)) (a .c .end) (a .a) (a .b) (a .d) (a .e) (a .f) ∙ s .pre .0 in
-    let stop = c .before .hunt .ensures .0 ∙ sym (c .before .before .before .before .seek .ensures .1 false) in
-    (c .moved2 .ensures ∙ sym (many-to (now (a .cells)) (a .c) (s .pre .0) (s .pre .1) (s .pre .2) (s .pre .4) (s .pre .5) (a .a) (a .b) (a .d) (a .e) (a .f) (c .before .before .before .before .before .before .put-five .last .0) q _ stop), q ∙ sym (many-cells (now (a .cells)) (a .c) (s .pre .0) (s .pre .1) (s .pre .2) (s .pre .4) (s .pre .5) (a .a) (a .b) (a .d) (a .e) (a .f)))
+    let halt = c .before .hunt .ensures .0 ∙ sym (c .before .before .before .before .seek .ensures .1 false) in
+    (c .moved2 .ensures ∙ sym (many-to (now (a .cells)) (a .c) (s .pre .0) (s .pre .1) (s .pre .2) (s .pre .4) (s .pre .5) (a .a) (a .b) (a .d) (a .e) (a .f) (c .before .before .before .before .before .before .put-five .last .0) q _ halt), q ∙ sym (many-cells (now (a .cells)) (a .c) (s .pre .0) (s .pre .1) (s .pre .2) (s .pre .4) (s .pre .5) (a .a) (a .b) (a .d) (a .e) (a .f)))
 
 pub burst-spec : {M : Type 1} → statement M
 burst-spec =

@@ -30,8 +30,8 @@ returns c =
     let len = ap length (q .1) ∙ length-pushed (now (a .cells)) (a .c .end) (a .c .held) (s .pre .0) (s .pre .1) (s .pre .2) (s .pre .3) (a .six) in
     let ends = room-low (now (a .cells)) (a .c .end) (a .c .held) (s .pre .0) (s .pre .1) (s .pre .2) (s .pre .3) in
     let left = c .before .before .seek .result in
-    let stop = c .before .before .seek .ensures .1 false ∙ step-wait (c .before .before .before .before .push .last .0) len (c .before .before .before .before .push .result) (omega (arith, q .0, ends .0)) left (omega (arith, q .0, ends .1, c .before .before .seek .ensures .0)) (a .c .words) (s .pre .4) (c .before .if1 .taken) in
-    (c .moved .ensures ∙ step-law (now (a .cells)) (a .c) (a .six) (c .before .before .before .before .push .last .0) (c .before .before .before .before .push .result) _ (q .1) (q .0) (sym stop), q .1)
+    let halt = c .before .before .seek .ensures .1 false ∙ step-wait (c .before .before .before .before .push .last .0) len (c .before .before .before .before .push .result) (omega (arith, q .0, ends .0)) left (omega (arith, q .0, ends .1, c .before .before .seek .ensures .0)) (a .c .words) (s .pre .4) (c .before .if1 .taken) in
+    (c .moved .ensures ∙ step-law (now (a .cells)) (a .c) (a .six) (c .before .before .before .before .push .last .0) (c .before .before .before .before .push .result) _ (q .1) (q .0) (sym halt), q .1)
 
 hunt-requires : tie.Need-hunt-requires
 hunt-requires c κs =
@@ -53,8 +53,8 @@ returns-2 c =
     let q = c .before .before .before .before .before .before .push .ensures in
     let len = ap length (q .1) ∙ length-pushed (now (a .cells)) (a .c .end) (a .c .held) (s .pre .0) (s .pre .1) (s .pre .2) (s .pre .3) (a .six) in
     let ends = room-low (now (a .cells)) (a .c .end) (a .c .held) (s .pre .0) (s .pre .1) (s .pre .2) (s .pre .3) in
-    let stop = c .before .hunt .ensures .0 ∙ sym (c .before .before .before .before .seek .ensures .1 false) in
-    (c .moved2 .ensures ∙ step-law (now (a .cells)) (a .c) (a .six) (c .before .before .before .before .before .before .push .last .0) (c .before .before .before .before .before .before .push .result) _ (q .1) (q .0) stop, q .1)
+    let halt = c .before .hunt .ensures .0 ∙ sym (c .before .before .before .before .seek .ensures .1 false) in
+    (c .moved2 .ensures ∙ step-law (now (a .cells)) (a .c) (a .six) (c .before .before .before .before .before .before .push .last .0) (c .before .before .before .before .before .before .push .result) _ (q .1) (q .0) halt, q .1)
 
 pub step-spec : {M : Type 1} → statement M
 step-spec =

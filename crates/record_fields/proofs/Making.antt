@@ -1,0 +1,61 @@
+-- Over the layout: the frame that a filled packer leaves, and that a field within N words is one of the frame's bits. Assumes nothing.
+use mathlib.Core.Path.{_≡_, sym, ap, ap₂, _∙_}
+use mathlib.Core.Bool.{false}
+use mathlib.Core.List.{List, [], _++_}
+use Prim.Native.Nat.{ℕ, _+_, _*_, _-_, _≤_}
+use native.Mathlib.Omega.{arith}
+use lib.ListN.{length, drop, replicate, length-map, take-append-drop}
+use Rattle.bits.specs.Fields.{fieldsAt, span}
+use Rattle.bits.specs.Rows.{dataBits, rowsAt, filled, wordsIn}
+use Rattle.bits.proofs.RowLaws.{fields-front, rows-front}
+use Rattle.bits.proofs.WordLaws.{length-data, data-append}
+use Rattle.frame.specs.Frames.{framed, dataWords}
+use Rattle.frame.specs.Widths.{outside}
+use Rattle.frame.specs.declared.Header.{Header}
+use Rattle.frame.specs.declared.Frame.{Frame}
+use Rattle.frame.proofs.FrameLaws.{length-data as length-data-words}
+use Rattle.record_fields.specs.declared.Packer.{Packer}
+use Rattle.record_fields.specs.Packing.{emptyPacker, pushedRows, filledUp}
+use Rattle.record_fields.specs.Coding.{Coding, frameBits, rowsOf, entryBits, frameWith}
+use Rattle.record_fields.proofs.Holds.{Narrow, Ready, empty-holds, rows-hold, fill-holds, whole-holds}
+
+-- ---- what the packer leaves
+
+pub packed-frame : {A : Type 0} (k : Coding A) (pattern : ℕ) (h : Header) (es : List A) (p : Packer) → Narrow (k .widths)
+    → length es * span (k .widths) ≤ 744
+    → p ≡ filledUp pattern (pushedRows (k .widths) (rowsOf k es) emptyPacker)
+    → record { header = h; n = p .whole; words = p .words } ≡ frameWith pattern k h es
+unfolding frameWith framed entryBits
+packed-frame k pattern h es p narrow room e = ap₂ (λ n ws. record { header = h; n = n; words = ws }) (whole .0) (whole .1)
+  where
+    rows : Ready (pushedRows (k .widths) (rowsOf k es) emptyPacker) (entryBits k es)
+    rows =
+        rows-hold (k .widths) (rowsOf k es) emptyPacker [] empty-holds narrow
+        (omega (arith, ap (λ m. m * span (k .widths)) (length-map es (k .codes))))
+
+    ready : Ready p (filled pattern (entryBits k es))
+    ready = rw e (fill-holds pattern (pushedRows (k .widths) (rowsOf k es) emptyPacker) (entryBits k es) rows)
+
+    whole : (p .whole ≡ length (wordsIn pattern (entryBits k es)))
+        × (p .words ≡ wordsIn pattern (entryBits k es) ++ replicate (31 - length (wordsIn pattern (entryBits k es))) 0)
+    whole = whole-holds pattern p (entryBits k es) ready
+
+-- ---- fields within N words
+
+pub fields-frame : (ws : List ℕ) (o : ℕ) (f : Frame) → outside f ≡ false → length (f .words) ≡ 31 → o + span ws ≤ 24 * f .n
+    → fieldsAt ws o (dataBits (f .words)) ≡ fieldsAt ws o (frameBits f)
+unfolding frameBits
+fields-frame ws o f e full h =
+    ap (λ l. fieldsAt ws o (dataBits l)) (sym (take-append-drop (f .n) (f .words)))
+    ∙ ap (fieldsAt ws o) (data-append (dataWords f) (drop (f .n) (f .words)))
+    ∙ fields-front ws o (dataBits (dataWords f)) (dataBits (drop (f .n) (f .words)))
+    (omega (arith, length-data (dataWords f), length-data-words f e full))
+
+pub rows-frame : (ws : List ℕ) (m : ℕ) (f : Frame) → outside f ≡ false → length (f .words) ≡ 31 → m * span ws ≤ 24 * f .n
+    → rowsAt ws m 0 (dataBits (f .words)) ≡ rowsAt ws m 0 (frameBits f)
+unfolding frameBits
+rows-frame ws m f e full h =
+    ap (λ l. rowsAt ws m 0 (dataBits l)) (sym (take-append-drop (f .n) (f .words)))
+    ∙ ap (rowsAt ws m 0) (data-append (dataWords f) (drop (f .n) (f .words)))
+    ∙ rows-front ws m 0 (dataBits (dataWords f)) (dataBits (drop (f .n) (f .words)))
+    (omega (arith, length-data (dataWords f), length-data-words f e full))

@@ -1,0 +1,81 @@
+-- `read_null` meets its contract: the stages in their order. Assumes nothing.
+use mathlib.Core.Path.{_≡_, sym, _∙_}
+use mathlib.Core.List.{[]}
+use borrow.Author.Needs.{needs}
+use Rattle.frame.specs.Answer.{frameWidths, clockOf}
+use Rattle.frame.specs.declared.Widths.the-variants.{Within}
+use Rattle.frame.specs.declared.Clock.the-variants.{Hour}
+use Rattle.frame.specs.declared.Layout.the-variants as layout
+use Rattle.record_stages.specs.declared.Asked.the-variants.{Same}
+use Rattle.record_stages.specs.Stages.{askedOf, wrongSize}
+use Rattle.record_stages.proofs.StageLaws.{read5, read6, read7, read8, read-on, told-wrong, told-right}
+use Rattle.record_nulls.specs.Nulls.{readNull}
+use Rattle.record_nulls.specs.declared.NullRead.the-variants as read
+use Rattle.record_nulls.proofs.read_null.Statement.{statement}
+use Rattle.record_nulls.proofs.read_null.Tie as tie
+
+-- what the stages that are passed say
+within : (c : tie.After-enum-told) → Within ≡ frameWidths (c .before .before .before .args .frame)
+within c = sym (c .enum-told .given .1) ∙ c .before .before .frame-widths .ensures
+
+same : (c : tie.After-enum-told3) → Same ≡ askedOf layout.Null (c .before .before .before .before .before .before .before .args .frame .header .kind)
+same c = sym (c .enum-told3 .given .1) ∙ c .before .before .asked-of .ensures
+
+hour : (c : tie.After-enum-told5)
+    → Hour ≡ clockOf (c .before .before .before .before .before .before .before .before .before .before .args .frame .header .z)
+hour c = sym (c .enum-told5 .given .1) ∙ c .before .before .clock-of .ensures
+
+returns : tie.Need-returns
+unfolding readNull
+returns c =
+    let f = c .before .before .before .args .frame in
+    read5 layout.Null f (wrongSize 0 (f .n)) [] read.Refused read.Null
+    (sym (c .enum-told2 .given .1) ∙ c .before .before .frame-widths .ensures)
+
+returns-2 : tie.Need-returns-2
+unfolding readNull
+returns-2 c =
+    let c4 = c .before .before .before .before in
+    let c7 = c4 .before .before .before in
+    let f = c7 .args .frame in
+    read6 layout.Null f (wrongSize 0 (f .n)) [] read.Refused read.Null
+    (within c4) (sym (c .enum-told4 .given .1) ∙ c .before .before .asked-of .ensures)
+
+returns-3 : tie.Need-returns-3
+unfolding readNull
+returns-3 c =
+    let c7 = c .before .before .before .before .before .before .before in
+    let c10 = c7 .before .before .before in
+    let f = c10 .args .frame in
+    read7 layout.Null f (wrongSize 0 (f .n)) [] read.Refused read.Null
+    (within c7) (same (c .before .before .before)) (sym (c .enum-told6 .given .1) ∙ c .before .before .clock-of .ensures)
+
+returns-4 : tie.Need-returns-4
+unfolding readNull
+returns-4 c =
+    let c6 = c .before .before .before .before .before .before in
+    let c10 = c6 .before .before .before .before in
+    let c13 = c10 .before .before .before in
+    let f = c13 .args .frame in
+    read8 layout.Null f (wrongSize 0 (f .n)) [] read.Refused read.Null
+    (within c10) (same c6) (hour (c .before .before .before))
+    (told-wrong (wrongSize 0 (f .n)) (sym (c .enum-told8 .given .1) ∙ c .before .before .size-of .ensures))
+
+returns-5 : tie.Need-returns-5
+unfolding readNull
+returns-5 c =
+    let c6 = c .before .before .before .before .before .before in
+    let c10 = c6 .before .before .before .before in
+    let c13 = c10 .before .before .before in
+    let f = c13 .args .frame in
+    read-on layout.Null f (wrongSize 0 (f .n)) [] read.Refused read.Null
+    (within c10) (same c6) (hour (c .before .before .before))
+    (told-right (wrongSize 0 (f .n)) (sym (c .enum-told7 .given .1) ∙ c .before .before .size-of .ensures))
+
+pub read-null-spec : {M : Type 1} → statement M
+read-null-spec =
+    tie.close
+    (tie.spec (λ c κs. search needs) (λ c. search needs) (λ c. search needs) returns (λ c κs. search needs)
+    (λ c. search needs) (λ c. search needs) returns-2 (λ c κs. search needs) (λ c. search needs)
+    (λ c. search needs) returns-3 (λ c κs. search needs) (λ c. search needs) (λ c. search needs) returns-4
+    returns-5)

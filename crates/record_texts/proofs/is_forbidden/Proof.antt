@@ -1,0 +1,15 @@
+-- `is_forbidden` meets its contract. Assumes nothing.
+use borrow.Author.Tests.{lt-ltb, le-ltb}
+use Rattle.record_texts.proofs.is_forbidden.Statement.{statement}
+use Rattle.record_texts.proofs.is_forbidden.Tie as tie
+
+returns : tie.Need-returns
+returns c = simp (lt-ltb _ _ (c .if1 .taken))
+
+returns-2 : tie.Need-returns-2
+returns-2 c = simp (le-ltb _ _ (c .if1 .left))
+
+pub is-forbidden-spec : {M : Type 1} → statement M
+is-forbidden-spec =
+    tie.close
+    (tie.spec returns returns-2)

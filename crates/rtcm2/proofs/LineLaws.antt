@@ -1,0 +1,89 @@
+-- What the calls that read the line say, by what the reader's call and keeping the frame answer. Assumes nothing.
+use mathlib.Core.Path.{_≡_, sym, ap, _∙_}
+use mathlib.Core.Bool.{Bool, true, false, cond}
+use mathlib.Core.List.{List}
+use Prim.Native.Nat.{ℕ, _≤_, _<_}
+use lib.ListN.{length}
+use borrow.Author.Tests.{lt-ltb, le-ltb}
+use Rattle.answer.specs.Order.{Says, refuses, answers}
+use Rattle.reader.specs.Reading.{started, takenBy}
+use Rattle.reader.specs.declared.Reader.{Reader}
+use Rattle.reader.specs.declared.Answer.{Answer}
+use Rattle.reader.specs.declared.Answer.the-variants as reads
+use Rattle.reader.specs.declared.Taken.{Taken}
+use Rattle.frame.specs.declared.Frame.{Frame}
+use Rattle.journal.specs.Journal.{keptBy, heldBy, saysKept}
+use Rattle.journal.specs.declared.Kept.the-variants as kept
+use Rattle.journal.proofs.RoundTrip.{refused-unchanged}
+use Rattle.rtcm2_state.specs.State.{holdsState, stateIn}
+use Rattle.rtcm2.specs.Answer.{numberOf, left, andThen}
+use Rattle.rtcm2.specs.Line.{doneBy, readBy, startedIn, takenIn}
+
+-- ---- the number, and a lent place after a refusal and after an answer
+
+module _ {A : Type 0} {s : Says A} where
+  pub number-refused : {n : ℕ} → s ≡ refuses n → n ≡ numberOf s
+  number-refused e = ap numberOf (sym e)
+
+  pub number-answered : {a : A} → s ≡ answers a → 0 ≡ numberOf s
+  number-answered e = ap numberOf (sym e)
+
+  module _ {B : Type 0} (put : A → B) (held : B) where
+    pub left-alone : {n : ℕ} → s ≡ refuses n → held ≡ left s put held
+    left-alone e = ap (λ t. left t put held) (sym e)
+
+    pub left-put : {a : A} {new : B} → s ≡ answers a → new ≡ put a → new ≡ left s put held
+    left-put e h = h ∙ ap (λ t. left t put held) (sym e)
+
+-- ---- START
+
+pub start-short : (state : List ℕ) → length state < 188 → startedIn state ≡ refuses 13
+unfolding startedIn
+start-short state h = rw (lt-ltb (length state) 188 h)
+
+pub start-done : (state : List ℕ) → 188 ≤ length state → startedIn state ≡ answers started
+unfolding startedIn
+start-done state h = rw (le-ltb (length state) 188 h)
+
+-- ---- a call of the reader that is held
+
+module _ {A : Type 0} (answer : A → Answer) (call : Reader → A) (state : List ℕ) where
+  abbrev by : (b : Bool) → Says A
+  by b = andThen (cond b (answers (stateIn state)) (refuses 5)) (λ r. doneBy (answer (call r)) (call r))
+
+  pub read-none : holdsState state ≡ false → readBy answer call state ≡ refuses 5
+  read-none h = ap by h
+
+  -- x is what the call left
+  module _ (h : holdsState state ≡ true) {x : A} (e : x ≡ call (stateIn state)) where
+    pub read-by : readBy answer call state ≡ doneBy (answer x) x
+    read-by = ap by h ∙ ap (λ y. doneBy (answer y) y) (sym e)
+
+    pub read-refused : {n : ℕ} → answer x ≡ reads.Refused n → readBy answer call state ≡ refuses n
+    read-refused a = read-by ∙ ap (λ y. doneBy y x) a
+
+    pub read-done : answer x ≡ reads.Done → readBy answer call state ≡ answers x
+    read-done a = read-by ∙ ap (λ y. doneBy y x) a
+
+-- ---- TAKE
+
+module _ (state frame : List ℕ) where
+  abbrev then : Says Taken → Says (ℕ × Taken)
+  then s = andThen s (λ t. andThen (saysKept (keptBy (t .frame) frame)) (λ size. answers (size, t)))
+
+  pub take-refused : {n : ℕ} → readBy (λ (t : Taken). t .answer) takenBy state ≡ refuses n → takenIn state frame ≡ refuses n
+  unfolding takenIn
+  take-refused e = ap then e
+
+  module _ {t : Taken} (e : readBy (λ (t : Taken). t .answer) takenBy state ≡ answers t) where
+    pub take-unkept : {n : ℕ} → keptBy (t .frame) frame ≡ kept.Refused n → takenIn state frame ≡ refuses n
+    unfolding takenIn
+    take-unkept k = ap then e ∙ ap (λ a. andThen (saysKept a) (λ size. answers (size, t))) k
+
+    pub take-done : {size : ℕ} → keptBy (t .frame) frame ≡ kept.Done size → takenIn state frame ≡ answers (size, t)
+    unfolding takenIn
+    take-done k = ap then e ∙ ap (λ a. andThen (saysKept a) (λ size. answers (size, t))) k
+
+-- a frame that is not kept leaves the buffer as it was
+pub unkept-alone : (f : Frame) (frame : List ℕ) {n : ℕ} → keptBy f frame ≡ kept.Refused n → heldBy f frame ≡ frame
+unkept-alone f frame {n} k = refused-unchanged f frame n (ap saysKept k)

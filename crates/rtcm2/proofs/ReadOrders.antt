@@ -1,0 +1,164 @@
+-- The refusals of a call that reads a frame, in ONE order: those of its journal record, then those of the reading. A frame that was
+-- recalled is within its widths, so the reading's own 5 never comes. Assumes nothing.
+use mathlib.Core.Path.{_≡_, refl, sym, ap, _∙_}
+use mathlib.Core.Bool.{Bool, false}
+use mathlib.Core.List.{List, [], _∷_, _++_}
+use Prim.Native.Nat.{ℕ, _+_, _*_}
+use lib.Dec.{ltb, leb}
+use lib.ListN.{length}
+use Rattle.answer.specs.Order.{Says, refuses, answers, Check, inOrder, NoneApplies}
+use Rattle.answer.proofs.OrderLaws.{order-answers, order-append, order-map, says-order}
+use Rattle.bits.specs.Fields.{AreBytes}
+use Rattle.frame.specs.Widths.{anyOf, outside}
+use Rattle.frame.specs.declared.Frame.{Frame}
+use Rattle.frame.specs.declared.Layout.{Layout}
+use Rattle.frame.specs.declared.Layout.the-variants as layout
+use Rattle.journal.specs.Forms.{nByte, wordsAfter}
+use Rattle.journal.specs.Journal.{refusedRecall, recalled, recallOrder, saysRecalled}
+use Rattle.journal.proofs.RoundTrip.{reread}
+use Rattle.record_fields.specs.Coding.{Coding, frameBits, entryIn}
+use Rattle.record_stages.specs.Stages.{entriesHeld, misfit, wrongSize, readOrder, saysCount}
+use Rattle.record_stages.specs.declared.Count.the-variants as count
+use Rattle.record_corrections.specs.Corrections as correction
+use Rattle.record_healths.specs.Healths as health
+use Rattle.record_positions.specs.Positions as position
+use Rattle.record_nulls.specs.Nulls as null
+use Rattle.record_texts.specs.Texts as text
+use Rattle.record_corrections.specs.declared.CorrectionRead.the-variants as correction-read
+use Rattle.record_healths.specs.declared.HealthRead.the-variants as health-read
+use Rattle.record_positions.specs.declared.PositionRead.the-variants as position-read
+use Rattle.record_nulls.specs.declared.NullRead.the-variants as null-read
+use Rattle.rtcm2_rows.specs.Rows.{rowSize, putOrder, saysPut}
+use Rattle.rtcm2_rows.specs.declared.row.Put.the-variants.{Done, Refused}
+use Rattle.rtcm2_rows.specs.Corrections as correction-bytes
+use Rattle.rtcm2_rows.specs.Healths as health-bytes
+use Rattle.rtcm2.specs.Answer.{andThen}
+use Rattle.rtcm2.specs.Frames.{recallSaid, frameSaid}
+use Rattle.rtcm2.specs.Rows.{rowTo}
+use Rattle.rtcm2.specs.Corrections as corrections
+use Rattle.rtcm2.specs.Healths as healths
+use Rattle.rtcm2.specs.Positions.{positionSaid}
+use Rattle.rtcm2.specs.Nulls.{nullSaid}
+use Rattle.rtcm2.specs.Texts.{textSaid}
+use Rattle.rtcm2.specs.Orders.{frameFrom, recordChecks, countOrder, entryChecks, entryOrder, positionOrder, nullOrder, textReadOrder}
+use Rattle.rtcm2.proofs.Orders.{pass-five}
+
+-- RECALL: 14, 15, 16, 15, 16; the last for either of two reasons
+pub recall-order : (bs : List ℕ) → recallSaid bs ≡ inOrder (recallOrder bs) refuses (answers (3 * nByte bs + 9, frameFrom bs))
+recall-order bs = says-order saysRecalled refusedRecall (λ n. refl) (recalled (nByte bs) (wordsAfter 3 bs)) (recallOrder bs) refl
+
+-- the frame alone
+frame-order : (bs : List ℕ) → frameSaid bs ≡ inOrder (recallOrder bs) refuses (answers (frameFrom bs))
+frame-order bs =
+    ap (λ s. andThen s (λ r. answers (r .1))) (recall-order bs)
+    ∙ order-map (λ s. andThen s (λ r. answers (r .1))) (recallOrder bs) refuses (answers (3 * nByte bs + 9, frameFrom bs))
+
+module _ (bs : List ℕ) (fits : AreBytes bs) where
+  -- NEVER 5: a frame that was recalled is within its widths
+  pub recalled-within : (f : Frame) (bytes : ℕ) → recallSaid bs ≡ answers (bytes, f) → outside f ≡ false
+  recalled-within f bytes e = reread bs fits f bytes e .inside
+
+  within : NoneApplies (recallOrder bs) → outside (frameFrom bs) ≡ false
+  within none =
+      recalled-within (frameFrom bs) (3 * nByte bs + 9)
+      (recall-order bs ∙ order-answers refuses (answers (3 * nByte bs + 9, frameFrom bs)) (recallOrder bs) none)
+
+  -- READING: 14, 15, 16, 15, 16, then what the reading has before and after its 5 for the frame
+  module _ {A : Type 0} (say : Frame → Says A) (before after : List Check) (value : A)
+      (said : say (frameFrom bs) ≡ inOrder (before ++ ((outside (frameFrom bs), 5) ∷ after)) refuses (answers value)) where
+    pub read-order : andThen (frameSaid bs) say ≡ inOrder (recallOrder bs ++ (before ++ after)) refuses (answers value)
+    read-order =
+        ap (λ s. andThen s say) (frame-order bs)
+        ∙ order-map (λ s. andThen s say) (recallOrder bs) refuses (answers (frameFrom bs))
+        ∙ ap (inOrder (recallOrder bs) refuses) said
+        ∙ pass-five (recallOrder bs) before (outside (frameFrom bs)) after (answers value) within
+
+-- ---- a record of a layout
+
+-- a reading in its order, through the type of its answer
+module _ (bs : List ℕ) (fits : AreBytes bs) (asked : Layout) (wrongN : Bool) (more : List Check) {A B : Type 0}
+    (says : B → Says A) (refuse : ℕ → B) (refusal : (n : ℕ) → says (refuse n) ≡ refuses n) (read : Frame → B) (answer : B) {value : A}
+    (ready : says answer ≡ answers value) (is : read (frameFrom bs) ≡ inOrder (readOrder asked (frameFrom bs) wrongN more) refuse answer) where
+  record-order : andThen (frameSaid bs) (λ f. says (read f))
+      ≡ inOrder (recallOrder bs ++ recordChecks asked (frameFrom bs) wrongN more) refuses (answers value)
+  record-order =
+      read-order bs fits (λ f. says (read f)) [] (recordChecks asked (frameFrom bs) wrongN more) value
+      (ap says is ∙ says-order says refuse refusal answer (readOrder asked (frameFrom bs) wrongN more) ready)
+
+-- a row after an order: its own 13 comes last
+row-order : {A : Type 0} (k : Coding A) (cs : List Check) (e : A) (lent : List ℕ)
+    → rowTo k (inOrder cs refuses (answers e)) lent ≡ inOrder (cs ++ ((ltb (length lent) (rowSize k), 13) ∷ [])) refuses (answers tt)
+row-order k cs e lent =
+    order-map (λ s. rowTo k s lent) cs refuses (answers e)
+    ∙ ap (inOrder cs refuses) (says-order saysPut Refused (λ n. refl) Done (putOrder k lent) refl)
+    ∙ sym (order-append cs ((ltb (length lent) (rowSize k), 13) ∷ []) refuses (answers tt))
+
+module _ (bs : List ℕ) (fits : AreBytes bs) where
+  abbrev F : Frame
+  F = frameFrom bs
+
+  -- COUNT: 14, 15, 16, 15, 16, 6, 7, 8
+  pub corrections-counted : corrections.countSaid (frameSaid bs)
+      ≡ inOrder (countOrder layout.Correction 40 bs) refuses (answers (entriesHeld 40 (frameFrom bs .n)))
+  unfolding correction.countCorrections
+  corrections-counted =
+      record-order bs fits layout.Correction (misfit 40 (F .n)) [] saysCount count.Refused (λ n. refl) correction.countCorrections
+      (count.Of (entriesHeld 40 (F .n))) refl refl
+
+  pub healths-counted : healths.countSaid (frameSaid bs)
+      ≡ inOrder (countOrder layout.Health 24 bs) refuses (answers (entriesHeld 24 (frameFrom bs .n)))
+  unfolding health.countHealths
+  healths-counted =
+      record-order bs fits layout.Health (misfit 24 (F .n)) [] saysCount count.Refused (λ n. refl) health.countHealths
+      (count.Of (entriesHeld 24 (F .n))) refl refl
+
+  -- POSITION: 14, 15, 16, 15, 16, 6, 7, 8, 10
+  pub position-order : positionSaid (frameSaid bs) ≡ inOrder (positionOrder bs) refuses (answers (position.positionIn (frameFrom bs)))
+  unfolding position.readPosition
+  position-order =
+      record-order bs fits layout.Position (wrongSize 4 (F .n)) ((position.outOfRange (position.positionIn F), 10) ∷ []) position.saysPositionRead
+      position-read.Refused (λ n. refl) position.readPosition (position-read.At (position.positionIn F)) refl refl
+
+  -- NULL: 14, 15, 16, 15, 16, 6, 7, 8
+  pub null-order : nullSaid (frameSaid bs) ≡ inOrder (nullOrder bs) refuses (answers tt)
+  unfolding null.readNull
+  null-order =
+      record-order bs fits layout.Null (wrongSize 0 (F .n)) [] null.saysNullRead null-read.Refused (λ n. refl) null.readNull null-read.Null refl refl
+
+  -- TEXT: 14, 15, 16, 15, 16, 6, 7, 8, 11, 13
+  pub text-order : (buffer : List ℕ) → textSaid (frameSaid bs) buffer ≡ inOrder (textReadOrder bs buffer) refuses (answers (text.lengthIn (frameFrom bs)))
+  unfolding text.readText
+  text-order buffer =
+      record-order bs fits layout.Text (text.wrongWords (F .n))
+      ((anyOf text.forbidden (text.textIn F), 11) ∷ (ltb (length buffer) (text.lengthIn F), 13) ∷ []) saysCount count.Refused (λ n. refl)
+      (λ f. text.readText f buffer) (count.Of (text.lengthIn F)) refl refl
+
+  -- ENTRY: 14, 15, 16, 15, 16, 6, 7, 8, 9, and 13 for its row
+  module _ (i : ℕ) where
+    pub correction-entry : corrections.entrySaid (frameSaid bs) i
+        ≡ inOrder (recallOrder bs ++ entryChecks layout.Correction 40 (frameFrom bs) i) refuses
+        (answers (entryIn correction.coding i (frameBits (frameFrom bs))))
+    unfolding correction.correctionAt
+    correction-entry =
+        record-order bs fits layout.Correction (misfit 40 (F .n)) ((leb (entriesHeld 40 (F .n)) i, 9) ∷ []) correction.saysCorrectionRead
+        correction-read.Refused (λ n. refl) (λ f. correction.correctionAt f i)
+        (correction-read.Entry (entryIn correction.coding i (frameBits F))) refl refl
+
+    pub health-entry : healths.entrySaid (frameSaid bs) i
+        ≡ inOrder (recallOrder bs ++ entryChecks layout.Health 24 (frameFrom bs) i) refuses (answers (entryIn health.coding i (frameBits (frameFrom bs))))
+    unfolding health.healthAt
+    health-entry =
+        record-order bs fits layout.Health (misfit 24 (F .n)) ((leb (entriesHeld 24 (F .n)) i, 9) ∷ []) health.saysHealthRead
+        health-read.Refused (λ n. refl) (λ f. health.healthAt f i) (health-read.Entry (entryIn health.coding i (frameBits F))) refl refl
+
+    pub correction-row-order : (lent : List ℕ) → rowTo correction-bytes.row (corrections.entrySaid (frameSaid bs) i) lent
+        ≡ inOrder (entryOrder layout.Correction 40 correction-bytes.row bs i lent) refuses (answers tt)
+    correction-row-order lent =
+        ap (λ s. rowTo correction-bytes.row s lent) correction-entry
+        ∙ row-order correction-bytes.row (recallOrder bs ++ entryChecks layout.Correction 40 F i) (entryIn correction.coding i (frameBits F)) lent
+
+    pub health-row-order : (lent : List ℕ) → rowTo health-bytes.row (healths.entrySaid (frameSaid bs) i) lent
+        ≡ inOrder (entryOrder layout.Health 24 health-bytes.row bs i lent) refuses (answers tt)
+    health-row-order lent =
+        ap (λ s. rowTo health-bytes.row s lent) health-entry
+        ∙ row-order health-bytes.row (recallOrder bs ++ entryChecks layout.Health 24 F i) (entryIn health.coding i (frameBits F)) lent

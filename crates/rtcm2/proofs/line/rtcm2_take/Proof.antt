@@ -1,0 +1,136 @@
+-- `rtcm2_take` meets its contract: no state held, the reader's refusal, a frame that is not kept, or the frame kept and the state that is left.
+-- Assumes nothing.
+use mathlib.Core.Path.{_≡_, refl, sym, ap, _∙_}
+use mathlib.Core.Bool.{true}
+use Prim.Native.Nat.{ℕ}
+use denote.Ref.{now}
+use borrow.Author.Needs.{needs}
+use borrow.Author.Tests.{not-true, not-false}
+use Rattle.answer.specs.Order.{answers}
+use Rattle.reader.specs.Reading.{takenBy}
+use Rattle.reader.specs.declared.Taken.{Taken}
+use Rattle.journal.specs.Journal.{heldBy}
+use Rattle.rtcm2_state.specs.State.{holdsState, stateIn, startPut}
+use Rattle.rtcm2.specs.Line.{readBy}
+use Rattle.rtcm2.proofs.LineLaws.{
+  number-refused,
+  number-answered,
+  left-alone,
+  left-put,
+  read-none,
+  read-refused,
+  read-done,
+  take-refused,
+  take-unkept,
+  take-done,
+  unkept-alone,
+}
+use Rattle.rtcm2.proofs.line.rtcm2_take.Statement.{statement}
+use Rattle.rtcm2.proofs.line.rtcm2_take.Tie as tie
+
+-- the length of the record, and what taking left
+abbrev Both : Type 0
+Both = ℕ × Taken
+
+returns : tie.Need-returns
+returns c =
+    let h = c .before in
+    let a = h .before .before .before .before .args in
+    let state = now (a .state) in
+    let frame = now (a .frame) in
+    let e = take-refused state frame (read-none (λ (t : Taken). t .answer) takenBy state (sym (h .holds-state .ensures) ∙ not-true _ (c .if1 .taken))) in (
+      number-refused e,
+      (
+        left-alone (λ (v : Both). startPut (v .1 .reader .candidate) (v .1 .reader .ended) state) state e,
+        (
+          left-alone (λ (v : Both). heldBy (v .1 .frame) frame) frame e,
+          (left-alone (λ (v : Both). v .0) (now (a .length)) e, left-alone (λ (v : Both). v .1 .at) (now (a .at)) e),
+        ),
+      ),
+    )
+
+-- past the first test a state is held
+held : (c : tie.Else1) → holdsState (now (c .before .before .before .before .before .args .state)) ≡ true
+held c = sym (c .before .holds-state .ensures) ∙ not-false _ (c .if1 .left)
+
+-- what the reader's call left
+called : (c : tie.After-take)
+    → c .take .result
+    ≡ takenBy (stateIn (now (c .before .before .before .before .before .before .before .before .args .state)))
+called c = c .take .ensures ∙ ap takenBy (c .before .state-in .ensures)
+
+returns-2 : tie.Need-returns-2
+returns-2 c =
+    let f = c .before .before .before in
+    let h = f .before .before .before in
+    let a = h .before .before .before .before .before .args in
+    let state = now (a .state) in
+    let frame = now (a .frame) in
+    let e = take-refused state frame (read-refused (λ (t : Taken). t .answer) takenBy state (held h) (called f) (c .before .answer .given .1)) in (
+      number-refused e,
+      (
+        left-alone (λ (v : Both). startPut (v .1 .reader .candidate) (v .1 .reader .ended) state) state e,
+        (
+          left-alone (λ (v : Both). heldBy (v .1 .frame) frame) frame e,
+          (left-alone (λ (v : Both). v .0) (now (a .length)) e, left-alone (λ (v : Both). v .1 .at) (now (a .at)) e),
+        ),
+      ),
+    )
+
+-- past the second a frame is taken
+taken : (c : tie.After-enum-told)
+    → readBy (λ (t : Taken). t .answer) takenBy (now (c .before .before .before .before .before .before .before .before .before .before .args .state))
+    ≡ answers (c .before .before .take .result)
+taken c =
+    let f = c .before .before in
+    let h = f .before .before .before in
+    read-done (λ (t : Taken). t .answer) takenBy (now (h .before .before .before .before .before .args .state)) (held h) (called f) (c .enum-told .given .1)
+
+returns-3 : tie.Need-returns-3
+returns-3 c =
+    let k = c .before .before .before .before .before in
+    let t = k .before .before .before in
+    let f = t .before .before in
+    let a = f .before .before .before .before .before .before .before .before .args in
+    let state = now (a .state) in
+    let frame = now (a .frame) in
+    let u = sym (k .keep .ensures .0) ∙ c .before .n .given .1 in
+    let e = take-unkept state frame (taken t) u in (
+      number-refused e,
+      (
+        left-alone (λ (v : Both). startPut (v .1 .reader .candidate) (v .1 .reader .ended) state) state e,
+        (
+          k .keep .ensures .1 ∙ unkept-alone (f .take .result .frame) frame u ∙ left-alone (λ (v : Both). heldBy (v .1 .frame) frame) frame e,
+          (left-alone (λ (v : Both). v .0) (now (a .length)) e, left-alone (λ (v : Both). v .1 .at) (now (a .at)) e),
+        ),
+      ),
+    )
+
+returns-4 : tie.Need-returns-4
+returns-4 c =
+    let p = c .before .before in
+    let z = p .before .before .before .before in
+    let k = z .before .before .before .before in
+    let t = k .before .before .before in
+    let f = t .before .before in
+    let a = f .before .before .before .before .before .before .before .before .args in
+    let state = now (a .state) in
+    let frame = now (a .frame) in
+    let e = take-done state frame (taken t) (sym (k .keep .ensures .0) ∙ z .size .given .1) in (
+      number-answered e,
+      (
+        left-put (λ (v : Both). startPut (v .1 .reader .candidate) (v .1 .reader .ended) state) state e (p .put-start .ensures .1),
+        (
+          left-put (λ (v : Both). heldBy (v .1 .frame) frame) frame e (k .keep .ensures .1),
+          (left-put (λ (v : Both). v .0) (now (a .length)) e refl, left-put (λ (v : Both). v .1 .at) (now (a .at)) e refl),
+        ),
+      ),
+    )
+
+pub rtcm2-take-spec : {M : Type 1} → statement M
+rtcm2-take-spec =
+    tie.close
+    (tie.spec (λ c κs. search needs) (λ c. search needs) returns (λ c κs. search needs) (λ c κs. search needs)
+    (λ c. search needs) (λ c. search needs) returns-2 (λ c. search needs) (λ c κs. search needs) (λ c. search needs)
+    (λ c. search needs) (λ c κs. search needs) (λ c. search needs) (λ c. search needs) returns-3 (λ c. search needs)
+    (λ c. search needs) returns-4)

@@ -1,0 +1,168 @@
+-- The refusals of each call in the order that include/rtcm2.h gives: whether each applies, and its number. Assumes nothing.
+use mathlib.Core.Bool.{Bool, not}
+use mathlib.Core.List.{List, [], _∷_, _++_}
+use Prim.Native.Nat.{ℕ, _+_, _*_, _/_, _%_}
+use lib.Dec.{ltb, leb, eqb}
+use lib.ListN.{length, take}
+use Rattle.answer.specs.Order.{Check}
+use Rattle.frame.specs.Frames.{framed, frameOf}
+use Rattle.frame.specs.Header.{stateOf}
+use Rattle.frame.specs.Widths.{anyOf, headerOutside, late}
+use Rattle.frame.specs.declared.Frame.{Frame}
+use Rattle.frame.specs.declared.Header.{Header}
+use Rattle.frame.specs.declared.Layout.{Layout}
+use Rattle.frame.specs.declared.Layout.the-variants as layout
+use Rattle.stream.specs.Standing.{frameAt}
+use Rattle.reader.specs.Reading.{bitsOf, past, frameWaits}
+use Rattle.journal.specs.Bytes.{wordsFrom}
+use Rattle.journal.specs.Forms.{wordsAfter}
+use Rattle.journal.specs.Journal.{recallOrder}
+use Rattle.writer.specs.Sending.{lineLength}
+use Rattle.record_fields.specs.Coding.{Coding, frameWith}
+use Rattle.record_stages.specs.Stages.{wrongCount, otherLayout, entriesHeld, misfit, wrongSize, makeOrder}
+use Rattle.record_corrections.specs.Corrections as correction
+use Rattle.record_healths.specs.Healths as health
+use Rattle.record_positions.specs.Positions as position
+use Rattle.record_texts.specs.Texts as text
+use Rattle.record_positions.specs.declared.Position.{Position}
+use Rattle.rtcm2_state.specs.State.{holdsState, stateIn}
+use Rattle.rtcm2_rows.specs.Rows.{rowSize, countOf, entriesFrom}
+use Rattle.rtcm2_rows.specs.Corrections as correction-bytes
+use Rattle.rtcm2_rows.specs.Healths as health-bytes
+
+-- ---- reading the line
+
+-- START: 13
+abbrev pub startedOrder : List ℕ → List Check
+startedOrder state = (ltb (length state) 188, 13) ∷ []
+
+-- A CALL OF THE READER: 5 for bytes that hold no state, then the call's own
+abbrev pub heldOrder : List ℕ → List Check → List Check
+heldOrder state own = (not (holdsState state), 5) ∷ own
+
+-- 13: a frame's record is longer than the bytes lent for it
+abbrev pub shortFor : Frame → List ℕ → Check
+shortFor f buffer = (ltb (length buffer) (3 * f .n + 9), 13)
+
+-- TAKE: 5, 4, 13
+abbrev pub takeOrder : List ℕ → List ℕ → List Check
+takeOrder state frame =
+    let r = stateIn state in
+    heldOrder state ((past r, 5) ∷ (not (frameWaits r), 4) ∷ shortFor (frameAt (bitsOf r)) frame ∷ [])
+
+-- ---- a frame comes in: 14, 15, 16, 15, 16, and no 5 for the frame
+
+-- the frame of the words in a record
+abbrev pub frameFrom : List ℕ → Frame
+frameFrom bs = frameOf (wordsAfter 3 bs)
+
+-- WRITE: then 5 for either carried bit, 7, 13
+abbrev pub writeOrder : List ℕ → ℕ → ℕ → List ℕ → List Check
+writeOrder bs d29 d30 line =
+    recallOrder bs
+    ++ ((ltb 1 d29, 5) ∷ (ltb 1 d30, 5) ∷ (late (frameFrom bs .header .z), 7) ∷ (ltb (length line) (lineLength (frameFrom bs)), 13) ∷ [])
+
+-- A RECORD OF A LAYOUT: 6, 7, 8, then its own
+abbrev pub recordChecks : Layout → Frame → Bool → List Check → List Check
+recordChecks asked f wrongN more = (otherLayout asked (f .header .kind), 6) ∷ (late (f .header .z), 7) ∷ (wrongN, 8) ∷ more
+
+-- COUNT: then 6, 7, 8
+abbrev pub countOrder : Layout → ℕ → List ℕ → List Check
+countOrder asked width bs = recallOrder bs ++ recordChecks asked (frameFrom bs) (misfit width (frameFrom bs .n)) []
+
+-- ENTRY: then 6, 7, 8, 9, and 13 for its row
+abbrev pub entryChecks : Layout → ℕ → Frame → ℕ → List Check
+entryChecks asked width f i = recordChecks asked f (misfit width (f .n)) ((leb (entriesHeld width (f .n)) i, 9) ∷ [])
+
+abbrev pub entryOrder : {A : Type 0} → Layout → ℕ → Coding A → List ℕ → ℕ → List ℕ → List Check
+entryOrder asked width row bs i lent = (recallOrder bs ++ entryChecks asked width (frameFrom bs) i) ++ ((ltb (length lent) (rowSize row), 13) ∷ [])
+
+-- POSITION: then 6, 7, 8, 10
+abbrev pub positionOrder : List ℕ → List Check
+positionOrder bs =
+    let f = frameFrom bs in
+    recallOrder bs ++ recordChecks layout.Position f (wrongSize 4 (f .n)) ((position.outOfRange (position.positionIn f), 10) ∷ [])
+
+-- NULL: then 6, 7, 8
+abbrev pub nullOrder : List ℕ → List Check
+nullOrder bs = recallOrder bs ++ recordChecks layout.Null (frameFrom bs) (wrongSize 0 (frameFrom bs .n)) []
+
+-- TEXT: then 6, 7, 8, 11, 13
+abbrev pub textReadOrder : List ℕ → List ℕ → List Check
+textReadOrder bs buffer =
+    let f = frameFrom bs in
+    recallOrder bs
+    ++ recordChecks layout.Text f (text.wrongWords (f .n))
+    ((anyOf text.forbidden (text.textIn f), 11) ∷ (ltb (length buffer) (text.lengthIn f), 13) ∷ [])
+
+-- ---- a frame goes out: 5 first, 13 last
+
+-- the header of five numbers
+abbrev pub headerWith : ℕ → ℕ → ℕ → ℕ → ℕ → Header
+headerWith kind station z sequence code = record { kind = kind; station = station; z = z; sequence = sequence; state = stateOf code }
+
+-- a list's own: 12, 10
+abbrev pub listChecks : {A : Type 0} → ℕ → (A → Bool) → List A → ℕ → List Check
+listChecks most out es c = (wrongCount most c, 12) ∷ (anyOf out (take c es), 10) ∷ []
+
+-- a text's own: 12, 11
+abbrev pub textChecks : List ℕ → List Check
+textChecks t = (wrongCount 90 (length t), 12) ∷ (anyOf text.forbidden t, 11) ∷ []
+
+module _ (kind station z sequence code : ℕ) where
+  abbrev H : Header
+  H = headerWith kind station z sequence code
+
+  -- MAKING: 5, a health over 7 too, 6, 7, the layout's own, 13
+  abbrev pub madeOrder : Layout → List Check → Frame → List ℕ → List Check
+  madeOrder asked more f buffer = (ltb 7 code, 5) ∷ makeOrder asked H (more ++ (shortFor f buffer ∷ []))
+
+  -- corrections: 12, 10
+  abbrev pub correctionsFrame : List ℕ → Frame
+  correctionsFrame bs = frameWith correction.fill correction.coding H (take (countOf 7 (length bs)) (entriesFrom correction-bytes.row 18 bs))
+
+  abbrev pub correctionsOrder : List ℕ → List ℕ → List Check
+  correctionsOrder bs buffer =
+      madeOrder layout.Correction (listChecks 18 correction.outOfRange (entriesFrom correction-bytes.row 18 bs) (countOf 7 (length bs)))
+      (correctionsFrame bs) buffer
+
+  -- constellation health: 12, 10
+  abbrev pub healthsFrame : List ℕ → Frame
+  healthsFrame bs = frameWith health.fill health.coding H (take (countOf 10 (length bs)) (entriesFrom health-bytes.row 31 bs))
+
+  abbrev pub healthsOrder : List ℕ → List ℕ → List Check
+  healthsOrder bs buffer =
+      madeOrder layout.Health (listChecks 31 health.outOfRange (entriesFrom health-bytes.row 31 bs) (countOf 10 (length bs))) (healthsFrame bs) buffer
+
+  -- a position: 10
+  abbrev pub positionFrame : Position → Frame
+  positionFrame p = frameWith position.fill position.coding H (p ∷ [])
+
+  abbrev pub positionMadeOrder : Position → List ℕ → List Check
+  positionMadeOrder p buffer = madeOrder layout.Position ((position.outOfRange p, 10) ∷ []) (positionFrame p) buffer
+
+  -- the null frame
+  abbrev pub nullFrame : Frame
+  nullFrame = framed H []
+
+  abbrev pub nullMadeOrder : List ℕ → List Check
+  nullMadeOrder buffer = madeOrder layout.Null [] nullFrame buffer
+
+  -- a text: 12, 11
+  abbrev pub textFrame : List ℕ → Frame
+  textFrame t = frameWith text.fill text.coding H t
+
+  abbrev pub textMadeOrder : List ℕ → List ℕ → List Check
+  textMadeOrder t buffer = madeOrder layout.Text (textChecks t) (textFrame t) buffer
+
+  -- KEEP: 5 for a health over 7, for bytes that are no whole number of words or over 31, for another number of the header; 13
+  abbrev pub wordsFrame : List ℕ → Frame
+  wordsFrame bs = framed H (wordsFrom 3 (length bs / 3) bs)
+
+  abbrev pub keptOrder : List ℕ → List ℕ → List Check
+  keptOrder bs buffer =
+      (ltb 7 code, 5) ∷ (not (eqb (length bs % 3) 0), 5) ∷ (ltb 31 (length bs / 3), 5) ∷ (headerOutside H, 5) ∷ shortFor (wordsFrame bs) buffer ∷ []
+
+-- ---- UDRE: 5 for a health over 7, 10
+abbrev pub limitOrder : ℕ → ℕ → List Check
+limitOrder health udre = (ltb 7 health, 5) ∷ (ltb 3 udre, 10) ∷ []

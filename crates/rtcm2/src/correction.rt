@@ -1,0 +1,101 @@
+// Corrections of types 1 and 9: counted, read and made.
+ghost use mathlib.Core.Path.{_≡_};
+ghost use lib.ListN.{length};
+ghost use Rattle.record_corrections.specs.Corrections.{makeCorrections, saysCorrectionRead};
+ghost use Rattle.rtcm2_rows.specs.Rows.{countOf, entriesFrom};
+ghost use Rattle.rtcm2_rows.specs.Corrections.{row};
+ghost use Rattle.rtcm2.specs.Answer.{numberOf, left};
+ghost use Rattle.rtcm2.specs.Header.{headed};
+ghost use Rattle.rtcm2.specs.Frames.{frameSaid, keptTo, heldTo};
+ghost use Rattle.rtcm2.specs.Rows.{rowTo, rowHeld};
+ghost use Rattle.rtcm2.specs.Corrections.{countSaid, entrySaid, madeSaid};
+use crate::header::Headed;
+use frame::Header;
+use journal::Found;
+use record_corrections::CorrectionRead;
+use record_stages::Made;
+
+// The bytes of one correction.
+const SIZE: usize = 7;
+
+// How many corrections a frame has. Order 14, 15, 16, 15, 16, then 6, 7, 8.
+#[no_mangle]
+pub extern "C" fn rtcm2_count_corrections(frame: &[u8], count: &mut usize) -> u8
+    ensures { λ r. ⌜ r ≡ numberOf (countSaid (frameSaid (now (frame .entry)))) ⌝ }
+    ensures { λ _. ⌜ now (count .exit) ≡ left (countSaid (frameSaid (now (frame .entry)))) (λ k. k) (now (count .entry)) ⌝ }
+{
+    let recalled = journal::recall(frame);
+    let answer = recalled.answer;
+    match answer {
+        Found::Record(_) => {
+            let said = record_corrections::count_corrections(recalled.frame);
+            crate::rows::count_to(said, count)
+        }
+        Found::Refused(number) => number,
+    }
+}
+
+// A correction as a row at the start of the bytes: the refusal that there was, or 13.
+fn entry_to(read: CorrectionRead, correction: &mut [u8]) -> u8
+    ensures { λ r. ⌜ r ≡ numberOf (rowTo row (saysCorrectionRead read) (now (correction .entry))) ⌝ }
+    ensures { λ _. ⌜ now (correction .exit) ≡ rowHeld row (saysCorrectionRead read) (now (correction .entry)) ⌝ }
+{
+    match read {
+        CorrectionRead::Entry(entry) => {
+            crate::rows::number_of(rtcm2_rows::correction::put_correction(entry, correction))
+        }
+        CorrectionRead::Refused(number) => number,
+    }
+}
+
+// Correction number `index` of a frame. Order 14, 15, 16, 15, 16, then 6, 7, 8, 9, 13.
+#[no_mangle]
+pub extern "C" fn rtcm2_correction_at(frame: &[u8], index: usize, correction: &mut [u8]) -> u8
+    ensures { λ r. ⌜ r ≡ numberOf (rowTo row (entrySaid (frameSaid (now (frame .entry))) index) (now (correction .entry))) ⌝ }
+    ensures { λ _. ⌜ now (correction .exit) ≡ rowHeld row (entrySaid (frameSaid (now (frame .entry))) index) (now (correction .entry)) ⌝ }
+{
+    let recalled = journal::recall(frame);
+    let answer = recalled.answer;
+    match answer {
+        Found::Record(_) => {
+            let read = record_corrections::correction_at(recalled.frame, index);
+            entry_to(read, correction)
+        }
+        Found::Refused(number) => number,
+    }
+}
+
+// The frame of a header and the corrections in these bytes.
+fn made_of(header: Header, corrections: &[u8]) -> Made
+    ensures { λ r. ⌜ r ≡ makeCorrections header (entriesFrom row 18 (now (corrections .entry))) (countOf 7 (length (now (corrections .entry)))) ⌝ }
+{
+    let count = rtcm2_rows::row::count_of(SIZE, corrections.len());
+    let entries = rtcm2_rows::correction::corrections_in(corrections);
+    record_corrections::make_corrections(header, entries, count)
+}
+
+// Makes a frame of corrections. Order 5, 6, 7, 12, 10, 13.
+#[no_mangle]
+pub extern "C" fn rtcm2_make_corrections(
+    kind: u8,
+    station: u16,
+    z: u16,
+    sequence: u8,
+    health: u8,
+    corrections: &[u8],
+    frame: &mut [u8],
+    length: &mut usize,
+) -> u8
+    ensures { λ r. ⌜ r ≡ numberOf (keptTo (madeSaid (headed kind station z sequence health) (now (corrections .entry))) (now (frame .entry))) ⌝ }
+    ensures { λ _. ⌜ now (frame .exit) ≡ heldTo (madeSaid (headed kind station z sequence health) (now (corrections .entry))) (now (frame .entry)) ⌝ }
+    ensures { λ _. ⌜ now (length .exit) ≡ left (keptTo (madeSaid (headed kind station z sequence health) (now (corrections .entry))) (now (frame .entry))) (λ k. k) (now (length .entry)) ⌝ }
+{
+    match crate::header::header_of(kind, station, z, sequence, health) {
+        Headed::Header(header) => crate::frames::keep_made(
+            made_of(header, corrections),
+            frame,
+            length,
+        ),
+        Headed::Refused(number) => number,
+    }
+}

@@ -1,0 +1,97 @@
+// Satellites' health of type 5: counted, read and made.
+ghost use mathlib.Core.Path.{_≡_};
+ghost use lib.ListN.{length};
+ghost use Rattle.record_healths.specs.Healths.{makeHealths, saysHealthRead};
+ghost use Rattle.rtcm2_rows.specs.Rows.{countOf, entriesFrom};
+ghost use Rattle.rtcm2_rows.specs.Healths.{row};
+ghost use Rattle.rtcm2.specs.Answer.{numberOf, left};
+ghost use Rattle.rtcm2.specs.Header.{headed};
+ghost use Rattle.rtcm2.specs.Frames.{frameSaid, keptTo, heldTo};
+ghost use Rattle.rtcm2.specs.Rows.{rowTo, rowHeld};
+ghost use Rattle.rtcm2.specs.Healths.{countSaid, entrySaid, madeSaid};
+use crate::header::Headed;
+use frame::Header;
+use journal::Found;
+use record_healths::HealthRead;
+use record_stages::Made;
+
+// The bytes of one satellite's health.
+const SIZE: usize = 10;
+
+// How many satellites a frame has. Order 14, 15, 16, 15, 16, then 6, 7, 8.
+#[no_mangle]
+pub extern "C" fn rtcm2_count_healths(frame: &[u8], count: &mut usize) -> u8
+    ensures { λ r. ⌜ r ≡ numberOf (countSaid (frameSaid (now (frame .entry)))) ⌝ }
+    ensures { λ _. ⌜ now (count .exit) ≡ left (countSaid (frameSaid (now (frame .entry)))) (λ k. k) (now (count .entry)) ⌝ }
+{
+    let recalled = journal::recall(frame);
+    let answer = recalled.answer;
+    match answer {
+        Found::Record(_) => {
+            let said = record_healths::count_healths(recalled.frame);
+            crate::rows::count_to(said, count)
+        }
+        Found::Refused(number) => number,
+    }
+}
+
+// A satellite's health as a row at the start of the bytes: the refusal that there was, or 13.
+fn entry_to(read: HealthRead, bytes: &mut [u8]) -> u8
+    ensures { λ r. ⌜ r ≡ numberOf (rowTo row (saysHealthRead read) (now (bytes .entry))) ⌝ }
+    ensures { λ _. ⌜ now (bytes .exit) ≡ rowHeld row (saysHealthRead read) (now (bytes .entry)) ⌝ }
+{
+    match read {
+        HealthRead::Entry(entry) => {
+            crate::rows::number_of(rtcm2_rows::health::put_health(entry, bytes))
+        }
+        HealthRead::Refused(number) => number,
+    }
+}
+
+// Entry number `index` of a frame. Order 14, 15, 16, 15, 16, then 6, 7, 8, 9, 13.
+#[no_mangle]
+pub extern "C" fn rtcm2_health_at(frame: &[u8], index: usize, bytes: &mut [u8]) -> u8
+    ensures { λ r. ⌜ r ≡ numberOf (rowTo row (entrySaid (frameSaid (now (frame .entry))) index) (now (bytes .entry))) ⌝ }
+    ensures { λ _. ⌜ now (bytes .exit) ≡ rowHeld row (entrySaid (frameSaid (now (frame .entry))) index) (now (bytes .entry)) ⌝ }
+{
+    let recalled = journal::recall(frame);
+    let answer = recalled.answer;
+    match answer {
+        Found::Record(_) => {
+            let read = record_healths::health_at(recalled.frame, index);
+            entry_to(read, bytes)
+        }
+        Found::Refused(number) => number,
+    }
+}
+
+// The frame of a header and the satellites' health in these bytes.
+fn made_of(header: Header, healths: &[u8]) -> Made
+    ensures { λ r. ⌜ r ≡ makeHealths header (entriesFrom row 31 (now (healths .entry))) (countOf 10 (length (now (healths .entry)))) ⌝ }
+{
+    let count = rtcm2_rows::row::count_of(SIZE, healths.len());
+    let entries = rtcm2_rows::health::healths_in(healths);
+    record_healths::make_healths(header, entries, count)
+}
+
+// Makes a frame of satellites' health. Order 5, 6, 7, 12, 10, 13.
+#[no_mangle]
+pub extern "C" fn rtcm2_make_healths(
+    kind: u8,
+    station: u16,
+    z: u16,
+    sequence: u8,
+    health: u8,
+    healths: &[u8],
+    frame: &mut [u8],
+    length: &mut usize,
+) -> u8
+    ensures { λ r. ⌜ r ≡ numberOf (keptTo (madeSaid (headed kind station z sequence health) (now (healths .entry))) (now (frame .entry))) ⌝ }
+    ensures { λ _. ⌜ now (frame .exit) ≡ heldTo (madeSaid (headed kind station z sequence health) (now (healths .entry))) (now (frame .entry)) ⌝ }
+    ensures { λ _. ⌜ now (length .exit) ≡ left (keptTo (madeSaid (headed kind station z sequence health) (now (healths .entry))) (now (frame .entry))) (λ k. k) (now (length .entry)) ⌝ }
+{
+    match crate::header::header_of(kind, station, z, sequence, health) {
+        Headed::Header(header) => crate::frames::keep_made(made_of(header, healths), frame, length),
+        Headed::Refused(number) => number,
+    }
+}

@@ -1,0 +1,47 @@
+// The null frame, type 6.
+ghost use mathlib.Core.Path.{_≡_};
+ghost use Rattle.rtcm2.specs.Answer.{numberOf};
+ghost use Rattle.rtcm2.specs.Frames.{frameSaid, keptTo, heldTo, sizeTo};
+ghost use Rattle.rtcm2.specs.Nulls.{nullSaid, makeSaid};
+use crate::frames::keep_made;
+use crate::header::Headed;
+use crate::header::header_of;
+use journal::Found;
+use record_nulls::NullRead;
+
+// Whether the frame of a record is a null frame. Order 14, 15, 16, 15, 16, then 6, 7, 8.
+#[no_mangle]
+pub extern "C" fn rtcm2_read_null(frame: &[u8]) -> u8
+    ensures { λ r. ⌜ r ≡ numberOf (nullSaid (frameSaid (now (frame .entry)))) ⌝ }
+{
+    let recalled = journal::recall(frame);
+    let answer = recalled.answer;
+    match answer {
+        Found::Record(_) => match record_nulls::read_null(recalled.frame) {
+            NullRead::Null => 0,
+            NullRead::Refused(number) => number,
+        },
+        Found::Refused(number) => number,
+    }
+}
+
+// Makes a null frame. Order 5, 6, 7, 13.
+#[no_mangle]
+pub extern "C" fn rtcm2_make_null(
+    kind: u8,
+    station: u16,
+    z: u16,
+    sequence: u8,
+    health: u8,
+    frame: &mut [u8],
+    length: &mut usize,
+) -> u8
+    ensures { λ r. ⌜ r ≡ numberOf (keptTo (makeSaid kind station z sequence health) (now (frame .entry))) ⌝ }
+    ensures { λ _. ⌜ now (frame .exit) ≡ heldTo (makeSaid kind station z sequence health) (now (frame .entry)) ⌝ }
+    ensures { λ _. ⌜ now (length .exit) ≡ sizeTo (makeSaid kind station z sequence health) (now (frame .entry)) (now (length .entry)) ⌝ }
+{
+    match header_of(kind, station, z, sequence, health) {
+        Headed::Header(header) => keep_made(record_nulls::make_null(header), frame, length),
+        Headed::Refused(number) => number,
+    }
+}

@@ -1,0 +1,95 @@
+-- Each call's order is a law of its own (rtcm2/proofs); here it has the header's numbers. Assumes nothing.
+use mathlib.Core.Path.{_≡_, refl}
+use mathlib.Core.Bool.{not}
+use mathlib.Core.List.{List, [], _∷_, _++_}
+use Prim.Native.Nat.{ℕ}
+use lib.Dec.{ltb}
+use Rattle.answer.specs.Order.{refuses, answers, inOrder}
+use Rattle.answer.proofs.OrderLaws.{says-order}
+use Rattle.line.specs.Line.{isData}
+use Rattle.frame.specs.declared.Layout.the-variants as layout
+use Rattle.reader.specs.Reading.{busy, steppedBy, fedBy}
+use Rattle.reader.specs.declared.Answer.the-variants.{Done, Refused}
+use Rattle.reader.specs.declared.Next.{Next}
+use Rattle.journal.specs.Journal.{recallOrder}
+use Rattle.writer.specs.Answer.{openChecks}
+use Rattle.record_values.proofs.AnswerLaws.{prc-says, rrc-says, cn0-says}
+use Rattle.reader.specs.declared.Candidate.{Candidate}
+use Rattle.rtcm2_state.specs.State.{stateIn, putChecks, storedBy, saysStored}
+use Rattle.rtcm2_state.specs.declared.Stored.the-variants as stored
+use Rattle.record_fields.specs.Coding.{Coding}
+use Rattle.rtcm2_rows.specs.Rows.{putOrder, putBy, saysPut}
+use Rattle.rtcm2_rows.specs.declared.row.Put.the-variants as put
+use Rattle.rtcm2_rows.specs.Corrections as correction
+use Rattle.rtcm2_rows.specs.Healths as health
+use Rattle.rtcm2.specs.Line.{fedIn}
+use Rattle.rtcm2.specs.Orders as in-order
+use Rattle.rtcm2.proofs.LineOrders.{held-order, start-order, feed-all-order, end-order}
+use Rattle.rtcm2.proofs.LineTaking.{take-order}
+use Rattle.rtcm2.proofs.SendOrders.{open-order, write-order}
+use Rattle.rtcm2.proofs.ReadOrders as reads
+use Rattle.rtcm2.proofs.MakeOrders as makes
+use Rattle.rtcm2.proofs.ValueOrders.{limit-order}
+use Rattle.promises.specs.CarriesItsNumber.{Ordered}
+use Rattle.promises.proofs.CarriesItsNumber.{ordered}
+use Rattle.rtcm2_promises.specs.CarriesItsNumber.{LibraryNumbers}
+
+-- FEED: 5 for bytes that hold no state, 5, 3, 2, 1
+feed-order : (state : List ℕ) (byte : ℕ) → fedIn state byte
+    ≡ inOrder (in-order.heldOrder state (busy (stateIn state) ++ ((not (isData byte), 1) ∷ []))) refuses
+    (answers (record { answer = Done; reader = steppedBy (stateIn state) byte }))
+unfolding fedIn fedBy
+feed-order state byte =
+    held-order (λ (x : Next). x .answer) (λ r. fedBy r byte) state (busy (stateIn state) ++ ((not (isData byte), 1) ∷ []))
+    (λ n. record { answer = Refused n; reader = stateIn state }) (record { answer = Done; reader = steppedBy (stateIn state) byte })
+    (λ n. refl) refl refl
+
+-- an entry as a row of bytes: 13
+pub put-ordered : {A : Type 0} (row : Coding A) (lent : List ℕ) → Ordered (13 ∷ []) (putOrder row lent) (saysPut (putBy row lent))
+put-ordered row lent = ordered (putOrder row lent) _ (says-order saysPut put.Refused (λ n. refl) put.Done (putOrder row lent) refl) refl refl
+
+-- a state as bytes: 5, 13
+pub put-stored : (c : Candidate) (bytes : List ℕ) → Ordered (5 ∷ 13 ∷ []) (putChecks c bytes) (saysStored (storedBy c bytes))
+put-stored c bytes = ordered (putChecks c bytes) _ (says-order saysStored stored.Refused (λ n. refl) stored.Done (putChecks c bytes) refl) refl refl
+
+pub library-numbers : LibraryNumbers
+library-numbers = record {
+  start = λ state. ordered (in-order.startedOrder state) _ (start-order state) refl refl;
+  feed = λ state byte. ordered (in-order.heldOrder state (busy (stateIn state) ++ ((not (isData byte), 1) ∷ []))) _ (feed-order state byte) refl refl;
+  feed-all = λ state bs. ordered (in-order.heldOrder state (busy (stateIn state))) _ (feed-all-order state bs) refl refl;
+  line-end = λ state. ordered (in-order.heldOrder state (busy (stateIn state))) _ (end-order state) refl refl;
+  line-take = λ state frame. ordered (in-order.takeOrder state frame) _ (take-order state frame) refl refl;
+  line-open = λ line. ordered (openChecks line) _ (open-order line) refl refl;
+  write = λ bs fits d29 d30 line. ordered (in-order.writeOrder bs d29 d30 line) _ (write-order bs fits d29 d30 line) refl refl;
+  keep = λ kind station z sequence code bs buffer.
+      ordered (in-order.keptOrder kind station z sequence code bs buffer) _ (makes.keep-order kind station z sequence code buffer bs) refl refl;
+  recall = λ bs. ordered (recallOrder bs) _ (reads.recall-order bs) refl refl;
+  count-corrections = λ bs fits. ordered (in-order.countOrder layout.Correction 40 bs) _ (reads.corrections-counted bs fits) refl refl;
+  correction-at = λ bs fits i lent.
+      ordered (in-order.entryOrder layout.Correction 40 correction.row bs i lent) _ (reads.correction-row-order bs fits i lent) refl refl;
+  make-corrections = λ kind station z sequence code bs buffer.
+      ordered (in-order.correctionsOrder kind station z sequence code bs buffer) _ (makes.corrections-made kind station z sequence code buffer bs) refl refl;
+  count-healths = λ bs fits. ordered (in-order.countOrder layout.Health 24 bs) _ (reads.healths-counted bs fits) refl refl;
+  health-at = λ bs fits i lent. ordered (in-order.entryOrder layout.Health 24 health.row bs i lent) _ (reads.health-row-order bs fits i lent) refl refl;
+  make-healths = λ kind station z sequence code bs buffer.
+      ordered (in-order.healthsOrder kind station z sequence code bs buffer) _ (makes.healths-made kind station z sequence code buffer bs) refl refl;
+  read-position = λ bs fits. ordered (in-order.positionOrder bs) _ (reads.position-order bs fits) refl refl;
+  make-position = λ kind station z sequence code x y up buffer.
+      ordered (in-order.positionMadeOrder kind station z sequence code (record { x = x; y = y; z = up }) buffer) _
+      (makes.position-made kind station z sequence code buffer x y up) refl refl;
+  read-null = λ bs fits. ordered (in-order.nullOrder bs) _ (reads.null-order bs fits) refl refl;
+  make-null = λ kind station z sequence code buffer.
+      ordered (in-order.nullMadeOrder kind station z sequence code buffer) _ (makes.null-made kind station z sequence code buffer) refl refl;
+  read-text = λ bs fits buffer. ordered (in-order.textReadOrder bs buffer) _ (reads.text-order bs fits buffer) refl refl;
+  make-text = λ kind station z sequence code t buffer.
+      ordered (in-order.textMadeOrder kind station z sequence code t buffer) _ (makes.text-made kind station z sequence code buffer t) refl refl;
+  prc-mm = λ scale prc. ordered ((ltb 1 scale, 10) ∷ []) _ (prc-says scale prc) refl refl;
+  rrc-mm-s = λ scale rrc. ordered ((ltb 1 scale, 10) ∷ []) _ (rrc-says scale rrc) refl refl;
+  stops = λ prc rrc. ordered [] _ refl refl refl;
+  udre-limit-mm = λ code udre. ordered (in-order.limitOrder code udre) _ (limit-order code udre) refl refl;
+  cn0-dbhz = λ code. ordered ((ltb 31 code, 10) ∷ []) _ (cn0-says code) refl refl;
+  put-start = put-stored;
+  put-state = λ r bytes. put-stored (r .candidate) bytes;
+  put-correction = put-ordered correction.row;
+  put-health = put-ordered health.row;
+}

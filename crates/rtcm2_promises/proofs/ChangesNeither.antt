@@ -1,0 +1,91 @@
+-- A refusal before the last stage leaves the place alone; one of the last stage is that of the package's own call. Assumes nothing.
+use mathlib.Core.Path.{refl, sym}
+use mathlib.Core.Bool.{Bool}
+use mathlib.Core.List.{List}
+use Prim.Native.Nat.{ℕ}
+use Rattle.answer.specs.Order.{Says, refuses, answers}
+use Rattle.answer.proofs.OrderLaws.{refuses-apart}
+use Rattle.frame.specs.declared.Frame.{Frame}
+use Rattle.reader.specs.declared.Candidate.{Candidate}
+use Rattle.reader.specs.declared.Reader.{Reader}
+use Rattle.record_fields.specs.Coding.{Coding}
+use Rattle.rtcm2_state.specs.State.{storedBy, startPut, statePut, saysStored}
+use Rattle.rtcm2_rows.specs.Corrections as correction
+use Rattle.rtcm2_rows.specs.Healths as health
+use Rattle.rtcm2.specs.Header.{headed}
+use Rattle.rtcm2.specs.Frames.{frameSaid, keepSaid, keptTo, heldTo, sizeTo}
+use Rattle.rtcm2.specs.Send.{pairOf, writeSaid, lineLent}
+use Rattle.rtcm2.specs.Rows.{rowTo, rowHeld}
+use Rattle.rtcm2.specs.Corrections as corrections
+use Rattle.rtcm2.specs.Healths as healths
+use Rattle.rtcm2.specs.Positions as positions
+use Rattle.rtcm2.specs.Nulls as nulls
+use Rattle.rtcm2.specs.Texts.{textSaid, textAfter}
+use Rattle.rtcm2.specs.Texts as texts
+use Rattle.promises.specs.ChangesNeither.{Keeps}
+use Rattle.promises.proofs.ChangesNeither.{keeps, changes-neither}
+use Rattle.rtcm2_promises.specs.ChangesNeither.{LibraryKeeps}
+use Rattle.rtcm2_promises.proofs.CarriesItsNumber.{put-ordered, put-stored}
+
+line-keeps : (s : Says Frame) (d29 d30 : ℕ) (line : List ℕ) → Keeps (writeSaid s d29 d30 line) (lineLent s d29 d30 line) line
+line-keeps (answers f) d29 d30 line = changes-neither .write f (pairOf d29 d30) line
+line-keeps (refuses m) d29 d30 line = λ n e. refl
+
+frame-keeps : (s : Says Frame) (buffer : List ℕ) → Keeps (keptTo s buffer) (heldTo s buffer) buffer
+frame-keeps (answers f) buffer = changes-neither .keep f buffer
+frame-keeps (refuses m) buffer = λ n e. refl
+
+text-keeps : (s : Says Frame) (buffer : List ℕ) → Keeps (textSaid s buffer) (textAfter s buffer) buffer
+text-keeps (answers f) buffer = changes-neither .read-text f buffer
+text-keeps (refuses m) buffer = λ n e. refl
+
+entry-keeps : {A : Type 0} (row : Coding A) (s : Says A) (lent : List ℕ) → Keeps (rowTo row s lent) (rowHeld row s lent) lent
+entry-keeps row (answers x) lent = keeps (put-ordered row lent) (λ b. b) (λ n. lent) _ _ (λ n. refl)
+entry-keeps row (refuses m) lent = λ n e. refl
+
+-- a frame that is made or kept, and its length
+made-keeps : (s : Says Frame) (frame : List ℕ) (size : ℕ) → Keeps (keptTo s frame) (heldTo s frame) frame × Keeps (keptTo s frame) (sizeTo s frame size) size
+made-keeps s frame size = (frame-keeps s frame, λ n e. rw e)
+
+-- a state as bytes
+start-keeps : (c : Candidate) (ended : Bool) (bytes : List ℕ) → Keeps (saysStored (storedBy c bytes)) (startPut c ended bytes) bytes
+unfolding startPut
+start-keeps c ended bytes = keeps (put-stored c bytes) (λ b. b) (λ n. bytes) _ _ (λ n. refl)
+
+state-keeps : (r : Reader) (bytes : List ℕ) → Keeps (saysStored (storedBy (r .candidate) bytes)) (statePut r bytes) bytes
+unfolding statePut
+state-keeps r bytes = keeps (put-stored (r .candidate) bytes) (λ b. b) (λ n. bytes) _ _ (λ n. refl)
+
+pub library-keeps : LibraryKeeps
+library-keeps = record {
+  start = λ state n e. rw e;
+  feed = λ state byte n e. rw e;
+  feed-all = λ state bytes used passed. (λ n e. rw e, λ n e. rw e, λ n e. rw e);
+  line-end = λ state n e. rw e;
+  line-take = λ state frame size at. (λ n e. rw e, λ n e. rw e, λ n e. rw e, λ n e. rw e);
+  line-open = changes-neither .writer-open;
+  write = λ frame d29 d30 line size. (λ n e. rw e, λ n e. rw e, line-keeps (frameSaid frame) d29 d30 line, λ n e. rw e);
+  keep = λ kind station z sequence code bs. made-keeps (keepSaid kind station z sequence code bs);
+  recall = λ frame kind station z sequence code m size.
+      (λ n e. rw e, λ n e. rw e, λ n e. rw e, λ n e. rw e, λ n e. rw e, λ n e. rw e, λ n e. rw e);
+  count-corrections = λ frame count n e. rw e;
+  correction-at = λ frame i. entry-keeps correction.row (corrections.entrySaid (frameSaid frame) i);
+  make-corrections = λ kind station z sequence code rows. made-keeps (corrections.madeSaid (headed kind station z sequence code) rows);
+  count-healths = λ frame count n e. rw e;
+  health-at = λ frame i. entry-keeps health.row (healths.entrySaid (frameSaid frame) i);
+  make-healths = λ kind station z sequence code rows. made-keeps (healths.madeSaid (headed kind station z sequence code) rows);
+  read-position = λ frame x y up. (λ n e. rw e, λ n e. rw e, λ n e. rw e);
+  make-position = λ kind station z sequence code x y up. made-keeps (positions.makeSaid kind station z sequence code x y up);
+  make-null = λ kind station z sequence code. made-keeps (nulls.makeSaid kind station z sequence code);
+  read-text = λ frame text size. (text-keeps (frameSaid frame) text, λ n e. rw e);
+  make-text = λ kind station z sequence code t. made-keeps (texts.makeSaid kind station z sequence code t);
+  prc-mm = λ scale prc stop mm. (λ n e. rw e, λ n e. rw e);
+  rrc-mm-s = λ scale rrc stop rate. (λ n e. rw e, λ n e. rw e);
+  stops = λ prc rrc stop n e. absurd (refuses-apart n _ (sym e));
+  udre-limit-mm = λ code udre limited mm. (λ n e. rw e, λ n e. rw e);
+  cn0-dbhz = λ code tracked dbhz. (λ n e. rw e, λ n e. rw e);
+  put-correction = λ entry lent. entry-keeps correction.row (answers entry) lent;
+  put-health = λ entry lent. entry-keeps health.row (answers entry) lent;
+  put-start = start-keeps;
+  put-state = state-keeps;
+}

@@ -1,0 +1,21 @@
+-- The demands hold of the library. Assumes nothing.
+use Rattle.rtcm2_promises.specs.Library.{Library}
+use Rattle.rtcm2_promises.proofs.LibraryCalls.{library-calls}
+use Rattle.rtcm2_promises.proofs.CarriesItsNumber.{library-numbers}
+use Rattle.rtcm2_promises.proofs.ChangesNeither.{library-keeps}
+use Rattle.rtcm2_promises.proofs.ReadsBack.{library-reads-back}
+use Rattle.rtcm2_promises.proofs.KeptAgain.{kept-again}
+use Rattle.rtcm2_promises.proofs.Demand3.{takes-its-record, library-demand-3}
+use Rattle.rtcm2_promises.proofs.LineBack.{line-gives-back}
+
+pub library : Library
+library = record {
+  calls = library-calls;
+  carries = library-numbers;
+  changes = library-keeps;
+  reads-back = library-reads-back;
+  kept-again = kept-again;
+  third = library-demand-3;
+  takes-record = takes-its-record;
+  line-back = line-gives-back;
+}

@@ -1,0 +1,237 @@
+-- "A record we write reads back equal" holds of the library: of each frame that it makes or keeps, what the package reads back. Assumes nothing.
+use mathlib.Core.Path.{_≡_, refl, sym, ap, subst, _∙_}
+use mathlib.Core.Bool.{not}
+use mathlib.Core.List.{List, [], _∷_, _++_, append-assoc}
+use Prim.Native.Nat.{ℕ, _+_, _*_, _/_, _%_, _≤_, _<_}
+use native.Mathlib.Omega.{arith}
+use lib.Dec.{ltb, eqb}
+use lib.ListN.{length, take, drop, getD, length-append, length-drop}
+use lib.Seq.{take-all, take-at, drop-at}
+use borrow.Author.Tests.{le-ltb, eqb-true, not-false}
+use Rattle.answer.specs.Order.{Says, refuses, answers, Check, NoneApplies, inOrder}
+use Rattle.answer.proofs.OrderLaws.{order-told, refuses-apart}
+use Rattle.bits.specs.Bits.{number}
+use Rattle.bits.specs.Fields.{AreBytes, octets}
+use Rattle.bits.specs.Rows.{wordsIn}
+use Rattle.bits.proofs.FieldLaws.{fit-take, fit-drop}
+use Rattle.bits.proofs.SignedLaws.{mag-signed}
+use Rattle.frame.specs.Header.{firstWord, secondWord}
+use Rattle.frame.specs.Frames.{framed, dataWords, wordsOf}
+use Rattle.frame.specs.Widths.{anyOf}
+use Rattle.frame.specs.declared.Frame.{Frame}
+use Rattle.frame.specs.declared.Header.{Header}
+use Rattle.frame.specs.declared.Layout.the-variants as layout
+use Rattle.frame.proofs.FrameLaws.{data-framed}
+use Rattle.journal.specs.Bytes.{bytesOf, written, wordsFrom}
+use Rattle.journal.specs.Journal.{recordOf}
+use Rattle.journal.proofs.ByteLaws.{length-bytes}
+use Rattle.journal.proofs.WordLaws.{written-words}
+use Rattle.record_fields.specs.Coding.{Coding, entryBits, frameWith, Each}
+use Rattle.record_fields.proofs.Round.{Faithful}
+use Rattle.record_stages.specs.Stages.{wrongCount, makeOrder, refusedMade, doneMade, saysMade}
+use Rattle.record_stages.specs.declared.Made.{Made}
+use Rattle.record_stages.proofs.StageLaws.{done-apart, done-frame}
+use Rattle.record_stages.proofs.ListCode.{told-some-few}
+use Rattle.record_corrections.specs.Corrections as correction
+use Rattle.record_corrections.specs.declared.Correction.{Correction}
+use Rattle.record_healths.specs.Healths as health
+use Rattle.record_healths.specs.declared.SatelliteHealth.{SatelliteHealth}
+use Rattle.record_positions.specs.Positions as position
+use Rattle.record_positions.specs.declared.Position.{Position}
+use Rattle.record_nulls.specs.Nulls as null
+use Rattle.record_texts.specs.Texts as text
+use Rattle.rtcm2_rows.specs.Rows.{rowSize, countOf, entryOf, entriesFrom, rowAfter}
+use Rattle.rtcm2_rows.specs.Corrections as correction-bytes
+use Rattle.rtcm2_rows.specs.Healths as health-bytes
+use Rattle.rtcm2_rows.proofs.RowLaws.{entry-at, count-held, length-entries}
+use Rattle.rtcm2_rows.proofs.Trips.{row-again, byte-small, each-read}
+use Rattle.rtcm2_rows.proofs.CorrectionRows as correction-rows
+use Rattle.rtcm2_rows.proofs.HealthRows as health-rows
+use Rattle.rtcm2.specs.Answer.{andThen}
+use Rattle.rtcm2.specs.Header.{headed}
+use Rattle.rtcm2.specs.Frames.{frameSaid, wordsSaid}
+use Rattle.rtcm2.specs.Rows.{madeOf, rowTo, rowHeld}
+use Rattle.rtcm2.specs.Positions as positions
+use Rattle.rtcm2.specs.Nulls as nulls
+use Rattle.rtcm2.specs.Texts as texts
+use Rattle.rtcm2.specs.Orders.{headerWith}
+use Rattle.promises.specs.ReadsBack.{ListBack}
+use Rattle.promises.proofs.CarriesItsNumber.{carries-its-number, says-inj, none-told}
+use Rattle.promises.proofs.Demand2.{made-told, reads-back-equal}
+use Rattle.rtcm2_promises.specs.ReadsBack.{GivesBack, RowsBack, LibraryReadsBack}
+use Rattle.rtcm2_promises.proofs.KeptBack.{gives-back}
+
+-- ---- what is made is a frame of its header and words
+
+framed-by : (cs : List Check) (h : Header) (ws : List ℕ) (m : Made) → m ≡ inOrder cs refusedMade (doneMade (framed h ws))
+    → (f : Frame) → saysMade m ≡ answers f → (words : List ℕ) × (framed h words ≡ f)
+framed-by cs h ws m is f e =
+    (ws, done-frame (order-told refusedMade (doneMade (framed h ws)) (doneMade f) (λ n. done-apart n f) cs (sym is ∙ made-told m f e) .1))
+
+module _ (h : Header) where
+  corrections-framed : (es : List Correction) (c : ℕ) (f : Frame) → saysMade (correction.makeCorrections h es c) ≡ answers f → (ws : List ℕ) × (framed h ws ≡ f)
+  unfolding correction.makeCorrections frameWith
+  corrections-framed es c =
+      framed-by (makeOrder layout.Correction h ((wrongCount 18 c, 12) ∷ (anyOf correction.outOfRange (take c es), 10) ∷ [])) h
+      (wordsIn correction.fill (entryBits correction.coding (take c es))) (correction.makeCorrections h es c) refl
+
+  healths-framed : (es : List SatelliteHealth) (c : ℕ) (f : Frame) → saysMade (health.makeHealths h es c) ≡ answers f → (ws : List ℕ) × (framed h ws ≡ f)
+  unfolding health.makeHealths frameWith
+  healths-framed es c =
+      framed-by (makeOrder layout.Health h ((wrongCount 31 c, 12) ∷ (anyOf health.outOfRange (take c es), 10) ∷ [])) h
+      (wordsIn health.fill (entryBits health.coding (take c es))) (health.makeHealths h es c) refl
+
+  position-framed : (p : Position) (f : Frame) → saysMade (position.makePosition h p) ≡ answers f → (ws : List ℕ) × (framed h ws ≡ f)
+  unfolding position.makePosition frameWith
+  position-framed p =
+      framed-by (makeOrder layout.Position h ((position.outOfRange p, 10) ∷ [])) h (wordsIn position.fill (entryBits position.coding (p ∷ [])))
+      (position.makePosition h p) refl
+
+  null-framed : (f : Frame) → saysMade (null.makeNull h) ≡ answers f → (ws : List ℕ) × (framed h ws ≡ f)
+  unfolding null.makeNull
+  null-framed = framed-by (makeOrder layout.Null h []) h [] (null.makeNull h) refl
+
+  text-framed : (t : List ℕ) (f : Frame) → saysMade (text.makeText h t) ≡ answers f → (ws : List ℕ) × (framed h ws ≡ f)
+  unfolding text.makeText frameWith
+  text-framed t =
+      framed-by (makeOrder layout.Text h ((wrongCount 90 (length t), 12) ∷ (anyOf text.forbidden t, 11) ∷ [])) h
+      (wordsIn text.fill (entryBits text.coding t)) (text.makeText h t) refl
+
+-- ---- lists, over the row: the count, and each row put again is its own bytes
+
+module _ {A : Type 0} (row : Coding A) (Good : A → Type 0) (law : Faithful row Good) (eight : row .widths ≡ octets (rowSize row))
+    (room : (i l : ℕ) → i < countOf (rowSize row) l → i * rowSize row + rowSize row ≤ l)
+    (make : Header → List A → ℕ → Made) (most width pattern : ℕ) (counted : Frame → Says ℕ) (entry : Frame → ℕ → Says A)
+    (rows : List ℕ) (b : AreBytes rows) where
+  abbrev es : List A
+  es = entriesFrom row most rows
+
+  abbrev c : ℕ
+  c = countOf (rowSize row) (length rows)
+
+  abbrev none : A
+  none = entryOf row []
+
+  module _ (h : Header) (f : Frame) (few : c ≤ most) (back : ListBack counted entry width pattern h es c none f) where
+    put : (i : ℕ) (lent : List ℕ) → i < c → rowSize row ≤ length lent
+        → rowAfter row (entryOf row (drop (i * rowSize row) rows)) lent ≡ take (rowSize row) (drop (i * rowSize row) rows) ++ drop (rowSize row) lent
+    put i lent l long = rw (le-ltb (length lent) (rowSize row) long)
+        (ap (λ v. v ++ drop (rowSize row) lent) (row-again row Good law eight (drop (i * rowSize row) rows) (fit-drop (i * rowSize row) rows b)
+        (omega (arith, room i (length rows) l, length-drop (i * rowSize row) rows))))
+
+    rows-back : RowsBack row rows (counted f) (entry f)
+    rows-back = record {
+      counts = back .counted;
+      answered = λ i lent l long. ap (λ s. rowTo row s lent) (back .each i l) ∙ rw (le-ltb (length lent) (rowSize row) long);
+      each = λ i lent l long.
+          ap (λ s. rowHeld row s lent) (back .each i l ∙ ap answers (entry-at row most rows i none (omega (arith, few)))) ∙ put i lent l long;
+    }
+
+  module _ (kind station z sequence code : ℕ)
+      (whole : (h : Header) (f : Frame) → saysMade (make h es c) ≡ answers f → (ws : List ℕ) × (framed h ws ≡ f))
+      (reads : (h : Header) (f : Frame) → saysMade (make h es c) ≡ answers f → (c ≤ most) × ListBack counted entry width pattern h es c none f) where
+    list-back : GivesBack kind station z sequence code (madeOf row make most (headed kind station z sequence code) rows)
+        (λ bytes. RowsBack row rows (andThen (frameSaid bytes) counted) (λ i. andThen (frameSaid bytes) (λ f. entry f i)))
+    list-back =
+        gives-back kind station z sequence code (λ h. saysMade (make h es c)) _ (whole head)
+        (λ f rest e s. let r = reads head f e in
+        subst (λ v. RowsBack row rows (andThen v counted) (λ i. andThen v (λ g. entry g i))) (sym s) (rows-back head f (r .0) (r .1)))
+      where
+        head : Header
+        head = headerWith kind station z sequence code
+
+correction-typed : (bs : List ℕ) → AreBytes bs → correction.Typed (entryOf correction-bytes.row bs)
+correction-typed bs b =
+    let f = fit-take 7 bs b in
+    let low = byte-small (take 7 bs) 3 f in
+    let high = byte-small (take 7 bs) 4 f in
+    record {
+      prc = mag-signed 15 (getD (take 7 bs) 3 0 + 256 * getD (take 7 bs) 4 0) (omega (arith, low, high));
+      rrc = mag-signed 7 (getD (take 7 bs) 5 0) (byte-small (take 7 bs) 5 f);
+      iod = byte-small (take 7 bs) 6 f;
+    }
+
+-- ---- a frame of any type: its data words are the bytes of its record from the tenth on
+
+pub record-data : (f : Frame) (rest : List ℕ) → drop 9 (recordOf f ++ rest) ≡ written 3 (dataWords f) ++ rest
+unfolding recordOf wordsOf written
+record-data f rest =
+    ap (drop 6) (append-assoc a (b ++ ws) rest ∙ ap (λ l. a ++ l) (append-assoc b ws rest) ∙ sym (append-assoc a b (ws ++ rest)))
+    ∙ drop-at (a ++ b) (ws ++ rest) 6
+    (omega (arith, length-append a b, length-bytes 3 (number (firstWord (f .header))), length-bytes 3 (number (secondWord (f .header) (f .n)))))
+  where
+    a : List ℕ
+    a = bytesOf 3 (number (firstWord (f .header)))
+
+    b : List ℕ
+    b = bytesOf 3 (number (secondWord (f .header) (f .n)))
+
+    ws : List ℕ
+    ws = written 3 (dataWords f)
+
+module _ (h : Header) (words : List ℕ) (fits : AreBytes words) (f : Frame) (e : wordsSaid h words ≡ answers f) where
+  abbrev n : ℕ
+  n = length words / 3
+
+  told : NoneApplies ((not (eqb (length words % 3) 0), 5) ∷ (ltb 31 n, 5) ∷ []) × (framed h (wordsFrom 3 n words) ≡ f)
+  told =
+      let made = framed h (wordsFrom 3 n words) in
+      let t = order-told refuses (answers made) (answers f) (λ m. refuses-apart m f) ((not (eqb (length words % 3) 0), 5) ∷ (ltb 31 n, 5) ∷ []) e in
+      (t .0, says-inj (t .1))
+
+  words-framed : (ws : List ℕ) × (framed h ws ≡ f)
+  words-framed = (wordsFrom 3 n words, told .1)
+
+  words-again : written 3 (dataWords f) ≡ words
+  words-again =
+      ap (λ (g : Frame). written 3 (dataWords g)) (sym (told .1)) ∙ ap (written 3) (data-framed h (wordsFrom 3 n words))
+      ∙ written-words 3 n words fits (omega arith)
+      ∙ take-all (3 * n) words (omega (arith, eqb-true (length words % 3) 0 (not-false (eqb (length words % 3) 0) (told .0 .0))))
+
+-- ---- every function that makes or keeps a frame
+
+module _ (kind station z sequence code : ℕ) where
+  abbrev H : Header
+  H = headerWith kind station z sequence code
+
+  pub library-reads-back : LibraryReadsBack kind station z sequence code
+  library-reads-back = record {
+    make-corrections = λ rows b.
+        let es = entriesFrom correction-bytes.row 18 rows in
+        let c = countOf 7 (length rows) in
+        let many = length-entries correction-bytes.row 18 rows in
+        let typed = subst (Each correction.Typed) (take-all 18 es (omega (arith, many)))
+        (each-read correction-bytes.row correction.Typed correction-typed 18 18 rows b) in
+        list-back correction-bytes.row correction-bytes.Typed correction-rows.faithful refl (λ i l m. omega (arith, count-held 7 l))
+        correction.makeCorrections 18 40 0xAAAAAA _ _ rows b kind station z sequence code (λ h. corrections-framed h es c)
+        (λ h f e. (
+          told-some-few c 18 (none-told (carries-its-number .make-corrections h es c) f e .1 .1 .1 .0) .1,
+          reads-back-equal .corrections h es c (entryOf correction-bytes.row []) f many typed e,
+        ));
+    make-healths = λ rows b.
+        let es = entriesFrom health-bytes.row 31 rows in
+        let c = countOf 10 (length rows) in
+        list-back health-bytes.row health-bytes.Typed health-rows.faithful refl (λ i l m. omega (arith, count-held 10 l))
+        health.makeHealths 31 24 0 _ _ rows b kind station z sequence code (λ h. healths-framed h es c)
+        (λ h f e. (
+          told-some-few c 31 (none-told (carries-its-number .make-healths h es c) f e .1 .1 .1 .0) .1,
+          reads-back-equal .healths h es c (entryOf health-bytes.row []) f (length-entries health-bytes.row 31 rows) e,
+        ));
+    make-position = λ x y up typed.
+        let p : Position = record { x = x; y = y; z = up } in
+        gives-back kind station z sequence code (λ h. saysMade (position.makePosition h p)) _ (position-framed H p)
+        (λ f rest e s. ap positions.positionSaid s ∙ reads-back-equal .position H p f typed e .reads);
+    make-null =
+        gives-back kind station z sequence code (λ h. saysMade (null.makeNull h)) _ (null-framed H)
+        (λ f rest e s. ap nulls.nullSaid s ∙ reads-back-equal .null H f e .reads);
+    make-text = λ t.
+        gives-back kind station z sequence code (λ h. saysMade (text.makeText h t)) _ (text-framed H t)
+        (λ f rest e s lent l. (
+          ap (λ v. texts.textSaid v lent) s ∙ reads-back-equal .text H t f e .reads lent l,
+          ap (λ v. texts.textAfter v lent) s ∙ reads-back-equal .text H t f e .writes lent l,
+        ));
+    keep = λ words fits.
+        gives-back kind station z sequence code (λ h. wordsSaid h words) _ (λ f e. words-framed H words fits f e)
+        (λ f rest e s.
+        ap (take (length words)) (record-data f rest ∙ ap (λ l. l ++ rest) (words-again H words fits f e)) ∙ take-at words rest (length words) refl);
+  }

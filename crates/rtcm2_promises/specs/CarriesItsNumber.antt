@@ -1,0 +1,104 @@
+-- DEMAND 1 of the library for C and Rust, "A refusal carries its number from the table": each call refuses exactly when a number of the order that
+-- include/rtcm2.h gives applies, and with the first that does. Where a number stands twice, two conditions have it. Assumes nothing.
+use mathlib.Core.Bool.{not}
+use mathlib.Core.List.{List, [], _∷_, _++_}
+use Prim.Native.Nat.{ℕ}
+use lib.Dec.{ltb}
+use lib.IntN.{ℤ}
+use Rattle.bits.specs.Fields.{AreBytes}
+use Rattle.line.specs.Line.{isData}
+use Rattle.frame.specs.declared.Layout.the-variants as layout
+use Rattle.reader.specs.Reading.{busy}
+use Rattle.journal.specs.Journal.{recallOrder}
+use Rattle.writer.specs.Answer.{openChecks}
+use Rattle.reader.specs.declared.Candidate.{Candidate}
+use Rattle.reader.specs.declared.Reader.{Reader}
+use Rattle.rtcm2_state.specs.State.{stateIn, putChecks, storedBy, saysStored}
+use Rattle.rtcm2_rows.specs.Rows.{putOrder, putBy, saysPut}
+use Rattle.rtcm2_rows.specs.Corrections as correction
+use Rattle.rtcm2_rows.specs.Healths as health
+use Rattle.rtcm2.specs.Header.{headed}
+use Rattle.rtcm2.specs.Frames.{frameSaid, keptTo, keepSaid, recallSaid}
+use Rattle.rtcm2.specs.Line.{startedIn, fedIn, fedAllIn, endedIn, takenIn}
+use Rattle.rtcm2.specs.Send.{openSaid, writeSaid}
+use Rattle.rtcm2.specs.Rows.{rowTo}
+use Rattle.rtcm2.specs.Corrections as corrections
+use Rattle.rtcm2.specs.Healths as healths
+use Rattle.rtcm2.specs.Positions as positions
+use Rattle.rtcm2.specs.Nulls as nulls
+use Rattle.rtcm2.specs.Texts as texts
+use Rattle.rtcm2.specs.Values.{prcSaid, rrcSaid, stopsSaid, limitSaid, strengthSaid}
+use Rattle.rtcm2.specs.Orders as in-order
+use Rattle.promises.specs.CarriesItsNumber.{Ordered}
+
+-- a call that is given a frame: 14, 15, 16, 15, 16, the last for two reasons, then these
+abbrev pub afterRecord : List ℕ → List ℕ
+afterRecord numbers = 14 ∷ 15 ∷ 16 ∷ 15 ∷ 16 ∷ 16 ∷ numbers
+
+-- a call that makes a frame of a layout: 5, a health over 7 too, 6, 7, then these
+abbrev pub afterHeader : List ℕ → List ℕ
+afterHeader numbers = 5 ∷ 5 ∷ 6 ∷ 7 ∷ numbers
+
+-- every exported function but the one that answers a constant, and those that put a state or an entry in bytes. The order of `stops` is empty: it never refuses.
+pub record LibraryNumbers : Type 0 where
+  -- reading the line
+  pub start : (state : List ℕ) → Ordered (13 ∷ []) (in-order.startedOrder state) (startedIn state)
+  pub feed : (state : List ℕ) (byte : ℕ)
+      → Ordered (5 ∷ 5 ∷ 3 ∷ 2 ∷ 1 ∷ []) (in-order.heldOrder state (busy (stateIn state) ++ ((not (isData byte), 1) ∷ []))) (fedIn state byte)
+  pub feed-all : (state bs : List ℕ) → Ordered (5 ∷ 5 ∷ 3 ∷ 2 ∷ []) (in-order.heldOrder state (busy (stateIn state))) (fedAllIn state bs)
+  pub line-end : (state : List ℕ) → Ordered (5 ∷ 5 ∷ 3 ∷ 2 ∷ []) (in-order.heldOrder state (busy (stateIn state))) (endedIn state)
+  pub line-take : (state frame : List ℕ) → Ordered (5 ∷ 5 ∷ 4 ∷ 13 ∷ []) (in-order.takeOrder state frame) (takenIn state frame)
+  -- writing the line
+  pub line-open : (line : List ℕ) → Ordered (13 ∷ []) (openChecks line) (openSaid line)
+  pub write : (bs : List ℕ) → AreBytes bs → (d29 d30 : ℕ) (line : List ℕ)
+      → Ordered (afterRecord (5 ∷ 5 ∷ 7 ∷ 13 ∷ [])) (in-order.writeOrder bs d29 d30 line) (writeSaid (frameSaid bs) d29 d30 line)
+  -- frames and their journal records
+  pub keep : (kind station z sequence code : ℕ) (bs buffer : List ℕ)
+      → Ordered (5 ∷ 5 ∷ 5 ∷ 5 ∷ 13 ∷ []) (in-order.keptOrder kind station z sequence code bs buffer) (keptTo (keepSaid kind station z sequence code bs) buffer)
+  pub recall : (bs : List ℕ) → Ordered (afterRecord []) (recallOrder bs) (recallSaid bs)
+  -- record_corrections
+  pub count-corrections : (bs : List ℕ) → AreBytes bs
+      → Ordered (afterRecord (6 ∷ 7 ∷ 8 ∷ [])) (in-order.countOrder layout.Correction 40 bs) (corrections.countSaid (frameSaid bs))
+  pub correction-at : (bs : List ℕ) → AreBytes bs → (i : ℕ) (lent : List ℕ)
+      → Ordered (afterRecord (6 ∷ 7 ∷ 8 ∷ 9 ∷ 13 ∷ [])) (in-order.entryOrder layout.Correction 40 correction.row bs i lent)
+      (rowTo correction.row (corrections.entrySaid (frameSaid bs) i) lent)
+  pub make-corrections : (kind station z sequence code : ℕ) (bs buffer : List ℕ)
+      → Ordered (afterHeader (12 ∷ 10 ∷ 13 ∷ [])) (in-order.correctionsOrder kind station z sequence code bs buffer)
+      (keptTo (corrections.madeSaid (headed kind station z sequence code) bs) buffer)
+  -- constellation health
+  pub count-healths : (bs : List ℕ) → AreBytes bs
+      → Ordered (afterRecord (6 ∷ 7 ∷ 8 ∷ [])) (in-order.countOrder layout.Health 24 bs) (healths.countSaid (frameSaid bs))
+  pub health-at : (bs : List ℕ) → AreBytes bs → (i : ℕ) (lent : List ℕ)
+      → Ordered (afterRecord (6 ∷ 7 ∷ 8 ∷ 9 ∷ 13 ∷ [])) (in-order.entryOrder layout.Health 24 health.row bs i lent)
+      (rowTo health.row (healths.entrySaid (frameSaid bs) i) lent)
+  pub make-healths : (kind station z sequence code : ℕ) (bs buffer : List ℕ)
+      → Ordered (afterHeader (12 ∷ 10 ∷ 13 ∷ [])) (in-order.healthsOrder kind station z sequence code bs buffer)
+      (keptTo (healths.madeSaid (headed kind station z sequence code) bs) buffer)
+  -- the station's position
+  pub read-position : (bs : List ℕ) → AreBytes bs
+      → Ordered (afterRecord (6 ∷ 7 ∷ 8 ∷ 10 ∷ [])) (in-order.positionOrder bs) (positions.positionSaid (frameSaid bs))
+  pub make-position : (kind station z sequence code : ℕ) (x y up : ℤ) (buffer : List ℕ)
+      → Ordered (afterHeader (10 ∷ 13 ∷ [])) (in-order.positionMadeOrder kind station z sequence code (record { x = x; y = y; z = up }) buffer)
+      (keptTo (positions.makeSaid kind station z sequence code x y up) buffer)
+  -- the null frame
+  pub read-null : (bs : List ℕ) → AreBytes bs → Ordered (afterRecord (6 ∷ 7 ∷ 8 ∷ [])) (in-order.nullOrder bs) (nulls.nullSaid (frameSaid bs))
+  pub make-null : (kind station z sequence code : ℕ) (buffer : List ℕ)
+      → Ordered (afterHeader (13 ∷ [])) (in-order.nullMadeOrder kind station z sequence code buffer)
+      (keptTo (nulls.makeSaid kind station z sequence code) buffer)
+  -- text
+  pub read-text : (bs : List ℕ) → AreBytes bs → (buffer : List ℕ)
+      → Ordered (afterRecord (6 ∷ 7 ∷ 8 ∷ 11 ∷ 13 ∷ [])) (in-order.textReadOrder bs buffer) (texts.textSaid (frameSaid bs) buffer)
+  pub make-text : (kind station z sequence code : ℕ) (t buffer : List ℕ)
+      → Ordered (afterHeader (12 ∷ 11 ∷ 13 ∷ [])) (in-order.textMadeOrder kind station z sequence code t buffer)
+      (keptTo (texts.makeSaid kind station z sequence code t) buffer)
+  -- what a record's numbers stand for
+  pub prc-mm : (scale : ℕ) (prc : ℤ) → Ordered (10 ∷ []) ((ltb 1 scale, 10) ∷ []) (prcSaid scale prc)
+  pub rrc-mm-s : (scale : ℕ) (rrc : ℤ) → Ordered (10 ∷ []) ((ltb 1 scale, 10) ∷ []) (rrcSaid scale rrc)
+  pub stops : (prc rrc : ℤ) → Ordered [] [] (stopsSaid prc rrc)
+  pub udre-limit-mm : (code udre : ℕ) → Ordered (5 ∷ 10 ∷ []) (in-order.limitOrder code udre) (limitSaid code udre)
+  pub cn0-dbhz : (code : ℕ) → Ordered (10 ∷ []) ((ltb 31 code, 10) ∷ []) (strengthSaid code)
+  -- an entry as a row of bytes
+  pub put-start : (c : Candidate) (bytes : List ℕ) → Ordered (5 ∷ 13 ∷ []) (putChecks c bytes) (saysStored (storedBy c bytes))
+  pub put-state : (r : Reader) (bytes : List ℕ) → Ordered (5 ∷ 13 ∷ []) (putChecks (r .candidate) bytes) (saysStored (storedBy (r .candidate) bytes))
+  pub put-correction : (lent : List ℕ) → Ordered (13 ∷ []) (putOrder correction.row lent) (saysPut (putBy correction.row lent))
+  pub put-health : (lent : List ℕ) → Ordered (13 ∷ []) (putOrder health.row lent) (saysPut (putBy health.row lent))

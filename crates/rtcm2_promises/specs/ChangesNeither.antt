@@ -1,0 +1,104 @@
+-- DEMAND 1 of the library for C and Rust, ".. and changes neither state nor buffer": after a refusal every place lent to the function holds what it
+-- held. What is left there is said as in the function's field of LibraryCalls. Assumes nothing.
+use mathlib.Core.Bool.{Bool}
+use mathlib.Core.List.{List}
+use Prim.Native.Nat.{ℕ}
+use lib.IntN.{ℤ}
+use Rattle.bits.specs.Bits.{val}
+use Rattle.reader.specs.declared.Candidate.{Candidate}
+use Rattle.reader.specs.declared.Reader.{Reader}
+use Rattle.record_corrections.specs.declared.Correction.{Correction}
+use Rattle.record_healths.specs.declared.SatelliteHealth.{SatelliteHealth}
+use Rattle.journal.specs.Journal.{heldBy}
+use Rattle.writer.specs.Answer.{openedTo}
+use Rattle.rtcm2_state.specs.State.{storedBy, startPut, statePut, saysStored}
+use Rattle.rtcm2_rows.specs.Rows.{putBy, rowAfter, saysPut}
+use Rattle.rtcm2_rows.specs.Corrections as entry-corrections
+use Rattle.rtcm2_rows.specs.Healths as entry-healths
+use Rattle.rtcm2.specs.Answer.{left}
+use Rattle.rtcm2.specs.Line.{startedIn, fedIn, fedAllIn, endedIn, takenIn}
+use Rattle.rtcm2.specs.Send.{openSaid, writeSaid, d29After, d30After, lineLent}
+use Rattle.rtcm2.specs.Send as send
+use Rattle.rtcm2.specs.Frames.{frameSaid, keptTo, keepSaid, heldTo, sizeTo}
+use Rattle.rtcm2.specs.Frames.{recallSaid, kindSaid, stationSaid, zCountSaid, sequenceSaid, healthSaid, nSaid, lengthSaid}
+use Rattle.rtcm2.specs.Rows.{rowTo, rowHeld}
+use Rattle.rtcm2.specs.Header.{headed}
+use Rattle.rtcm2.specs.Corrections as corrections
+use Rattle.rtcm2.specs.Healths as healths
+use Rattle.rtcm2.specs.Positions as positions
+use Rattle.rtcm2.specs.Nulls as nulls
+use Rattle.rtcm2.specs.Texts as texts
+use Rattle.rtcm2.specs.Values.{prcSaid, stopFlag, exactOr0, rrcSaid, stopsSaid, limitSaid, limitFlag, limitOr0, strengthSaid, trackedFlag, dbHzOr0}
+use Rattle.promises.specs.ChangesNeither.{Keeps}
+
+-- every function that is lent a place, and each of its places
+pub record LibraryKeeps : Type 0 where
+  -- reading the line
+  pub start : (state : List ℕ) → Keeps (startedIn state) (left (startedIn state) (λ r. statePut r state) state) state
+  pub feed : (state : List ℕ) (byte : ℕ) → Keeps (fedIn state byte) (left (fedIn state byte) (λ n. statePut (n .reader) state) state) state
+  pub feed-all : (state bytes : List ℕ) (used passed : ℕ) → let s = fedAllIn state bytes in
+      Keeps s (left s (λ f. statePut (f .reader) state) state) state
+      × Keeps s (left s (λ f. f .used) used) used × Keeps s (left s (λ f. f .passed) passed) passed
+  pub line-end : (state : List ℕ)
+      → Keeps (endedIn state) (left (endedIn state) (λ n. startPut (n .reader .candidate) (n .reader .ended) state) state) state
+  pub line-take : (state frame : List ℕ) (size at : ℕ) → let s = takenIn state frame in
+      Keeps s (left s (λ v. startPut (v .1 .reader .candidate) (v .1 .reader .ended) state) state) state
+      × Keeps s (left s (λ v. heldBy (v .1 .frame) frame) frame) frame × Keeps s (left s (λ v. v .0) size) size × Keeps s (left s (λ v. v .1 .at) at) at
+  -- writing the line
+  pub line-open : (line : List ℕ) → Keeps (openSaid line) (openedTo line) line
+  pub write : (frame : List ℕ) (d29 d30 : ℕ) (line : List ℕ) (size : ℕ) → let f = frameSaid frame in let s = writeSaid f d29 d30 line in
+      Keeps s (d29After f d29 d30 line) d29 × Keeps s (d30After f d29 d30 line) d30 × Keeps s (lineLent f d29 d30 line) line
+      × Keeps s (send.countAfter f d29 d30 line size) size
+  -- frames and their journal records
+  pub keep : (kind station z sequence code : ℕ) (bs frame : List ℕ) (size : ℕ) → let s = keepSaid kind station z sequence code bs in
+      Keeps (keptTo s frame) (heldTo s frame) frame × Keeps (keptTo s frame) (sizeTo s frame size) size
+  pub recall : (frame : List ℕ) (kind station z sequence code n size : ℕ) → let s = recallSaid frame in
+      Keeps s (left s kindSaid kind) kind × Keeps s (left s stationSaid station) station × Keeps s (left s zCountSaid z) z
+      × Keeps s (left s sequenceSaid sequence) sequence × Keeps s (left s healthSaid code) code × Keeps s (left s nSaid n) n
+      × Keeps s (left s lengthSaid size) size
+  -- record_corrections
+  pub count-corrections : (frame : List ℕ) (count : ℕ) → let s = corrections.countSaid (frameSaid frame) in Keeps s (left s (λ k. k) count) count
+  pub correction-at : (frame : List ℕ) (i : ℕ) (lent : List ℕ) → let s = corrections.entrySaid (frameSaid frame) i in
+      Keeps (rowTo entry-corrections.row s lent) (rowHeld entry-corrections.row s lent) lent
+  pub make-corrections : (kind station z sequence code : ℕ) (rows frame : List ℕ) (size : ℕ)
+      → let s = corrections.madeSaid (headed kind station z sequence code) rows in
+      Keeps (keptTo s frame) (heldTo s frame) frame × Keeps (keptTo s frame) (left (keptTo s frame) (λ k. k) size) size
+  -- constellation health
+  pub count-healths : (frame : List ℕ) (count : ℕ) → let s = healths.countSaid (frameSaid frame) in Keeps s (left s (λ k. k) count) count
+  pub health-at : (frame : List ℕ) (i : ℕ) (lent : List ℕ) → let s = healths.entrySaid (frameSaid frame) i in
+      Keeps (rowTo entry-healths.row s lent) (rowHeld entry-healths.row s lent) lent
+  pub make-healths : (kind station z sequence code : ℕ) (rows frame : List ℕ) (size : ℕ)
+      → let s = healths.madeSaid (headed kind station z sequence code) rows in
+      Keeps (keptTo s frame) (heldTo s frame) frame × Keeps (keptTo s frame) (left (keptTo s frame) (λ k. k) size) size
+  -- the station's position
+  pub read-position : (frame : List ℕ) (x y up : ℤ) → let s = positions.positionSaid (frameSaid frame) in
+      Keeps s (left s positions.xSaid x) x × Keeps s (left s positions.ySaid y) y × Keeps s (left s positions.zSaid up) up
+  pub make-position : (kind station z sequence code : ℕ) (x y up : ℤ) (frame : List ℕ) (size : ℕ)
+      → let s = positions.makeSaid kind station z sequence code x y up in
+      Keeps (keptTo s frame) (heldTo s frame) frame × Keeps (keptTo s frame) (sizeTo s frame size) size
+  -- the null frame
+  pub make-null : (kind station z sequence code : ℕ) (frame : List ℕ) (size : ℕ) → let s = nulls.makeSaid kind station z sequence code in
+      Keeps (keptTo s frame) (heldTo s frame) frame × Keeps (keptTo s frame) (sizeTo s frame size) size
+  -- text
+  pub read-text : (frame text : List ℕ) (size : ℕ) → let f = frameSaid frame in
+      Keeps (texts.textSaid f text) (texts.textAfter f text) text × Keeps (texts.textSaid f text) (texts.countAfter f text size) size
+  pub make-text : (kind station z sequence code : ℕ) (t frame : List ℕ) (size : ℕ) → let s = texts.makeSaid kind station z sequence code t in
+      Keeps (keptTo s frame) (heldTo s frame) frame × Keeps (keptTo s frame) (sizeTo s frame size) size
+  -- what a record's numbers stand for
+  pub prc-mm : (scale : ℕ) (prc : ℤ) (stop : ℕ) (mm : ℤ) → let s = prcSaid scale prc in
+      Keeps s (left s stopFlag stop) stop × Keeps s (left s exactOr0 mm) mm
+  pub rrc-mm-s : (scale : ℕ) (rrc : ℤ) (stop : ℕ) (rate : ℤ) → let s = rrcSaid scale rrc in
+      Keeps s (left s stopFlag stop) stop × Keeps s (left s exactOr0 rate) rate
+  pub stops : (prc rrc : ℤ) (stop : ℕ) → Keeps (stopsSaid prc rrc) (left (stopsSaid prc rrc) val stop) stop
+  pub udre-limit-mm : (code udre limited mm : ℕ) → let s = limitSaid code udre in
+      Keeps s (left s limitFlag limited) limited × Keeps s (left s limitOr0 mm) mm
+  pub cn0-dbhz : (code tracked dbhz : ℕ) → let s = strengthSaid code in
+      Keeps s (left s trackedFlag tracked) tracked × Keeps s (left s dbHzOr0 dbhz) dbhz
+  -- an entry as a row of bytes
+  pub put-correction : (entry : Correction) (lent : List ℕ)
+      → Keeps (saysPut (putBy entry-corrections.row lent)) (rowAfter entry-corrections.row entry lent) lent
+  pub put-health : (entry : SatelliteHealth) (lent : List ℕ)
+      → Keeps (saysPut (putBy entry-healths.row lent)) (rowAfter entry-healths.row entry lent) lent
+  -- a state as bytes
+  pub put-start : (c : Candidate) (ended : Bool) (bytes : List ℕ) → Keeps (saysStored (storedBy c bytes)) (startPut c ended bytes) bytes
+  pub put-state : (r : Reader) (bytes : List ℕ) → Keeps (saysStored (storedBy (r .candidate) bytes)) (statePut r bytes) bytes

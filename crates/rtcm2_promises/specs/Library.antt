@@ -1,0 +1,26 @@
+-- THE DEMANDS of the library for C and Rust, sentence by sentence. Assumes nothing.
+use mathlib.Core.List.{List}
+use Prim.Native.Nat.{ℕ, _≤_}
+use lib.ListN.{length}
+use Rattle.rtcm2_promises.specs.LibraryCalls.{LibraryCalls}
+use Rattle.rtcm2_promises.specs.CarriesItsNumber.{LibraryNumbers}
+use Rattle.rtcm2_promises.specs.ChangesNeither.{LibraryKeeps}
+use Rattle.rtcm2_promises.specs.Demand3.{TakesItsRecord, LibraryDemand3}
+use Rattle.rtcm2_promises.specs.ReadsBack.{LibraryReadsBack, KeptAgain}
+use Rattle.rtcm2_promises.specs.LineBack.{LineGivesBack}
+
+pub record Library : Type 2 where
+  -- "Every byte sequence, frame and buffer gets a defined answer." "No call trusts its caller." "Every call ends."
+  pub calls : LibraryCalls
+  -- "A refusal carries its number from the table .."
+  pub carries : LibraryNumbers
+  -- ".. and changes neither state nor buffer."
+  pub changes : LibraryKeeps
+  -- "A record we write reads back equal."
+  pub reads-back : (kind station z sequence code : ℕ) → LibraryReadsBack kind station z sequence code
+  pub kept-again : KeptAgain
+  -- demand 3, of every state's bytes with room; a frame that is taken is the one whose record comes
+  pub third : (state : List ℕ) → 188 ≤ length state → LibraryDemand3 state
+  pub takes-record : TakesItsRecord
+  -- and what is written comes back from the line
+  pub line-back : (state : List ℕ) → 188 ≤ length state → LineGivesBack state

@@ -1,0 +1,145 @@
+-- ROUND TRIP, over the definitions that the contracts cite. A state that was put is held, and is read back equal; putting back what was read
+-- changes no byte. Assumes nothing.
+use mathlib.Core.Path.{_≡_, refl, sym, ap, ap₂, subst, _∙_}
+use mathlib.Core.Bool.{Bool, true, false, _&&_, not, and-eq-true-iff}
+use mathlib.Core.List.{List, [], _∷_, _++_}
+use Prim.Native.Nat.{ℕ, zero, suc, _+_, _*_, _^_, _≤_, _<_}
+use native.Mathlib.Omega.{arith}
+use lib.Dec.{ltb, eqb}
+use lib.ListN.{length, drop, getD, replicate, length-append, length-replicate, take-append-drop}
+use lib.Seq.{drop-at}
+use borrow.Author.Tests.{le-ltb, ltb-true, eqb-true}
+use Rattle.bits.specs.Bits.{val}
+use Rattle.bits.specs.Fields.{Fit, AreBytes}
+use Rattle.bits.proofs.FieldLaws.{length-fit, fit-drop}
+use Rattle.reader.specs.declared.Reader.{Reader}
+use Rattle.rtcm2_state.specs.Numbers.{lowBytes, numbersWritten, numbersIn}
+use Rattle.rtcm2_state.specs.State.{startOf, stateNumbers, readerOf, areState, holdsState, stateIn, tooWide, startPut, statePut}
+use Rattle.rtcm2_state.proofs.NumberLaws.{length-written, length-numbers, number-of, number-four, numbers-written, written-numbers}
+use Rattle.rtcm2_state.proofs.StateLaws.{held-long, narrow, start-is}
+
+-- ---- a reader and its numbers
+
+yes-no : (b : Bool) → eqb (val b) 1 ≡ b
+yes-no true = refl
+yes-no false = refl
+
+one-zero : (n : ℕ) → n < 2 → val (eqb n 1) ≡ n
+one-zero zero h = refl
+one-zero (suc zero) h = refl
+one-zero (suc (suc n)) h = absurd (omega arith)
+
+below-two : (b : Bool) → ltb (val b) 2 ≡ true
+below-two true = refl
+below-two false = refl
+
+reader-numbers : (r : Reader) → readerOf (stateNumbers r) ≡ r
+unfolding readerOf stateNumbers
+reader-numbers r =
+    let c = r .candidate in
+    ap₂ (λ waits ended. record {
+      cells = r .cells;
+      candidate = record { end = c .end; held = c .held; words = c .words; at = c .at; waits = waits };
+      ended = ended;
+    }) (yes-no (c .waits)) (yes-no (r .ended))
+
+numbers-state : (r : Reader) → areState (stateNumbers r) ≡ true
+unfolding areState stateNumbers
+numbers-state r = rw (below-two (r .candidate .waits), below-two (r .ended))
+
+numbers-reader : (ns : List ℕ) → 7 ≤ length ns → areState ns ≡ true → stateNumbers (readerOf ns) ≡ ns
+unfolding areState stateNumbers readerOf
+numbers-reader [] l h = absurd (omega arith)
+numbers-reader (a ∷ []) l h = absurd (omega arith)
+numbers-reader (a ∷ b ∷ []) l h = absurd (omega arith)
+numbers-reader (a ∷ b ∷ c ∷ []) l h = absurd (omega arith)
+numbers-reader (a ∷ b ∷ c ∷ d ∷ []) l h = absurd (omega arith)
+numbers-reader (a ∷ b ∷ c ∷ d ∷ e ∷ []) l h = absurd (omega arith)
+numbers-reader (a ∷ b ∷ c ∷ d ∷ e ∷ f ∷ []) l h = absurd (omega arith)
+numbers-reader (a ∷ b ∷ c ∷ d ∷ e ∷ f ∷ g ∷ ns) l h =
+    let p = and-eq-true-iff (eqb a 0x31533252 && ltb f 2) (ltb g 2) .0 h in
+    let q = and-eq-true-iff (eqb a 0x31533252) (ltb f 2) .0 (p .0) in
+    ap (λ m. m ∷ b ∷ c ∷ d ∷ e ∷ val (eqb f 1) ∷ val (eqb g 1) ∷ ns) (sym (eqb-true a 0x31533252 (q .0)))
+    ∙ ap₂ (λ m n. a ∷ b ∷ c ∷ d ∷ e ∷ m ∷ n ∷ ns) (one-zero f (ltb-true f 2 (q .1))) (one-zero g (ltb-true g 2 (p .1)))
+
+-- ---- put, then read
+
+-- where there are at least 188 bytes
+put-is : (r : Reader) (bs : List ℕ) → tooWide (r .candidate) ≡ false → 188 ≤ length bs → statePut r bs ≡ numbersWritten (stateNumbers r) ++ drop 188 bs
+unfolding statePut
+put-is r bs w h = rw (w, le-ltb (length bs) 188 h)
+
+-- every number of the reader fits in 32 bits, and there are forty cells
+module _ (r : Reader) (bs : List ℕ) (h : 188 ≤ length bs) (f : Fit (replicate 47 32) (stateNumbers r)) where
+  count : 47 ≡ length (stateNumbers r)
+  count = sym (length-replicate {A = ℕ} 47 32) ∙ sym (length-fit (replicate 47 32) (stateNumbers r) f)
+
+  counts : tooWide (r .candidate) ≡ false
+  unfolding stateNumbers
+  counts = narrow (r .candidate) (f .1 .0) (f .1 .1 .0) (f .1 .1 .1 .0)
+
+  numbers-back : numbersIn 47 (statePut r bs) ≡ stateNumbers r
+  numbers-back =
+      ap (numbersIn 47) (put-is r bs counts h)
+      ∙ ap (λ n. numbersIn n (numbersWritten (stateNumbers r) ++ drop 188 bs)) count
+      ∙ numbers-written (stateNumbers r) (drop 188 bs) (rw (sym count) f)
+
+  long : 188 ≤ length (statePut r bs)
+  long = omega (arith, ap length (put-is r bs counts h), length-append (numbersWritten (stateNumbers r)) (drop 188 bs), length-written (stateNumbers r), count)
+
+  -- HELD after it was put
+  pub put-held : holdsState (statePut r bs) ≡ true
+  unfolding holdsState
+  put-held = ap₂ (λ t ns. not t && areState ns) (le-ltb (length (statePut r bs)) 188 long) numbers-back ∙ numbers-state r
+
+  -- READ after it was put: the same reader
+  pub put-read : stateIn (statePut r bs) ≡ r
+  unfolding stateIn
+  put-read = rw put-held (ap readerOf numbers-back ∙ reader-numbers r)
+
+  -- PUT AGAIN over it: as if it had not been
+  pub put-again : (q : Reader) → tooWide (q .candidate) ≡ false → statePut q (statePut r bs) ≡ statePut q bs
+  put-again q w =
+      put-is q (statePut r bs) w long
+      ∙ ap (λ l. numbersWritten (stateNumbers q) ++ drop 188 l) (put-is r bs counts h)
+      ∙ ap (λ l. numbersWritten (stateNumbers q) ++ l) (drop-at (numbersWritten (stateNumbers r)) (drop 188 bs) 188 size)
+      ∙ sym (put-is q bs w h)
+    where
+      size : length (numbersWritten (stateNumbers r)) ≡ 188
+      size = omega (arith, length-written (stateNumbers r), count)
+
+  -- PUT THE START over it, of a reader with the same cells: as if the whole of that reader had been put
+  pub start-put : (q : Reader) → tooWide (q .candidate) ≡ false → q .cells ≡ r .cells → startPut (q .candidate) (q .ended) (statePut r bs) ≡ statePut q bs
+  unfolding stateNumbers numbersWritten lowBytes
+  start-put q w e =
+      let start = numbersWritten (startOf (q .candidate) (q .ended)) in
+      start-is (q .candidate) (q .ended) (statePut r bs) w long
+      ∙ ap (λ l. start ++ drop 28 l) (put-is r bs counts h)
+      ∙ ap (λ cells. start ++ (numbersWritten cells ++ drop 188 bs)) (sym e)
+      ∙ sym (put-is q bs w h)
+
+-- ---- read, then put: no byte changes
+
+module _ (bs : List ℕ) (f : AreBytes bs) (e : holdsState bs ≡ true) where
+  are-state : areState (numbersIn 47 bs) ≡ true
+  unfolding holdsState
+  are-state = and-eq-true-iff (not (ltb (length bs) 188)) (areState (numbersIn 47 bs)) .0 e .1
+
+  read-is : stateIn bs ≡ readerOf (numbersIn 47 bs)
+  unfolding stateIn
+  read-is = rw e
+
+  -- each of its numbers is four bytes
+  below : (i : ℕ) → i < 47 → getD (numbersIn 47 bs) i 0 < 2 ^ 32
+  below i l = subst (λ n. n < 2 ^ 32) (sym (number-of 47 i bs l)) (number-four (drop (4 * i) bs) (fit-drop (4 * i) bs f))
+
+  counts-read : tooWide (stateIn bs .candidate) ≡ false
+  counts-read = subst (λ r. tooWide (r .candidate) ≡ false) (sym read-is) (unfold readerOf in narrow (readerOf (numbersIn 47 bs) .candidate) (below 1 (omega arith)) (below 2 (omega arith)) (below 3 (omega arith)))
+
+  pub read-put : statePut (stateIn bs) bs ≡ bs
+  read-put =
+      put-is (stateIn bs) bs counts-read (held-long bs e)
+      ∙ ap (λ r. numbersWritten (stateNumbers r) ++ drop 188 bs) read-is
+      ∙ ap (λ ns. numbersWritten ns ++ drop 188 bs) (numbers-reader (numbersIn 47 bs) (omega (arith, length-numbers 47 bs)) are-state)
+      ∙ ap (λ l. l ++ drop 188 bs) (written-numbers 47 bs f (held-long bs e))
+      ∙ take-append-drop 188 bs

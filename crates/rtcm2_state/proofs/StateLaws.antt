@@ -1,0 +1,149 @@
+-- What each function reads or puts is what the definitions say. Assumes nothing.
+use mathlib.Core.Path.{_≡_, refl, sym, ap, _∙_}
+use mathlib.Core.Bool.{Bool, true, false, _&&_, not}
+use mathlib.Core.List.{List, _++_}
+use Prim.Native.Nat.{ℕ, _+_, _^_, _≤_, _<_}
+use native.Mathlib.Omega.{arith}
+use lib.Dec.{ltb, eqb}
+use lib.ListN.{length, take, drop}
+use lib.Seq.{sets, sets-eq}
+use borrow.Author.Tests.{lt-ltb, le-ltb, ltb-false, lt-leb}
+use Rattle.bits.specs.Bits.{val}
+use Rattle.reader.specs.Reading.{started}
+use Rattle.reader.specs.declared.Candidate.{Candidate}
+use Rattle.reader.specs.declared.Reader.{Reader}
+use Rattle.rtcm2_state.specs.Numbers.{lowBytes, numberIn, numbersWritten, numbersIn}
+use Rattle.rtcm2_state.specs.State.{startOf, stateNumbers, readerOf, areState, holdsState, stateIn, tooWide, storedBy, startPut, statePut}
+use Rattle.rtcm2_state.specs.declared.Stored.the-variants as stored
+use Rattle.rtcm2_state.proofs.NumberLaws.{length-written, number-of, numbers-from}
+use Rattle.rtcm2_state.proofs.StoreLaws.{store-both, store-seven}
+
+-- ---- what is held
+
+pub held-short : (bs : List ℕ) → length bs < 188 → holdsState bs ≡ false
+unfolding holdsState
+held-short bs h = rw (lt-ltb (length bs) 188 h)
+
+-- at least 188 bytes: by the mark, waits and ended as they are read
+pub held-read : (bs : List ℕ) → 188 ≤ length bs → {a b c : ℕ}
+    → a ≡ numberIn (take 4 bs) → b ≡ numberIn (take 4 (drop 20 bs)) → c ≡ numberIn (take 4 (drop 24 bs))
+    → holdsState bs ≡ eqb a 0x31533252 && ltb b 2 && ltb c 2
+unfolding holdsState areState
+held-read bs h ea eb ec =
+    rw (
+      le-ltb (length bs) 188 h,
+      number-of 47 0 bs (omega arith),
+      number-of 47 5 bs (omega arith),
+      number-of 47 6 bs (omega arith),
+      ea,
+      eb,
+      ec,
+    )
+
+pub held-long : (bs : List ℕ) → holdsState bs ≡ true → 188 ≤ length bs
+unfolding holdsState
+held-long bs e = ltb-false (length bs) 188 (go (ltb (length bs) 188) e)
+  where
+    go : (t : Bool) → not t && areState (numbersIn 47 bs) ≡ true → t ≡ false
+    go true h = sym h
+    go false h = refl
+
+-- ---- what is read
+
+pub read-none : (bs : List ℕ) → holdsState bs ≡ false → stateIn bs ≡ started
+unfolding stateIn
+read-none bs e = rw e
+
+pub read-held : (bs : List ℕ) → holdsState bs ≡ true → {end held words at waits ended : ℕ} {cells : List ℕ}
+    → end ≡ numberIn (take 4 (drop 4 bs)) → held ≡ numberIn (take 4 (drop 8 bs)) → words ≡ numberIn (take 4 (drop 12 bs)) → at ≡ numberIn (take 4 (drop 16 bs))
+    → waits ≡ numberIn (take 4 (drop 20 bs)) → ended ≡ numberIn (take 4 (drop 24 bs)) → cells ≡ numbersIn 40 (drop 28 bs)
+    → _≡_ {A = Reader} (record {
+      cells = cells;
+      candidate = record { end = end; held = held; words = words; at = at; waits = eqb waits 1 };
+      ended = eqb ended 1;
+    }) (stateIn bs)
+unfolding stateIn readerOf
+read-held bs e {end} {held} {words} {at} {waits} {ended} {cells} e₁ e₂ e₃ e₄ e₅ e₆ e₇ =
+    rw (
+      e,
+      numbers-from 47 40 7 bs (omega arith),
+      number-of 47 1 bs (omega arith),
+      number-of 47 2 bs (omega arith),
+      number-of 47 3 bs (omega arith),
+      number-of 47 4 bs (omega arith),
+      number-of 47 5 bs (omega arith),
+      number-of 47 6 bs (omega arith),
+      e₁,
+      e₂,
+      e₃,
+      e₄,
+      e₅,
+      e₆,
+      e₇,
+    )
+
+-- ---- what is put
+
+-- the mark, the counts, waits and ended, one after the other
+pub put-counts : (c : Candidate) (ended : Bool) (l : List ℕ) {l₁ l₂ l₃ l₄ l₅ l₆ l₇ : List ℕ} {m at w e : ℕ}
+    → m ≡ 0x31533252 → at ≡ c .at → w ≡ val (c .waits) → e ≡ val ended
+    → l₁ ≡ sets l 0 (lowBytes 4 m) → l₂ ≡ sets l₁ 4 (lowBytes 4 (c .end)) → l₃ ≡ sets l₂ 8 (lowBytes 4 (c .held)) → l₄ ≡ sets l₃ 12 (lowBytes 4 (c .words))
+    → l₅ ≡ sets l₄ 16 (lowBytes 4 at) → l₆ ≡ sets l₅ 20 (lowBytes 4 w) → l₇ ≡ sets l₆ 24 (lowBytes 4 e)
+    → l₇ ≡ sets l 0 (numbersWritten (startOf c ended))
+put-counts c ended l em ea ew ee e₁ e₂ e₃ e₄ e₅ e₆ e₇ =
+    rw (e₇, e₆, e₅, e₄, e₃, e₂, e₁, em, ea, ew, ee) (store-seven l 0x31533252 (c .end) (c .held) (c .words) (c .at) (val (c .waits)) (val ended))
+
+-- counts of less than 32 bits
+pub narrow : (c : Candidate) → c .end < 2 ^ 32 → c .held < 2 ^ 32 → c .words < 2 ^ 32 → tooWide c ≡ false
+unfolding tooWide
+narrow c e h w = rw (lt-leb (2 ^ 32) (c .end) e, lt-leb (2 ^ 32) (c .held) h, lt-leb (2 ^ 32) (c .words) w)
+
+module _ (c : Candidate) (ended : Bool) (bs : List ℕ) where
+  pub start-wide : tooWide c ≡ true → (stored.Refused 5 ≡ storedBy c bs) × (bs ≡ startPut c ended bs)
+  unfolding startPut
+  start-wide w = (rw w, rw w)
+
+  module _ (w : tooWide c ≡ false) where
+    pub start-short : length bs < 188 → (stored.Refused 13 ≡ storedBy c bs) × (bs ≡ startPut c ended bs)
+    unfolding startPut
+    start-short h = (rw (w, lt-ltb (length bs) 188 h), rw (w, lt-ltb (length bs) 188 h))
+
+    pub start-done : 188 ≤ length bs → stored.Done ≡ storedBy c bs
+    start-done h = rw (w, le-ltb (length bs) 188 h)
+
+    -- where there are at least 188 bytes
+    pub start-is : 188 ≤ length bs → startPut c ended bs ≡ numbersWritten (startOf c ended) ++ drop 28 bs
+    unfolding startPut
+    start-is h = rw (w, le-ltb (length bs) 188 h)
+
+  pub start-whole : tooWide c ≡ false → 188 ≤ length bs → {l : List ℕ} → l ≡ sets bs 0 (numbersWritten (startOf c ended)) → l ≡ startPut c ended bs
+  start-whole w h e =
+      e ∙ sets-eq (numbersWritten (startOf c ended)) bs 0 (omega (arith, size)) ∙ ap (λ j. numbersWritten (startOf c ended) ++ drop j bs) size
+      ∙ sym (start-is w h)
+    where
+      size : 0 + length (numbersWritten (startOf c ended)) ≡ 28
+      size = omega (arith, length-written (startOf c ended))
+
+module _ (r : Reader) (bs : List ℕ) where
+  pub put-wide : tooWide (r .candidate) ≡ true → bs ≡ statePut r bs
+  unfolding statePut
+  put-wide w = rw w
+
+  pub put-short : tooWide (r .candidate) ≡ false → length bs < 188 → bs ≡ statePut r bs
+  unfolding statePut
+  put-short w h = rw (w, lt-ltb (length bs) 188 h)
+
+  -- the start, then the cells
+  pub put-whole : tooWide (r .candidate) ≡ false → length (r .cells) ≡ 40 → 188 ≤ length bs → {l m : List ℕ}
+      → l ≡ sets bs 0 (numbersWritten (startOf (r .candidate) (r .ended))) → m ≡ sets l 28 (numbersWritten (r .cells))
+      → m ≡ statePut r bs
+  unfolding statePut stateNumbers
+  put-whole w full h {l} {m} el em =
+      em ∙ ap (λ k. sets k 28 (numbersWritten (r .cells))) el
+      ∙ sym (store-both (startOf (r .candidate) (r .ended)) (r .cells) bs 0)
+      ∙ sets-eq (numbersWritten (startOf (r .candidate) (r .ended) ++ r .cells)) bs 0 (omega (arith, size))
+      ∙ ap (λ j. numbersWritten (startOf (r .candidate) (r .ended) ++ r .cells) ++ drop j bs) size
+      ∙ sym (rw (w, le-ltb (length bs) 188 h))
+    where
+      size : 0 + length (numbersWritten (startOf (r .candidate) (r .ended) ++ r .cells)) ≡ 188
+      size = omega (arith, length-written (startOf (r .candidate) (r .ended) ++ r .cells))
