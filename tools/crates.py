@@ -14,6 +14,16 @@ def read_crate(root, name):
     return crate
 
 
+def of_tests(name):
+    """Whether a crate is of the tests: a program that prints worked cases, or what such programs share."""
+    return name.startswith("test_")
+
+
+def is_library(root, name):
+    """Whether a crate is the package's own code and no program."""
+    return not of_tests(name) and (Path(root) / "crates" / name / "src/lib.rt").exists()
+
+
 def public_functions(crate, crates):
     """The functions that other crates can call, and what cannot be said of them. A method of an `impl` block may be reached through its type."""
     found, amiss = [], []
