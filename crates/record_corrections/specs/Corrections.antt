@@ -11,8 +11,8 @@ use Rattle.frame.specs.declared.Header.{Header}
 use Rattle.frame.specs.declared.Frame.{Frame}
 use Rattle.frame.specs.declared.Layout.the-variants as layout
 use Rattle.record_fields.specs.Coding.{Coding, frameBits}
-use Rattle.record_fields.specs.Tables.{row, rowOut}
-use Rattle.record_fields.specs.Satellites.{satelliteOf, satelliteCode}
+use Rattle.record_fields.specs.Tables.{row, codesOf, rowOut}
+use Rattle.record_fields.specs.Satellites.{satelliteOf}
 use Rattle.record_stages.specs.declared.Count.{Count}
 use Rattle.record_stages.specs.declared.Made.{Made}
 use Rattle.record_stages.specs.Lists.{listCount, listEntry, listMade, MadeReads, Sendable, Holding, ListRead}
@@ -35,8 +35,13 @@ meant vs = record {
   iod = getD vs 5 0;
 }
 
+-- an entry's numbers, in the order of the fields
+abbrev pub numbers : Correction → List ℕ
+numbers e = row (e .scale ∷ e .udre ∷ e .satellite ∷ code 15 (e .prc) ∷ code 7 (e .rrc) ∷ e .iod ∷ [])
+
+-- what is sent of them, their low bits: satellite 32 is sent as 0
 abbrev pub codes : Correction → List ℕ
-codes e = e .scale ∷ e .udre ∷ satelliteCode (e .satellite) ∷ code 15 (e .prc) ∷ code 7 (e .rrc) ∷ e .iod ∷ []
+codes e = codesOf widths (numbers e)
 
 abbrev pub coding : Coding Correction
 coding = record { widths = widths; meant = meant; codes = codes }
@@ -55,10 +60,6 @@ least = 0 ∷ 0 ∷ 1 ∷ []
 
 abbrev pub most : List ℕ
 most = 1 ∷ 3 ∷ 32 ∷ []
-
--- an entry's numbers, in the order of the fields
-abbrev pub numbers : Correction → List ℕ
-numbers e = row (e .scale ∷ e .udre ∷ e .satellite ∷ code 15 (e .prc) ∷ code 7 (e .rrc) ∷ e .iod ∷ [])
 
 abbrev pub outOfRange : Correction → Bool
 outOfRange e = rowOut least most (numbers e)

@@ -5,4 +5,5 @@ pub mod Holds
 pub mod TableLaws
 pub mod Words
 pub mod Round
+pub mod TableRound
 pub mod Making

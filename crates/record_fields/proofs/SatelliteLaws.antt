@@ -19,6 +19,11 @@ pub code-back : (n : ℕ) → n < 32 → satelliteCode (satelliteOf n) ≡ n
 code-back zero h = refl
 code-back (suc n) h = rw (ne-eqb (suc n) 0 (λ z. omega arith)) (omega arith)
 
+-- a satellite's low five bits are those of its code
+pub satellite-low : (n : ℕ) → satelliteOf n % 32 ≡ n % 32
+satellite-low zero = refl
+satellite-low (suc n) = rw (ne-eqb (suc n) 0 (λ z. omega arith))
+
 -- a code of five bits is its low five bits
 pub low-five : (n : ℕ) → n < 32 → satelliteOf (n % 32) ≡ satelliteOf n
 low-five n h = ap satelliteOf (mod-eq-of-lt h)

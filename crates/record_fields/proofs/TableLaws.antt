@@ -20,7 +20,7 @@ use Rattle.frame.proofs.WidthLaws.{both-false}
 use Rattle.record_fields.specs.declared.Packer.{Packer}
 use Rattle.record_fields.specs.declared.Rows.{Rows}
 use Rattle.record_fields.specs.Packing.{fieldIn, pushed, joined, pushedAll, pushedRows}
-use Rattle.record_fields.specs.Tables.{padded, row, fieldsIn, rowOut, putRow, putRows}
+use Rattle.record_fields.specs.Tables.{padded, row, codesOf, fieldsIn, rowOut, putRow, putRows}
 use Rattle.record_fields.proofs.PackCode.{field-in, field-none}
 use Rattle.record_fields.proofs.Holds.{Narrow}
 
@@ -106,9 +106,15 @@ row-read ds ws o vs e n r = e ∙ ap row (fields-in ds ws o n r)
 -- ---- putting
 
 -- the value sent is its low bits
-pub push-low : (p : Packer) (w v : ℕ) → pushed p w v ≡ pushed p w (v % 2 ^ w)
+push-low : (p : Packer) (w v : ℕ) → pushed p w v ≡ pushed p w (v % 2 ^ w)
 unfolding pushed joined
 push-low p w v = rw (mod-mod v (2 ^ w))
+
+-- and of a row its codes
+pub push-codes : (ws vs : List ℕ) (p : Packer) → pushedAll ws vs p ≡ pushedAll ws (codesOf ws vs) p
+push-codes [] vs p = refl
+push-codes (w ∷ ws) [] p = push-codes ws [] (pushed p w 0)
+push-codes (w ∷ ws) (v ∷ vs) p = push-codes ws vs (pushed p w v) ∙ ap (pushedAll ws (codesOf ws vs)) (push-low p w v)
 
 -- the next value; past the last it is 0
 tail-next : (us : List ℕ) (j : ℕ) (p : Packer) → j < length us

@@ -1,7 +1,7 @@
 -- A layout as tables: the widths of its fields, and the least and the most of each number. A row is twelve values. Assumes nothing.
 use mathlib.Core.Bool.{Bool, false, _||_}
 use mathlib.Core.List.{List, [], _∷_}
-use Prim.Native.Nat.{ℕ, zero, suc, _+_}
+use Prim.Native.Nat.{ℕ, zero, suc, _+_, _%_, _^_}
 use lib.Dec.{ltb}
 use lib.ListN.{getD, drop}
 use Rattle.record_fields.specs.declared.Rows.{Rows}
@@ -16,6 +16,12 @@ padded (suc k) (v ∷ vs) = v ∷ padded k vs
 -- A ROW
 abbrev pub row : List ℕ → List ℕ
 row vs = padded 12 vs
+
+-- THE CODES of a row, the low bits of each value by its width; a value that is missing counts as 0
+abbrev pub codesOf : List ℕ → List ℕ → List ℕ
+codesOf [] vs = []
+codesOf (w ∷ ws) [] = 0 ∷ codesOf ws []
+codesOf (w ∷ ws) (v ∷ vs) = v % 2 ^ w ∷ codesOf ws vs
 
 -- the fields of these widths one after the other, from bit o on, as the code reads each
 abbrev pub fieldsIn : List ℕ → List ℕ → ℕ → List ℕ

@@ -8,8 +8,8 @@ use Rattle.frame.specs.declared.Header.{Header}
 use Rattle.frame.specs.declared.Frame.{Frame}
 use Rattle.frame.specs.declared.Layout.the-variants as layout
 use Rattle.record_fields.specs.Coding.{Coding}
-use Rattle.record_fields.specs.Tables.{row, rowOut}
-use Rattle.record_fields.specs.Satellites.{satelliteOf, satelliteCode}
+use Rattle.record_fields.specs.Tables.{row, codesOf, rowOut}
+use Rattle.record_fields.specs.Satellites.{satelliteOf}
 use Rattle.record_stages.specs.declared.Count.{Count}
 use Rattle.record_stages.specs.declared.Made.{Made}
 use Rattle.record_stages.specs.Lists.{listCount, listEntry, listMade, MadeReads, Sendable, Holding, ListRead}
@@ -35,9 +35,14 @@ meant vs = record {
   spare = getD vs 9 0;
 }
 
+-- an entry's numbers, in the order of the fields
+abbrev pub numbers : SatelliteHealth → List ℕ
+numbers e =
+    row (e .reserved ∷ e .satellite ∷ e .link ∷ e .health ∷ e .cn0 ∷ e .enable ∷ e .new_data ∷ e .loss ∷ e .time ∷ e .spare ∷ [])
+
+-- what is sent of them, their low bits: satellite 32 is sent as 0
 abbrev pub codes : SatelliteHealth → List ℕ
-codes e =
-    e .reserved ∷ satelliteCode (e .satellite) ∷ e .link ∷ e .health ∷ e .cn0 ∷ e .enable ∷ e .new_data ∷ e .loss ∷ e .time ∷ e .spare ∷ []
+codes e = codesOf widths (numbers e)
 
 abbrev pub coding : Coding SatelliteHealth
 coding = record { widths = widths; meant = meant; codes = codes }
@@ -52,11 +57,6 @@ least = 0 ∷ 1 ∷ 0 ∷ 0 ∷ 0 ∷ 0 ∷ 0 ∷ 0 ∷ 0 ∷ 0 ∷ []
 
 abbrev pub most : List ℕ
 most = 1 ∷ 32 ∷ 1 ∷ 7 ∷ 31 ∷ 1 ∷ 1 ∷ 1 ∷ 15 ∷ 3 ∷ []
-
--- an entry's numbers, in the order of the fields
-abbrev pub numbers : SatelliteHealth → List ℕ
-numbers e =
-    row (e .reserved ∷ e .satellite ∷ e .link ∷ e .health ∷ e .cn0 ∷ e .enable ∷ e .new_data ∷ e .loss ∷ e .time ∷ e .spare ∷ [])
 
 abbrev pub outOfRange : SatelliteHealth → Bool
 outOfRange e = rowOut least most (numbers e)

@@ -1,26 +1,26 @@
 -- Types 1 and 9: what the layout owes; what can be sent is made, made then read, read then made; what a frame holds is read.
 -- Assumes nothing.
-use mathlib.Core.Path.{_≡_, ap, ap₂, _∙_}
+use mathlib.Core.Path.{_≡_}
 use mathlib.Core.Bool.{false}
-use mathlib.Core.List.{List, [], _∷_}
+use mathlib.Core.List.{List}
 use Prim.Native.Nat.{ℕ, _+_, _*_, _/_, _≤_, _<_}
+use native.Mathlib.Nat.{mod-eq-of-lt}
 use native.Mathlib.Omega.{arith}
 use lib.ListN.{length, take, getD}
-use Rattle.bits.specs.Fields.{Fit}
-use Rattle.bits.specs.Signed.{signed, code}
-use Rattle.bits.proofs.SignedLaws.{code-signed, signed-code, code-lt}
+use Rattle.bits.proofs.SignedLaws.{code-signed}
 use Rattle.frame.specs.declared.Header.{Header}
 use Rattle.frame.specs.declared.Frame.{Frame}
 use Rattle.frame.specs.declared.Layout.the-variants as layout
 use Rattle.record_fields.specs.Coding.{frameWith, Each}
 use Rattle.record_fields.proofs.Round.{Faithful}
+use Rattle.record_fields.proofs.TableRound.{Below, signed-low, by-tables}
 use Rattle.record_fields.proofs.TableLaws.{row-fine, row-told}
-use Rattle.record_fields.proofs.SatelliteLaws.{satellite-back, code-back, satellite-some, satellite-few}
+use Rattle.record_fields.proofs.SatelliteLaws.{satellite-back, satellite-low, satellite-some, satellite-few}
 use Rattle.record_stages.specs.declared.Count.the-variants as count
 use Rattle.record_stages.specs.Stages.{entriesHeld, doneMade, IsMade}
 use Rattle.record_corrections.specs.declared.Correction.{Correction}
 use Rattle.record_corrections.specs.declared.CorrectionRead.the-variants as read
-use Rattle.record_corrections.specs.Corrections.{widths, meant, codes, coding, fill, StandardFill, least, most, numbers, outOfRange, countCorrections, correctionAt, makeCorrections, Typed, CorrectionsMade, InRange, SendableCorrections, HoldsCorrections, ReadsCorrections}
+use Rattle.record_corrections.specs.Corrections.{widths, meant, coding, fill, StandardFill, least, most, numbers, outOfRange, countCorrections, correctionAt, makeCorrections, Typed, CorrectionsMade, InRange, SendableCorrections, HoldsCorrections, ReadsCorrections}
 use Rattle.record_laws.proofs.ListTrips.{list-held, made-then-read, read-then-made}
 use Rattle.record_laws.proofs.SentLaws.{list-made, list-told, list-read}
 
@@ -52,47 +52,32 @@ good e t o =
       few = r .most;
     }
 
--- ---- the three laws on codes
+-- ---- what the codes owe
 
 faithful : Faithful coding Good
-faithful = record { meant-codes = meant-codes; fit-codes = fit-codes; codes-meant = codes-meant }
-  where
-    meant-codes : (e : Correction) → Good e → meant (codes e) ≡ e
-    meant-codes e g =
-        ap₂ (λ s p. record { scale = e .scale; udre = e .udre; satellite = s; prc = p; rrc = signed 7 (code 7 (e .rrc)); iod = e .iod })
-        (satellite-back (e .satellite) (g .some) (g .few)) (signed-code 15 (e .prc) (g .typed .prc))
-        ∙ ap (λ r. record { scale = e .scale; udre = e .udre; satellite = e .satellite; prc = e .prc; rrc = r; iod = e .iod })
-        (signed-code 7 (e .rrc) (g .typed .rrc))
-
-    fit-codes : (e : Correction) → Good e → Fit widths (codes e)
-    fit-codes e g =
-        (g .scale, (g .udre, (omega arith, (code-lt 15 (e .prc) (g .typed .prc), (code-lt 7 (e .rrc) (g .typed .rrc), (g .typed .iod, tt))))))
-
-    codes-meant : (vs : List ℕ) → Fit widths vs → codes (meant vs) ≡ vs
-    codes-meant [] f = absurd f
-    codes-meant (a ∷ []) f = absurd (f .1)
-    codes-meant (a ∷ b ∷ []) f = absurd (f .1 .1)
-    codes-meant (a ∷ b ∷ s ∷ []) f = absurd (f .1 .1 .1)
-    codes-meant (a ∷ b ∷ s ∷ x ∷ []) f = absurd (f .1 .1 .1 .1)
-    codes-meant (a ∷ b ∷ s ∷ x ∷ y ∷ []) f = absurd (f .1 .1 .1 .1 .1)
-    codes-meant (a ∷ b ∷ s ∷ x ∷ y ∷ z ∷ v ∷ vs) f = absurd (f .1 .1 .1 .1 .1 .1)
-    codes-meant (a ∷ b ∷ s ∷ x ∷ y ∷ z ∷ []) f =
-        ap₂ (λ u v. a ∷ b ∷ u ∷ v ∷ code 7 (signed 7 y) ∷ z ∷ []) (code-back s (f .1 .1 .0)) (code-signed 15 x (f .1 .1 .1 .0))
-        ∙ ap (λ v. a ∷ b ∷ s ∷ x ∷ v ∷ z ∷ []) (code-signed 7 y (f .1 .1 .1 .1 .0))
+faithful =
+    by-tables widths meant numbers Good
+    (λ e g. rw (
+      mod-eq-of-lt (g .scale),
+      mod-eq-of-lt (g .udre),
+      satellite-back (e .satellite) (g .some) (g .few),
+      signed-low 15 (e .prc) (g .typed .prc),
+      signed-low 7 (e .rrc) (g .typed .rrc),
+      mod-eq-of-lt (g .typed .iod),
+    ))
+    (λ vs at. rw (satellite-low (getD vs 2 0), code-signed 15 (getD vs 3 0) (at 3), code-signed 7 (getD vs 4 0) (at 4)))
 
 -- what is read is in range
-in-range : (vs : List ℕ) → Fit widths vs → outOfRange (meant vs) ≡ false
-in-range [] f = absurd f
-in-range (a ∷ []) f = absurd (f .1)
-in-range (a ∷ b ∷ []) f = absurd (f .1 .1)
-in-range (a ∷ b ∷ s ∷ vs) f =
-    row-fine least most (numbers (meant (a ∷ b ∷ s ∷ vs)))
-    (omega arith, omega (arith, f .0), (omega arith, omega (arith, f .1 .0), (satellite-some s (f .1 .1 .0), satellite-few s (f .1 .1 .0), tt)))
+in-range : (vs : List ℕ) → Below widths vs → outOfRange (meant vs) ≡ false
+in-range vs at = range-fine (meant vs) record {
+  scale = omega (arith, at 0);
+  udre = omega (arith, at 1);
+  least = satellite-some (getD vs 2 0) (at 2);
+  most = satellite-few (getD vs 2 0) (at 2);
+}
 
 sized : (c : ℕ) → 0 < c → c ≤ 18 → (c * 40 ≤ 744) × (entriesHeld 40 ((c * 40 + 23) / 24) ≡ c)
 sized c l h = (omega arith, omega arith)
-
--- ---- N as RULES 8 writes it: 5k, 5k + 2, 5k + 4 words for 3k, 3k + 1, 3k + 2 satellites
 
 -- ---- the theorems
 

@@ -1,27 +1,24 @@
 -- Type 5: what the layout owes; what can be sent is made, made then read, read then made; what a frame holds is read. Assumes nothing.
-use mathlib.Core.Path.{_≡_, ap}
-use mathlib.Core.Bool.{false, _||_}
-use mathlib.Core.List.{List, [], _∷_}
+use mathlib.Core.Path.{_≡_}
+use mathlib.Core.Bool.{false}
+use mathlib.Core.List.{List}
 use Prim.Native.Nat.{ℕ, _+_, _*_, _/_, _≤_, _<_}
+use native.Mathlib.Nat.{mod-eq-of-lt}
 use native.Mathlib.Omega.{arith}
-use lib.Dec.{ltb}
 use lib.ListN.{length, take, getD}
-use borrow.Author.Tests.{ltb-false, le-ltb}
-use Rattle.bits.specs.Fields.{Fit}
 use Rattle.frame.specs.declared.Header.{Header}
 use Rattle.frame.specs.declared.Frame.{Frame}
 use Rattle.frame.specs.declared.Layout.the-variants as layout
-use Rattle.frame.proofs.WidthLaws.{both-false}
 use Rattle.record_fields.specs.Coding.{frameWith}
 use Rattle.record_fields.proofs.Round.{Faithful}
+use Rattle.record_fields.proofs.TableRound.{Below, by-tables}
 use Rattle.record_fields.proofs.TableLaws.{row-fine, row-told}
-use Rattle.record_fields.specs.Satellites.{satelliteOf}
-use Rattle.record_fields.proofs.SatelliteLaws.{satellite-back, code-back, satellite-some, satellite-few}
+use Rattle.record_fields.proofs.SatelliteLaws.{satellite-back, satellite-low, satellite-some, satellite-few}
 use Rattle.record_stages.specs.declared.Count.the-variants as count
 use Rattle.record_stages.specs.Stages.{entriesHeld, doneMade, IsMade}
 use Rattle.record_healths.specs.declared.SatelliteHealth.{SatelliteHealth}
 use Rattle.record_healths.specs.declared.HealthRead.the-variants as read
-use Rattle.record_healths.specs.Healths.{widths, meant, codes, coding, fill, least, most, numbers, outOfRange, countHealths, healthAt, makeHealths, HealthsMade, InRange, SendableHealths, HoldsHealths, ReadsHealths}
+use Rattle.record_healths.specs.Healths.{widths, meant, coding, fill, least, most, numbers, outOfRange, countHealths, healthAt, makeHealths, HealthsMade, InRange, SendableHealths, HoldsHealths, ReadsHealths}
 use Rattle.record_laws.proofs.ListTrips.{list-held, made-then-read, read-then-made, each-any, no-fill}
 use Rattle.record_laws.proofs.SentLaws.{list-made, list-told, list-read}
 
@@ -54,59 +51,40 @@ range-told e o =
 good : (e : SatelliteHealth) → Unit {0} → outOfRange e ≡ false → Good e
 good e t o = range-told e o
 
--- ---- the three laws on codes
+-- ---- what the codes owe
 
 faithful : Faithful coding Good
-faithful = record { meant-codes = meant-codes; fit-codes = fit-codes; codes-meant = codes-meant }
-  where
-    meant-codes : (e : SatelliteHealth) → Good e → meant (codes e) ≡ e
-    meant-codes e g =
-        ap (λ s. record {
-          reserved = e .reserved;
-          satellite = s;
-          link = e .link;
-          health = e .health;
-          cn0 = e .cn0;
-          enable = e .enable;
-          new_data = e .new_data;
-          loss = e .loss;
-          time = e .time;
-          spare = e .spare;
-        })
-        (satellite-back (e .satellite) (g .some) (g .few))
-
-    fit-codes : (e : SatelliteHealth) → Good e → Fit widths (codes e)
-    fit-codes e g = (g .reserved, (omega arith, (g .link, (g .health, (g .cn0, (g .enable, (g .new, (g .loss, (g .time, (g .spare, tt))))))))))
-
-    codes-meant : (vs : List ℕ) → Fit widths vs → codes (meant vs) ≡ vs
-    codes-meant [] q = absurd q
-    codes-meant (a ∷ []) q = absurd (q .1)
-    codes-meant (a ∷ b ∷ []) q = absurd (q .1 .1)
-    codes-meant (a ∷ b ∷ c ∷ []) q = absurd (q .1 .1 .1)
-    codes-meant (a ∷ b ∷ c ∷ d ∷ []) q = absurd (q .1 .1 .1 .1)
-    codes-meant (a ∷ b ∷ c ∷ d ∷ e ∷ []) q = absurd (q .1 .1 .1 .1 .1)
-    codes-meant (a ∷ b ∷ c ∷ d ∷ e ∷ f ∷ []) q = absurd (q .1 .1 .1 .1 .1 .1)
-    codes-meant (a ∷ b ∷ c ∷ d ∷ e ∷ f ∷ g ∷ []) q = absurd (q .1 .1 .1 .1 .1 .1 .1)
-    codes-meant (a ∷ b ∷ c ∷ d ∷ e ∷ f ∷ g ∷ h ∷ []) q = absurd (q .1 .1 .1 .1 .1 .1 .1 .1)
-    codes-meant (a ∷ b ∷ c ∷ d ∷ e ∷ f ∷ g ∷ h ∷ i ∷ []) q = absurd (q .1 .1 .1 .1 .1 .1 .1 .1 .1)
-    codes-meant (a ∷ b ∷ c ∷ d ∷ e ∷ f ∷ g ∷ h ∷ i ∷ j ∷ k ∷ ks) q = absurd (q .1 .1 .1 .1 .1 .1 .1 .1 .1 .1)
-    codes-meant (a ∷ b ∷ c ∷ d ∷ e ∷ f ∷ g ∷ h ∷ i ∷ j ∷ []) q = ap (λ s. a ∷ s ∷ c ∷ d ∷ e ∷ f ∷ g ∷ h ∷ i ∷ j ∷ []) (code-back b (q .1 .0))
+faithful =
+    by-tables widths meant numbers Good
+    (λ e g. rw (
+      mod-eq-of-lt (g .reserved),
+      satellite-back (e .satellite) (g .some) (g .few),
+      mod-eq-of-lt (g .link),
+      mod-eq-of-lt (g .health),
+      mod-eq-of-lt (g .cn0),
+      mod-eq-of-lt (g .enable),
+      mod-eq-of-lt (g .new),
+      mod-eq-of-lt (g .loss),
+      mod-eq-of-lt (g .time),
+      mod-eq-of-lt (g .spare),
+    ))
+    (λ vs at. rw (satellite-low (getD vs 1 0)))
 
 -- what is read is in range
-in-range : (vs : List ℕ) → Fit widths vs → outOfRange (meant vs) ≡ false
-in-range [] q = absurd q
-in-range (a ∷ []) q = absurd (q .1)
-in-range (a ∷ b ∷ []) q = absurd (q .1 .1)
-in-range (a ∷ b ∷ c ∷ []) q = absurd (q .1 .1 .1)
-in-range (a ∷ b ∷ c ∷ d ∷ []) q = absurd (q .1 .1 .1 .1)
-in-range (a ∷ b ∷ c ∷ d ∷ e ∷ []) q = absurd (q .1 .1 .1 .1 .1)
-in-range (a ∷ b ∷ c ∷ d ∷ e ∷ f ∷ []) q = absurd (q .1 .1 .1 .1 .1 .1)
-in-range (a ∷ b ∷ c ∷ d ∷ e ∷ f ∷ g ∷ []) q = absurd (q .1 .1 .1 .1 .1 .1 .1)
-in-range (a ∷ b ∷ c ∷ d ∷ e ∷ f ∷ g ∷ h ∷ []) q = absurd (q .1 .1 .1 .1 .1 .1 .1 .1)
-in-range (a ∷ b ∷ c ∷ d ∷ e ∷ f ∷ g ∷ h ∷ i ∷ []) q = absurd (q .1 .1 .1 .1 .1 .1 .1 .1 .1)
-in-range (a ∷ b ∷ c ∷ d ∷ e ∷ f ∷ g ∷ h ∷ i ∷ j ∷ ks) q =
-    row-fine least most (numbers (meant (a ∷ b ∷ c ∷ d ∷ e ∷ f ∷ g ∷ h ∷ i ∷ j ∷ ks)))
-    (omega arith, omega (arith, q .0), (satellite-some b (q .1 .0), satellite-few b (q .1 .0), (omega arith, omega (arith, q .1 .1 .0), (omega arith, omega (arith, q .1 .1 .1 .0), (omega arith, omega (arith, q .1 .1 .1 .1 .0), (omega arith, omega (arith, q .1 .1 .1 .1 .1 .0), (omega arith, omega (arith, q .1 .1 .1 .1 .1 .1 .0), (omega arith, omega (arith, q .1 .1 .1 .1 .1 .1 .1 .0), (omega arith, omega (arith, q .1 .1 .1 .1 .1 .1 .1 .1 .0), (omega arith, omega (arith, q .1 .1 .1 .1 .1 .1 .1 .1 .1 .0), tt))))))))))
+in-range : (vs : List ℕ) → Below widths vs → outOfRange (meant vs) ≡ false
+in-range vs at = range-fine (meant vs) record {
+  reserved = at 0;
+  link = at 2;
+  health = at 3;
+  cn0 = at 4;
+  enable = at 5;
+  new = at 6;
+  loss = at 7;
+  time = at 8;
+  spare = at 9;
+  some = satellite-some (getD vs 1 0) (at 1);
+  few = satellite-few (getD vs 1 0) (at 1);
+}
 
 sized : (c : ℕ) → 0 < c → c ≤ 31 → (c * 24 ≤ 744) × (entriesHeld 24 ((c * 24 + 23) / 24) ≡ c)
 sized c l h = (omega arith, omega arith)

@@ -11,7 +11,7 @@ use lib.Seq.{getD-take}
 use borrow.Author.Tests.{leb-false}
 use Rattle.answer.specs.Order.{NoneApplies}
 use Rattle.answer.proofs.OrderLaws.{order-answers, order-told}
-use Rattle.bits.specs.Fields.{span, Fit}
+use Rattle.bits.specs.Fields.{span}
 use Rattle.bits.specs.Bits.{bits}
 use Rattle.bits.specs.Rows.{dataBits, rowsAt, fillOf, FillAfter}
 use Rattle.bits.proofs.RowLaws.{fits-rows}
@@ -25,6 +25,7 @@ use Rattle.frame.proofs.FrameLaws.{header-within, n-within, length-data as leng
 use Rattle.frame.proofs.WidthLaws.{both-false}
 use Rattle.record_fields.specs.Coding.{Coding, frameBits, entryIn, frameWith, Each}
 use Rattle.record_fields.proofs.Round.{Faithful, made-n, made-inside, made-fill, made-entry, entries-read, made-again, none-read}
+use Rattle.record_fields.proofs.TableRound.{Below, fit-below}
 use Rattle.record_stages.specs.declared.Count.the-variants as count
 use Rattle.record_stages.specs.Stages.{wrongCount, otherLayout, entriesHeld, misfit, readOrder, makeOrder, refusedMade, doneMade}
 use Rattle.record_stages.specs.Lists.{listCount, listEntry, listMade, MadeReads, Sendable, Holding, ListRead}
@@ -160,7 +161,7 @@ module _ {A B : Type 0} (asked : Layout) (k : Coding A) (pattern most : ℕ) (ou
       (done-frame (sym (list-made asked k pattern most out (λ x. out x ≡ false) (λ x o. o) h es c d s) ∙ e)) (made-reads h es c d typed s)
 
   -- READ, THEN MADE
-  module _ (none : (vs : List ℕ) → Fit (k .widths) vs → out (k .meant vs) ≡ false)
+  module _ (none : (vs : List ℕ) → Below (k .widths) vs → out (k .meant vs) ≡ false)
       (bounded : (n : ℕ) → n ≤ 31 → entriesHeld (span (k .widths)) n ≤ most)
       (refuse-apart : (n : ℕ) (e : A) → refuse n ≡ entry e → ⊥) (entry-inj : (a b : A) → entry a ≡ entry b → a ≡ b) where
     pub read-then-made : (f : Frame) (es : List A) (c : ℕ) (d : A) → length (f .words) ≡ 31 → c ≤ length es
@@ -176,7 +177,7 @@ module _ {A B : Type 0} (asked : Layout) (k : Coding A) (pattern most : ℕ) (ou
               r .hour,
               (
                 count-fits,
-                (ap (anyOf out) same ∙ none-read k out none (rowsAt (k .widths) c 0 (frameBits f)) (fits-rows (k .widths) c 0 (frameBits f)), tt),
+                (ap (anyOf out) same ∙ none-read k out (λ vs f. none vs (fit-below (k .widths) vs f)) (rowsAt (k .widths) c 0 (frameBits f)) (fits-rows (k .widths) c 0 (frameBits f)), tt),
               ),
             ),
           ),

@@ -7,7 +7,7 @@ use native.Mathlib.Omega.{arith}
 use lib.IntN.{ℤ, pos, negsuc}
 use lib.Signed.{mag}
 use lib.Dec.{ltb}
-use lib.ListN.{length, take, drop, drop-of-length-le}
+use lib.ListN.{length, take, drop, getD, drop-of-length-le}
 use borrow.Author.Tests.{ltb-true, lt-ltb}
 use Rattle.answer.specs.Order.{NoneApplies}
 use Rattle.answer.proofs.OrderLaws.{order-answers, order-told}
@@ -26,6 +26,7 @@ use Rattle.frame.specs.declared.Layout.the-variants as layout
 use Rattle.frame.proofs.FrameLaws.{header-within, length-data as length-data-words}
 use Rattle.frame.proofs.WidthLaws.{both-false}
 use Rattle.record_fields.specs.Coding.{frameBits, frameWith}
+use Rattle.record_fields.proofs.TableRound.{fit-below, fit-places}
 use Rattle.record_fields.proofs.Round.{Faithful, made-n, made-inside, made-entry, made-again}
 use Rattle.record_stages.specs.Stages.{wrongSize, readOrder, makeOrder, refusedMade, doneMade, IsMade}
 use Rattle.record_stages.proofs.StageLaws.{done-apart, done-frame}
@@ -48,13 +49,9 @@ faithful = record { meant-codes = meant-codes; fit-codes = fit-codes; codes-mean
     fit-codes p t = (code-lt 31 (p .x) (t .x), (code-lt 31 (p .y) (t .y), (code-lt 31 (p .z) (t .z), tt)))
 
     codes-meant : (vs : List ℕ) → Fit widths vs → codes (meant vs) ≡ vs
-    codes-meant [] f = absurd f
-    codes-meant (a ∷ []) f = absurd (f .1)
-    codes-meant (a ∷ b ∷ []) f = absurd (f .1 .1)
-    codes-meant (a ∷ b ∷ c ∷ d ∷ vs) f = absurd (f .1 .1 .1)
-    codes-meant (a ∷ b ∷ c ∷ []) f =
-        ap₂ (λ u v. u ∷ v ∷ code 31 (signed 31 c) ∷ []) (code-signed 31 a (f .0)) (code-signed 31 b (f .1 .0))
-        ∙ ap (λ w. a ∷ b ∷ w ∷ []) (code-signed 31 c (f .1 .1 .0))
+    codes-meant vs f =
+        let at = fit-below widths vs f in
+        rw (code-signed 31 (getD vs 0 0) (at 0), code-signed 31 (getD vs 1 0) (at 1), code-signed 31 (getD vs 2 0) (at 2)) (fit-places widths vs f)
 
 -- ---- what refusal 10 says of a position, both ways
 

@@ -8,13 +8,13 @@ use lib.Dec.{ltb}
 use lib.ListN.{length, getD, replicate}
 use borrow.Author.Tests.{ltb-false}
 use Rattle.bits.specs.Bits.{bits}
-use Rattle.bits.specs.Fields.{Fit}
 use Rattle.bits.specs.Rows.{packedRows, AllFit, fillOf}
 use Rattle.frame.specs.Widths.{anyOf}
 use Rattle.frame.proofs.WidthLaws.{both-false}
 use Rattle.record_fields.specs.Coding.{rowsOf, Each}
 use Rattle.record_fields.proofs.Round.{Faithful}
-use Rattle.record_texts.specs.Texts.{widths, meant, codes, coding, fill, forbidden}
+use Rattle.record_fields.proofs.TableRound.{fit-places}
+use Rattle.record_texts.specs.Texts.{widths, coding, fill, forbidden}
 
 -- ---- the three laws on codes
 
@@ -22,12 +22,7 @@ abbrev pub Good : ℕ → Type 0
 Good c = c < 2 ^ 8
 
 pub faithful : Faithful coding Good
-faithful = record { meant-codes = λ c g. refl; fit-codes = λ c g. (g, tt); codes-meant = codes-meant }
-  where
-    codes-meant : (vs : List ℕ) → Fit widths vs → codes (meant vs) ≡ vs
-    codes-meant [] f = absurd f
-    codes-meant (c ∷ []) f = refl
-    codes-meant (c ∷ d ∷ vs) f = absurd (f .1)
+faithful = record { meant-codes = λ c g. refl; fit-codes = λ c g. (g, tt); codes-meant = fit-places widths }
 
 pub allowed : (c : ℕ) → forbidden c ≡ false → (1 ≤ c) × (c ≤ 127)
 allowed c e = let s = both-false (ltb c 1) (ltb 127 c) e in (ltb-false c 1 (s .0), ltb-false 127 c (s .1))

@@ -11,6 +11,7 @@ use Rattle.bits.specs.Fields.{Fit}
 use Rattle.bits.specs.Signed.{signed, code}
 use Rattle.bits.proofs.SignedLaws.{code-signed, signed-code, code-lt}
 use Rattle.record_fields.proofs.Round.{Faithful}
+use Rattle.record_fields.proofs.TableRound.{fit-below, fit-places}
 use Rattle.record_corrections.specs.declared.Correction.{Correction}
 use Rattle.rtcm2_rows.specs.Corrections.{row, meant, codes, Typed}
 
@@ -63,18 +64,9 @@ faithful = record { meant-codes = meant-codes; fit-codes = fit-codes; codes-mean
     whole x y h l = omega arith
 
     codes-meant : (vs : List ℕ) → Fit (row .widths) vs → codes (meant vs) ≡ vs
-    codes-meant [] f = absurd f
-    codes-meant (a ∷ []) f = absurd (f .1)
-    codes-meant (a ∷ b ∷ []) f = absurd (f .1 .1)
-    codes-meant (a ∷ b ∷ s ∷ []) f = absurd (f .1 .1 .1)
-    codes-meant (a ∷ b ∷ s ∷ x ∷ []) f = absurd (f .1 .1 .1 .1)
-    codes-meant (a ∷ b ∷ s ∷ x ∷ y ∷ []) f = absurd (f .1 .1 .1 .1 .1)
-    codes-meant (a ∷ b ∷ s ∷ x ∷ y ∷ z ∷ []) f = absurd (f .1 .1 .1 .1 .1 .1)
-    codes-meant (a ∷ b ∷ s ∷ x ∷ y ∷ z ∷ i ∷ v ∷ vs) f = absurd (f .1 .1 .1 .1 .1 .1 .1)
-    codes-meant (a ∷ b ∷ s ∷ x ∷ y ∷ z ∷ i ∷ []) f =
-        let p = f .1 .1 .1 .0 in
-        let q = f .1 .1 .1 .1 .0 in
-        ap₂ (λ v w. a ∷ b ∷ s ∷ v % 256 ∷ v / 256 % 256 ∷ w % 256 ∷ i ∷ []) (code-signed 15 (x + 256 * y) (whole x y p q))
-        (code-signed 7 z (f .1 .1 .1 .1 .1 .0))
-        ∙ ap₂ (λ v w. a ∷ b ∷ s ∷ v ∷ w ∷ z % 256 ∷ i ∷ []) (low x y p) (high x y p q)
-        ∙ ap (λ v. a ∷ b ∷ s ∷ x ∷ y ∷ v ∷ i ∷ []) (mod-eq-of-lt (f .1 .1 .1 .1 .1 .0))
+    codes-meant vs f =
+        let at = fit-below (row .widths) vs f in
+        let x = getD vs 3 0 in
+        let y = getD vs 4 0 in
+        rw (code-signed 15 (x + 256 * y) (whole x y (at 3) (at 4)), low x y (at 3), high x y (at 3) (at 4), code-signed 7 (getD vs 5 0) (at 5), mod-eq-of-lt (at 5))
+        (fit-places (row .widths) vs f)

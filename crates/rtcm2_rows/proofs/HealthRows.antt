@@ -1,12 +1,12 @@
 -- A satellite's health and its ten bytes: what the functions' proofs cite over plain values, and the laws that the row owes.
 -- Assumes nothing.
 use mathlib.Core.Path.{_≡_, refl}
-use mathlib.Core.List.{List, [], _∷_}
+use mathlib.Core.List.{List}
 use Prim.Native.Nat.{ℕ}
 use lib.ListN.{getD}
-use Rattle.bits.specs.Fields.{Fit}
 use Rattle.record_fields.proofs.Round.{Faithful}
-use Rattle.rtcm2_rows.specs.Healths.{row, meant, codes, Typed}
+use Rattle.record_fields.proofs.TableRound.{fit-places}
+use Rattle.rtcm2_rows.specs.Healths.{row, meant, Typed}
 
 -- ten bytes read are the entry
 pub entry-law : (vs : List ℕ) (a b c d e f g h i j : ℕ)
@@ -18,18 +18,4 @@ entry-law vs a b c d e f g h i j e0 e1 e2 e3 e4 e5 e6 e7 e8 e9 = rw (e0, e1, e2,
 -- ---- the three laws on bytes
 
 pub faithful : Faithful row Typed
-faithful = record { meant-codes = λ e t. refl; fit-codes = λ e t. t; codes-meant = codes-meant }
-  where
-    codes-meant : (vs : List ℕ) → Fit (row .widths) vs → codes (meant vs) ≡ vs
-    codes-meant [] f = absurd f
-    codes-meant (a ∷ []) f = absurd (f .1)
-    codes-meant (a ∷ b ∷ []) f = absurd (f .1 .1)
-    codes-meant (a ∷ b ∷ c ∷ []) f = absurd (f .1 .1 .1)
-    codes-meant (a ∷ b ∷ c ∷ d ∷ []) f = absurd (f .1 .1 .1 .1)
-    codes-meant (a ∷ b ∷ c ∷ d ∷ e ∷ []) f = absurd (f .1 .1 .1 .1 .1)
-    codes-meant (a ∷ b ∷ c ∷ d ∷ e ∷ g ∷ []) f = absurd (f .1 .1 .1 .1 .1 .1)
-    codes-meant (a ∷ b ∷ c ∷ d ∷ e ∷ g ∷ h ∷ []) f = absurd (f .1 .1 .1 .1 .1 .1 .1)
-    codes-meant (a ∷ b ∷ c ∷ d ∷ e ∷ g ∷ h ∷ i ∷ []) f = absurd (f .1 .1 .1 .1 .1 .1 .1 .1)
-    codes-meant (a ∷ b ∷ c ∷ d ∷ e ∷ g ∷ h ∷ i ∷ j ∷ []) f = absurd (f .1 .1 .1 .1 .1 .1 .1 .1 .1)
-    codes-meant (a ∷ b ∷ c ∷ d ∷ e ∷ g ∷ h ∷ i ∷ j ∷ k ∷ v ∷ vs) f = absurd (f .1 .1 .1 .1 .1 .1 .1 .1 .1 .1)
-    codes-meant (a ∷ b ∷ c ∷ d ∷ e ∷ g ∷ h ∷ i ∷ j ∷ k ∷ []) f = refl
+faithful = record { meant-codes = λ e t. refl; fit-codes = λ e t. t; codes-meant = fit-places (row .widths) }

@@ -3,11 +3,10 @@ use mathlib.Core.Path.{refl}
 use native.Mathlib.Omega.{arith}
 use borrow.Author.Needs.{needs}
 use Rattle.frame.specs.declared.Layout.the-variants as layout
-use Rattle.record_fields.specs.Packing.{pushed}
-use Rattle.record_fields.proofs.TableLaws.{push-low}
+use Rattle.record_fields.proofs.TableLaws.{push-codes}
 use Rattle.record_stages.specs.Stages.{layoutNumber}
 use Rattle.record_stages.proofs.ListLaws.{entries-made}
-use Rattle.record_corrections.specs.Corrections.{coding, fill, least, most, numbers, outOfRange, makeCorrections}
+use Rattle.record_corrections.specs.Corrections.{widths, coding, fill, least, most, numbers, outOfRange, makeCorrections}
 use Rattle.record_corrections.proofs.make_corrections.Statement.{statement}
 use Rattle.record_corrections.proofs.make_corrections.Tie as tie
 
@@ -16,7 +15,7 @@ unfolding makeCorrections layoutNumber
 returns c =
     let a = c .before .before .args in
     entries-made layout.Correction coding fill 18 outOfRange numbers least most
-    (λ e p. rw (push-low (pushed (pushed p 1 (e .scale)) 2 (e .udre)) 5 (e .satellite))) (λ e. refl) (search needs) (omega arith)
+    (λ e. push-codes widths (numbers e)) (λ e. refl) (search needs) (omega arith)
     (a .header) (a .entries) (a .count) (c .before .rows-of .result) (c .make-frame .result) (c .make-frame .ensures) (c .before .rows-of .ensures)
 
 pub make-corrections-spec : {M : Type 1} → statement M

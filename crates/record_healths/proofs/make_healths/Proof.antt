@@ -3,11 +3,10 @@ use mathlib.Core.Path.{refl}
 use native.Mathlib.Omega.{arith}
 use borrow.Author.Needs.{needs}
 use Rattle.frame.specs.declared.Layout.the-variants as layout
-use Rattle.record_fields.specs.Packing.{pushed}
-use Rattle.record_fields.proofs.TableLaws.{push-low}
+use Rattle.record_fields.proofs.TableLaws.{push-codes}
 use Rattle.record_stages.specs.Stages.{layoutNumber}
 use Rattle.record_stages.proofs.ListLaws.{entries-made}
-use Rattle.record_healths.specs.Healths.{coding, fill, least, most, numbers, outOfRange, makeHealths}
+use Rattle.record_healths.specs.Healths.{widths, coding, fill, least, most, numbers, outOfRange, makeHealths}
 use Rattle.record_healths.proofs.make_healths.Statement.{statement}
 use Rattle.record_healths.proofs.make_healths.Tie as tie
 
@@ -16,7 +15,7 @@ unfolding makeHealths layoutNumber
 returns c =
     let a = c .before .before .args in
     entries-made layout.Health coding fill 31 outOfRange numbers least most
-    (λ e p. rw (push-low (pushed p 1 (e .reserved)) 5 (e .satellite))) (λ e. refl) (search needs) (omega arith)
+    (λ e. push-codes widths (numbers e)) (λ e. refl) (search needs) (omega arith)
     (a .header) (a .entries) (a .count) (c .before .rows-of .result) (c .make-frame .result) (c .make-frame .ensures) (c .before .rows-of .ensures)
 
 pub make-healths-spec : {M : Type 1} → statement M
