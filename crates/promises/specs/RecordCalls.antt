@@ -13,64 +13,64 @@ use Rattle.record_nulls.specs.Nulls.{readNull, makeNull}
 use Rattle.record_texts.specs.Texts.{readText, bufferAfter, makeText}
 use Rattle.record_values.specs.Values.{stopsUse}
 use Rattle.record_values.specs.Answer.{prcMm, rrcMmS, udreLimit, cn0DbHz, minutesOf, zTenths}
-use Rattle.record_fields.proofs as record_fields
-use Rattle.record_stages.proofs as record_stages
-use Rattle.record_corrections.proofs as record_corrections
-use Rattle.record_healths.proofs as record_healths
-use Rattle.record_positions.proofs as record_positions
-use Rattle.record_nulls.proofs as record_nulls
-use Rattle.record_texts.proofs as record_texts
-use Rattle.record_values.proofs as record_values
+use Rattle.record_fields.proofs as record-fields
+use Rattle.record_stages.proofs as record-stages
+use Rattle.record_corrections.proofs as record-corrections
+use Rattle.record_healths.proofs as record-healths
+use Rattle.record_positions.proofs as record-positions
+use Rattle.record_nulls.proofs as record-nulls
+use Rattle.record_texts.proofs as record-texts
+use Rattle.record_values.proofs as record-values
 use Rattle.promises.specs.Answered.{Answered, AnsweredLent}
 
 pub record RecordCalls : Type 2 where
   -- record_fields
-  pub pack-field : Answered record_fields.field.Reads.Asked record_fields.field.Reads.Learnt record_fields.field.Statement.statement (λ κs (words, (offset, (width, _))). fieldIn words offset width)
-  pub pack-fields : Answered record_fields.fields.Reads.Asked record_fields.fields.Reads.Learnt record_fields.fields.Statement.statement
+  pub pack-field : Answered record-fields.field.Reads.Asked record-fields.field.Reads.Learnt record-fields.field.Statement.statement (λ κs (words, (offset, (width, _))). fieldIn words offset width)
+  pub pack-fields : Answered record-fields.fields.Reads.Asked record-fields.fields.Reads.Learnt record-fields.fields.Statement.statement
       (λ κs (words, (at, (widths, _))). row (fieldsIn words (now widths) at))
-  pub no-rows : Answered record_fields.no_rows.Reads.Asked record_fields.no_rows.Reads.Learnt record_fields.no_rows.Statement.statement (λ κs a. noRows)
-  pub put-row : Answered record_fields.put_row.Reads.Asked record_fields.put_row.Reads.Learnt record_fields.put_row.Statement.statement
+  pub no-rows : Answered record-fields.no_rows.Reads.Asked record-fields.no_rows.Reads.Learnt record-fields.no_rows.Statement.statement (λ κs a. noRows)
+  pub put-row : Answered record-fields.put_row.Reads.Asked record-fields.put_row.Reads.Learnt record-fields.put_row.Statement.statement
       (λ κs (rows, (values, (widths, (least, (most, _))))). putRow (now widths) (now least) (now most) values rows)
-  pub fill-up : Answered record_fields.fill_up.Reads.Asked record_fields.fill_up.Reads.Learnt record_fields.fill_up.Statement.statement (λ κs (packer, (pattern, _)). filledUp pattern packer)
-  pub signed8 : Answered record_fields.signed8.Reads.Asked record_fields.signed8.Reads.Learnt record_fields.signed8.Statement.statement (λ κs (n, _). signedOf 7 (n % 256))
-  pub signed16 : Answered record_fields.signed16.Reads.Asked record_fields.signed16.Reads.Learnt record_fields.signed16.Statement.statement (λ κs (n, _). signedOf 15 (n % 65536))
-  pub signed32 : Answered record_fields.signed32.Reads.Asked record_fields.signed32.Reads.Learnt record_fields.signed32.Statement.statement (λ κs (n, _). signedOf 31 n)
-  pub code8 : Answered record_fields.code8.Reads.Asked record_fields.code8.Reads.Learnt record_fields.code8.Statement.statement (λ κs (z, _). codeOf 7 z)
-  pub code16 : Answered record_fields.code16.Reads.Asked record_fields.code16.Reads.Learnt record_fields.code16.Statement.statement (λ κs (z, _). codeOf 15 z)
-  pub code32 : Answered record_fields.code32.Reads.Asked record_fields.code32.Reads.Learnt record_fields.code32.Statement.statement (λ κs (z, _). codeOf 31 z)
-  pub satellite-of : Answered record_fields.satellite_of.Reads.Asked record_fields.satellite_of.Reads.Learnt record_fields.satellite_of.Statement.statement (λ κs (code, _). satelliteOf (code % 32))
+  pub fill-up : Answered record-fields.fill_up.Reads.Asked record-fields.fill_up.Reads.Learnt record-fields.fill_up.Statement.statement (λ κs (packer, (pattern, _)). filledUp pattern packer)
+  pub signed8 : Answered record-fields.signed8.Reads.Asked record-fields.signed8.Reads.Learnt record-fields.signed8.Statement.statement (λ κs (n, _). signedOf 7 (n % 256))
+  pub signed16 : Answered record-fields.signed16.Reads.Asked record-fields.signed16.Reads.Learnt record-fields.signed16.Statement.statement (λ κs (n, _). signedOf 15 (n % 65536))
+  pub signed32 : Answered record-fields.signed32.Reads.Asked record-fields.signed32.Reads.Learnt record-fields.signed32.Statement.statement (λ κs (n, _). signedOf 31 n)
+  pub code8 : Answered record-fields.code8.Reads.Asked record-fields.code8.Reads.Learnt record-fields.code8.Statement.statement (λ κs (z, _). codeOf 7 z)
+  pub code16 : Answered record-fields.code16.Reads.Asked record-fields.code16.Reads.Learnt record-fields.code16.Statement.statement (λ κs (z, _). codeOf 15 z)
+  pub code32 : Answered record-fields.code32.Reads.Asked record-fields.code32.Reads.Learnt record-fields.code32.Statement.statement (λ κs (z, _). codeOf 31 z)
+  pub satellite-of : Answered record-fields.satellite_of.Reads.Asked record-fields.satellite_of.Reads.Learnt record-fields.satellite_of.Statement.statement (λ κs (code, _). satelliteOf (code % 32))
   -- record_stages
-  pub asked-of : Answered record_stages.asked_of.Reads.Asked record_stages.asked_of.Reads.Learnt record_stages.asked_of.Statement.statement (λ κs (layout, (kind, _)). askedOf layout kind)
-  pub count-in : Answered record_stages.count_in.Reads.Asked record_stages.count_in.Reads.Learnt record_stages.count_in.Statement.statement (λ κs (layout, (width, (frame, _))). countIn layout width frame)
-  pub entry-place : Answered record_stages.entry_place.Reads.Asked record_stages.entry_place.Reads.Learnt record_stages.entry_place.Statement.statement
+  pub asked-of : Answered record-stages.asked_of.Reads.Asked record-stages.asked_of.Reads.Learnt record-stages.asked_of.Statement.statement (λ κs (layout, (kind, _)). askedOf layout kind)
+  pub count-in : Answered record-stages.count_in.Reads.Asked record-stages.count_in.Reads.Learnt record-stages.count_in.Statement.statement (λ κs (layout, (width, (frame, _))). countIn layout width frame)
+  pub entry-place : Answered record-stages.entry_place.Reads.Asked record-stages.entry_place.Reads.Learnt record-stages.entry_place.Statement.statement
       (λ κs (layout, (width, (frame, (index, _)))). placeBy layout width frame index)
-  pub size-of : Answered record_stages.size_of.Reads.Asked record_stages.size_of.Reads.Learnt record_stages.size_of.Statement.statement (λ κs (wanted, (n, _)). sizeOf wanted n)
-  pub make-frame : Answered record_stages.make_frame.Reads.Asked record_stages.make_frame.Reads.Learnt record_stages.make_frame.Statement.statement
+  pub size-of : Answered record-stages.size_of.Reads.Asked record-stages.size_of.Reads.Learnt record-stages.size_of.Statement.statement (λ κs (wanted, (n, _)). sizeOf wanted n)
+  pub make-frame : Answered record-stages.make_frame.Reads.Asked record-stages.make_frame.Reads.Learnt record-stages.make_frame.Statement.statement
       (λ κs (layout, (most, (fill, (header, (count, (rows, _)))))). madeBy layout most fill header count rows)
   -- record_corrections
-  pub count-corrections : Answered record_corrections.count_corrections.Reads.Asked record_corrections.count_corrections.Reads.Learnt record_corrections.count_corrections.Statement.statement (λ κs (frame, _). countCorrections frame)
-  pub correction-at : Answered record_corrections.correction_at.Reads.Asked record_corrections.correction_at.Reads.Learnt record_corrections.correction_at.Statement.statement (λ κs (frame, (index, _)). correctionAt frame index)
-  pub make-corrections : Answered record_corrections.make_corrections.Reads.Asked record_corrections.make_corrections.Reads.Learnt record_corrections.make_corrections.Statement.statement (λ κs (header, (entries, (count, _))). makeCorrections header entries count)
+  pub count-corrections : Answered record-corrections.count_corrections.Reads.Asked record-corrections.count_corrections.Reads.Learnt record-corrections.count_corrections.Statement.statement (λ κs (frame, _). countCorrections frame)
+  pub correction-at : Answered record-corrections.correction_at.Reads.Asked record-corrections.correction_at.Reads.Learnt record-corrections.correction_at.Statement.statement (λ κs (frame, (index, _)). correctionAt frame index)
+  pub make-corrections : Answered record-corrections.make_corrections.Reads.Asked record-corrections.make_corrections.Reads.Learnt record-corrections.make_corrections.Statement.statement (λ κs (header, (entries, (count, _))). makeCorrections header entries count)
   -- record_healths
-  pub count-healths : Answered record_healths.count_healths.Reads.Asked record_healths.count_healths.Reads.Learnt record_healths.count_healths.Statement.statement (λ κs (frame, _). countHealths frame)
-  pub health-at : Answered record_healths.health_at.Reads.Asked record_healths.health_at.Reads.Learnt record_healths.health_at.Statement.statement (λ κs (frame, (index, _)). healthAt frame index)
-  pub make-healths : Answered record_healths.make_healths.Reads.Asked record_healths.make_healths.Reads.Learnt record_healths.make_healths.Statement.statement (λ κs (header, (entries, (count, _))). makeHealths header entries count)
+  pub count-healths : Answered record-healths.count_healths.Reads.Asked record-healths.count_healths.Reads.Learnt record-healths.count_healths.Statement.statement (λ κs (frame, _). countHealths frame)
+  pub health-at : Answered record-healths.health_at.Reads.Asked record-healths.health_at.Reads.Learnt record-healths.health_at.Statement.statement (λ κs (frame, (index, _)). healthAt frame index)
+  pub make-healths : Answered record-healths.make_healths.Reads.Asked record-healths.make_healths.Reads.Learnt record-healths.make_healths.Statement.statement (λ κs (header, (entries, (count, _))). makeHealths header entries count)
   -- record_positions
-  pub read-position : Answered record_positions.read_position.Reads.Asked record_positions.read_position.Reads.Learnt record_positions.read_position.Statement.statement (λ κs (frame, _). readPosition frame)
-  pub make-position : Answered record_positions.make_position.Reads.Asked record_positions.make_position.Reads.Learnt record_positions.make_position.Statement.statement (λ κs (header, (position, _)). makePosition header position)
+  pub read-position : Answered record-positions.read_position.Reads.Asked record-positions.read_position.Reads.Learnt record-positions.read_position.Statement.statement (λ κs (frame, _). readPosition frame)
+  pub make-position : Answered record-positions.make_position.Reads.Asked record-positions.make_position.Reads.Learnt record-positions.make_position.Statement.statement (λ κs (header, (position, _)). makePosition header position)
   -- record_nulls
-  pub read-null : Answered record_nulls.read_null.Reads.Asked record_nulls.read_null.Reads.Learnt record_nulls.read_null.Statement.statement (λ κs (frame, _). readNull frame)
-  pub make-null : Answered record_nulls.make_null.Reads.Asked record_nulls.make_null.Reads.Learnt record_nulls.make_null.Statement.statement (λ κs (header, _). makeNull header)
+  pub read-null : Answered record-nulls.read_null.Reads.Asked record-nulls.read_null.Reads.Learnt record-nulls.read_null.Statement.statement (λ κs (frame, _). readNull frame)
+  pub make-null : Answered record-nulls.make_null.Reads.Asked record-nulls.make_null.Reads.Learnt record-nulls.make_null.Statement.statement (λ κs (header, _). makeNull header)
   -- record_texts
-  pub read-text : AnsweredLent record_texts.read_text.Reads.Asked record_texts.read_text.Reads.Learnt record_texts.read_text.Statement.statement
+  pub read-text : AnsweredLent record-texts.read_text.Reads.Asked record-texts.read_text.Reads.Learnt record-texts.read_text.Statement.statement
       (λ κs (frame, (buffer, _)). readText frame (now buffer))
       (λ κs (_, (buffer, _)). now buffer) (λ κs (frame, (buffer, _)). bufferAfter frame (now buffer))
-  pub make-text : Answered record_texts.make_text.Reads.Asked record_texts.make_text.Reads.Learnt record_texts.make_text.Statement.statement (λ κs (header, (text, _)). makeText header (now text))
+  pub make-text : Answered record-texts.make_text.Reads.Asked record-texts.make_text.Reads.Learnt record-texts.make_text.Statement.statement (λ κs (header, (text, _)). makeText header (now text))
   -- record_values
-  pub prc-mm : Answered record_values.prc_mm.Reads.Asked record_values.prc_mm.Reads.Learnt record_values.prc_mm.Statement.statement (λ κs (scale, (prc, _)). prcMm scale prc)
-  pub rrc-mm-s : Answered record_values.rrc_mm_s.Reads.Asked record_values.rrc_mm_s.Reads.Learnt record_values.rrc_mm_s.Statement.statement (λ κs (scale, (rrc, _)). rrcMmS scale rrc)
-  pub stops : Answered record_values.stops.Reads.Asked record_values.stops.Reads.Learnt record_values.stops.Statement.statement (λ κs (prc, (rrc, _)). stopsUse prc rrc)
-  pub udre-limit : Answered record_values.udre_limit.Reads.Asked record_values.udre_limit.Reads.Learnt record_values.udre_limit.Statement.statement (λ κs (state, (udre, _)). udreLimit state udre)
-  pub cn0-dbhz : Answered record_values.cn0_dbhz.Reads.Asked record_values.cn0_dbhz.Reads.Learnt record_values.cn0_dbhz.Statement.statement (λ κs (code, _). cn0DbHz code)
-  pub value-minutes : Answered record_values.minutes.Reads.Asked record_values.minutes.Reads.Learnt record_values.minutes.Statement.statement (λ κs (code, _). minutesOf code)
-  pub z-tenths : Answered record_values.z_tenths.Reads.Asked record_values.z_tenths.Reads.Learnt record_values.z_tenths.Statement.statement (λ κs (z, _). zTenths z)
+  pub prc-mm : Answered record-values.prc_mm.Reads.Asked record-values.prc_mm.Reads.Learnt record-values.prc_mm.Statement.statement (λ κs (scale, (prc, _)). prcMm scale prc)
+  pub rrc-mm-s : Answered record-values.rrc_mm_s.Reads.Asked record-values.rrc_mm_s.Reads.Learnt record-values.rrc_mm_s.Statement.statement (λ κs (scale, (rrc, _)). rrcMmS scale rrc)
+  pub stops : Answered record-values.stops.Reads.Asked record-values.stops.Reads.Learnt record-values.stops.Statement.statement (λ κs (prc, (rrc, _)). stopsUse prc rrc)
+  pub udre-limit : Answered record-values.udre_limit.Reads.Asked record-values.udre_limit.Reads.Learnt record-values.udre_limit.Statement.statement (λ κs (state, (udre, _)). udreLimit state udre)
+  pub cn0-dbhz : Answered record-values.cn0_dbhz.Reads.Asked record-values.cn0_dbhz.Reads.Learnt record-values.cn0_dbhz.Statement.statement (λ κs (code, _). cn0DbHz code)
+  pub value-minutes : Answered record-values.minutes.Reads.Asked record-values.minutes.Reads.Learnt record-values.minutes.Statement.statement (λ κs (code, _). minutesOf code)
+  pub z-tenths : Answered record-values.z_tenths.Reads.Asked record-values.z_tenths.Reads.Learnt record-values.z_tenths.Statement.statement (λ κs (z, _). zTenths z)
