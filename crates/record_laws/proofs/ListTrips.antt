@@ -31,7 +31,7 @@ use Rattle.record_stages.specs.Stages.{wrongCount, otherLayout, entriesHeld, mi
 use Rattle.record_stages.specs.Lists.{listCount, listEntry, listMade, MadeReads, Sendable, Holding, ListRead}
 use Rattle.record_stages.proofs.ListCode.{fitting, some-few}
 use Rattle.record_stages.proofs.StageLaws.{done-frame, of-apart, of-inj}
-use Rattle.record_laws.proofs.SentLaws.{told-layout, frame-for, none-taken, list-made, list-told, list-read}
+use Rattle.record_laws.proofs.SentLaws.{frame-for, none-taken, list-made, list-told, list-read}
 
 -- what every value has, each entry has
 pub each-any : {A : Type 0} (P : A → Type 0) → ((e : A) → P e) → (es : List A) → Each P es
@@ -68,7 +68,7 @@ pub list-held : {A : Type 0} (asked : Layout) (k : Coding A) (most : ℕ) → ((
 list-held asked k most bounded f c e = record {
   frame = record {
     inside = r .inside;
-    kind = told-layout asked (f .header .kind) (r .same);
+    kind = r .same;
     hour = leb-false 6000 (f .header .z) (r .hour);
   };
   some = r .some;

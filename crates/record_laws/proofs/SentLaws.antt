@@ -1,7 +1,7 @@
 -- What can be sent is made, and what is made could be sent; what a frame holds is read: the first checks of both orders, once for every
 -- layout, and the list layouts, once for both. Assumes nothing.
 use mathlib.Core.Path.{_≡_, refl, sym, ap, subst, _∙_}
-use mathlib.Core.Bool.{Bool, false, _||_, cond}
+use mathlib.Core.Bool.{Bool, false, _||_}
 use mathlib.Core.List.{List, [], _∷_}
 use Prim.Native.Nat.{ℕ, zero, suc, _+_, _*_, _/_, _≤_, _<_}
 use native.Mathlib.Omega.{arith}
@@ -12,69 +12,35 @@ use borrow.Author.Tests.{leb-false, eqb-true, lt-leb, eq-eqb, not-false}
 use Rattle.answer.specs.Order.{Check, NoneApplies}
 use Rattle.answer.proofs.OrderLaws.{order-answers, order-told}
 use Rattle.bits.specs.Fields.{span}
-use Rattle.frame.specs.Layout.{layoutOf}
 use Rattle.frame.specs.Widths.{anyOf, outside}
 use Rattle.frame.specs.declared.Header.{Header}
 use Rattle.frame.specs.declared.Frame.{Frame}
 use Rattle.frame.specs.declared.Layout.{Layout}
-use Rattle.frame.specs.declared.Layout.the-variants as layout
 use Rattle.frame.proofs.WidthLaws.{both-false}
 use Rattle.frame.proofs.FrameLaws.{n-within}
 use Rattle.record_fields.specs.Coding.{Coding, frameBits, entryIn, frameWith}
 use Rattle.record_stages.specs.declared.Count.the-variants as count
-use Rattle.record_stages.specs.Stages.{wrongCount, layoutNumber, otherLayout, entriesHeld, misfit, wrongSize, readOrder, makeOrder, refusedMade, doneMade, HeaderFor, FrameFor}
+use Rattle.record_stages.specs.Stages.{wrongCount, otherLayout, entriesHeld, misfit, wrongSize, readOrder, makeOrder, refusedMade, doneMade, HeaderFor, FrameFor}
 use Rattle.record_stages.specs.Lists.{listMade, listCount, listEntry, Sendable, Holding, ListRead}
 use Rattle.record_stages.proofs.ListCode.{count-right, some-few, told-some-few}
 use Rattle.record_stages.proofs.StageLaws.{done-apart}
 
--- ---- the layout asked for
-
--- layouts with one number are one
-layoutAt : ℕ → Layout
-layoutAt n =
-    cond (eqb n 0) layout.Correction
-    (cond (eqb n 1) layout.Position
-    (cond (eqb n 2) layout.Health
-    (cond (eqb n 3) layout.Null
-    (cond (eqb n 4) layout.Text layout.Plain))))
-
-at-number : (l : Layout) → layoutAt (layoutNumber l) ≡ l
-unfolding layoutAt layoutNumber
-at-number layout.Correction = refl
-at-number layout.Position = refl
-at-number layout.Health = refl
-at-number layout.Null = refl
-at-number layout.Text = refl
-at-number layout.Plain = refl
-
-pub same-layout : (asked : Layout) (kind : ℕ) → layoutOf kind ≡ asked → otherLayout asked kind ≡ false
-unfolding otherLayout
-same-layout asked kind e = rw (eq-eqb (layoutNumber (layoutOf kind)) (layoutNumber asked) (ap layoutNumber e))
-
-pub told-layout : (asked : Layout) (kind : ℕ) → otherLayout asked kind ≡ false → layoutOf kind ≡ asked
-unfolding otherLayout
-told-layout asked kind e =
-    sym (at-number (layoutOf kind))
-    ∙ ap layoutAt
-    (eqb-true (layoutNumber (layoutOf kind)) (layoutNumber asked) (not-false (eqb (layoutNumber (layoutOf kind)) (layoutNumber asked)) e))
-    ∙ at-number asked
-
 -- ---- the first checks: 5, 6, 7, and of reading 8
 
 pub make-passes : (asked : Layout) (h : Header) (more : List Check) → HeaderFor asked h → NoneApplies more → NoneApplies (makeOrder asked h more)
-make-passes asked h more s none = (s .inside, (same-layout asked (h .kind) (s .kind), (lt-leb 6000 (h .z) (s .hour), none)))
+make-passes asked h more s none = (s .inside, (s .kind, (lt-leb 6000 (h .z) (s .hour), none)))
 
 pub make-passed : (asked : Layout) (h : Header) (more : List Check) → NoneApplies (makeOrder asked h more) → HeaderFor asked h
-make-passed asked h more t = record { inside = t .0; kind = told-layout asked (h .kind) (t .1 .0); hour = leb-false 6000 (h .z) (t .1 .1 .0) }
+make-passed asked h more t = record { inside = t .0; kind = t .1 .0; hour = leb-false 6000 (h .z) (t .1 .1 .0) }
 
 module _ (asked : Layout) (f : Frame) (wrongN : Bool) (more : List Check) where
   pub read-passes : FrameFor asked f → wrongN ≡ false → NoneApplies more → NoneApplies (readOrder asked f wrongN more)
-  read-passes s n none = (s .inside, (same-layout asked (f .header .kind) (s .kind), (lt-leb 6000 (f .header .z) (s .hour), (n, none))))
+  read-passes s n none = (s .inside, (s .kind, (lt-leb 6000 (f .header .z) (s .hour), (n, none))))
 
   pub read-passed : NoneApplies (readOrder asked f wrongN more) → FrameFor asked f
   read-passed t = record {
     inside = t .0;
-    kind = told-layout asked (f .header .kind) (t .1 .0);
+    kind = t .1 .0;
     hour = leb-false 6000 (f .header .z) (t .1 .1 .0);
   }
 
@@ -82,7 +48,7 @@ module _ (asked : Layout) (f : Frame) (wrongN : Bool) (more : List Check) where
 pub frame-for : (asked : Layout) (f : Frame) (h : Header) → f .header ≡ h → outside f ≡ false → HeaderFor asked h → FrameFor asked f
 frame-for asked f h e within s = record {
   inside = within;
-  kind = ap (λ x. layoutOf (x .kind)) e ∙ s .kind;
+  kind = ap (λ x. otherLayout asked (x .kind)) e ∙ s .kind;
   hour = subst (λ x. x .z < 6000) (sym e) (s .hour);
 }
 

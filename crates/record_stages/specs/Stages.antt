@@ -38,6 +38,7 @@ use Rattle.record_stages.specs.declared.Made.{Made}
 
 -- ---- refusal 6: ONE DECISION over type numbers, held against the layout asked for
 
+-- the layouts by number, so that two can be compared
 unfoldable pub layoutNumber : Layout → ℕ
 layoutNumber layout.Correction = 0
 layoutNumber layout.Position = 1
@@ -46,8 +47,13 @@ layoutNumber layout.Null = 3
 layoutNumber layout.Text = 4
 layoutNumber layout.Plain = 5
 
+-- a frame of the layout that is found is one of the layout that is asked for
+abbrev pub isOf : Layout → Layout → Bool
+isOf found asked = eqb (layoutNumber found) (layoutNumber asked)
+
+-- a type number does not have the layout that is asked for
 unfoldable pub otherLayout : Layout → ℕ → Bool
-otherLayout asked kind = not (eqb (layoutNumber (layoutOf kind)) (layoutNumber asked))
+otherLayout asked kind = not (isOf (layoutOf kind) asked)
 
 abbrev pub askedOf : Layout → ℕ → Asked
 askedOf asked kind = cond (otherLayout asked kind) Other Same
@@ -139,13 +145,13 @@ madeBy asked most pattern h c r = inOrder (madeOrder asked most h c (r .out)) re
 -- a header under which a record of a layout can be sent: within its widths, of a type of that layout, Z count below 6000
 pub record HeaderFor (asked : Layout) (h : Header) : Type 0 where
   pub inside : headerOutside h ≡ false
-  pub kind : layoutOf (h .kind) ≡ asked
+  pub kind : otherLayout asked (h .kind) ≡ false
   pub hour : h .z < 6000
 
 -- a frame of which such a record can be read: the same, and its words within their widths
 pub record FrameFor (asked : Layout) (f : Frame) : Type 0 where
   pub inside : outside f ≡ false
-  pub kind : layoutOf (f .header .kind) ≡ asked
+  pub kind : otherLayout asked (f .header .kind) ≡ false
   pub hour : f .header .z < 6000
 
 -- the answer to making is a frame, not a refusal, and this is said of it
