@@ -1,6 +1,6 @@
 -- Every order is read by `inOrder`, so one law serves them all. Assumes nothing.
 use mathlib.Core.Path.{_≡_, refl, sym, subst, _∙_}
-use mathlib.Core.Bool.{Bool, true, false, _||_, cond}
+use mathlib.Core.Bool.{Bool, true, false, cond}
 use mathlib.Core.Logic.{_⊎_, inl, inr}
 use mathlib.Core.List.{List, [], _∷_}
 use Prim.Native.Nat.{ℕ, _*_}
@@ -50,14 +50,14 @@ use Rattle.record_values.proofs.AnswerLaws.{prc-says, rrc-says, udre-says, cn0-
 use Rattle.listing.specs.Listing.{pieceBy, finishBy}
 use Rattle.listing.specs.Listing as listing
 use Rattle.listing.specs.declared.Listed.{Listed}
-use Rattle.promises.specs.CarriesItsNumber.{checkNumbers, Ordered, CarriesItsNumber}
+use Rattle.promises.specs.CarriesItsNumber.{checkNumbers, outsideTable, Ordered, CarriesItsNumber}
 
 number-inj : {A : Type 0} (m n : ℕ) → _≡_ {A = Says A} (refuses m) (refuses n) → m ≡ n
 number-inj m n e = cc
 
 -- what an order says is its first number or its value
 pub ordered : {A : Type 0} {numbers : List ℕ} (cs : List Check) {s : Says A} (value : A) → s ≡ inOrder cs refuses (answers value)
-    → checkNumbers cs ≡ numbers → anyOf (λ n. ltb n 1 || ltb 16 n) numbers ≡ false → Ordered numbers cs s
+    → checkNumbers cs ≡ numbers → anyOf outsideTable numbers ≡ false → Ordered numbers cs s
 ordered {A} {numbers} cs {s} value e numbered table = record {
   numbered = numbered;
   table = table;
@@ -73,14 +73,14 @@ ordered {A} {numbers} cs {s} value e numbered table = record {
 -- the same through an answer's own type
 told : {A X : Type 0} {numbers : List ℕ} {cs : List Check} (says : X → Says A) (refuse : ℕ → X) (answer : X) (value : A)
     → inOrder cs (λ n. says (refuse n)) (says answer) ≡ inOrder cs refuses (answers value)
-    → checkNumbers cs ≡ numbers → anyOf (λ n. ltb n 1 || ltb 16 n) numbers ≡ false → Ordered numbers cs (says (inOrder cs refuse answer))
+    → checkNumbers cs ≡ numbers → anyOf outsideTable numbers ≡ false → Ordered numbers cs (says (inOrder cs refuse answer))
 told {cs} says refuse answer value e numbered table = ordered cs value (order-map says cs refuse answer ∙ e) numbered table
 
 -- the numbers of making are of the table, for every layout
-entry-numbered : (l : Layout) → anyOf (λ n. ltb n 1 || ltb 16 n) (5 ∷ 6 ∷ 7 ∷ 12 ∷ entryRefusal l ∷ []) ≡ false
+entry-numbered : (l : Layout) → anyOf outsideTable (5 ∷ 6 ∷ 7 ∷ 12 ∷ entryRefusal l ∷ []) ≡ false
 entry-numbered l = go (eqb (layoutNumber l) (layoutNumber layout.Text))
   where
-    go : (b : Bool) → anyOf (λ n. ltb n 1 || ltb 16 n) (5 ∷ 6 ∷ 7 ∷ 12 ∷ cond b 11 10 ∷ []) ≡ false
+    go : (b : Bool) → anyOf outsideTable (5 ∷ 6 ∷ 7 ∷ 12 ∷ cond b 11 10 ∷ []) ≡ false
     go true = refl
     go false = refl
 

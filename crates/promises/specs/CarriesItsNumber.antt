@@ -1,13 +1,14 @@
 -- DEMAND 1, "A refusal carries its number from the table": a call refuses when a number of its order applies, only then, and with the first of them
 -- (RULES 11). What a call says is its answer in the table's terms. Assumes nothing.
 use mathlib.Core.Path.{_≡_}
-use mathlib.Core.Bool.{false, not, _||_}
+use mathlib.Core.Bool.{Bool, false, not}
 use mathlib.Core.List.{List, [], _∷_, _++_, map}
 use Prim.Native.Nat.{ℕ, _^_}
 use lib.IntN.{ℤ}
-use lib.Dec.{ltb, leb}
+use lib.Dec.{ltb, leb, eqb}
 use lib.ListN.{length, take}
 use Rattle.answer.specs.Order.{Says, refuses, answers, Check, NoneApplies, FirstIs}
+use Rattle.answer.specs.Table.{tableNumbers}
 use Rattle.line.specs.Line.{isData}
 use Rattle.line.specs.Answer.{sixOf, saysSix}
 use Rattle.word.specs.Answer.{wordOf, saysSent}
@@ -42,11 +43,15 @@ use Rattle.listing.specs.declared.Listing.{Listing}
 abbrev pub checkNumbers : List Check → List ℕ
 checkNumbers cs = map (λ (c : Check). c .1) cs
 
--- THE ORDER: the checks have these numbers of the table, which has 1 to 16. Where none applies the call answers; it refuses with n exactly when the
--- first check that applies has the number n.
+-- a number that the table does not have
+abbrev pub outsideTable : ℕ → Bool
+outsideTable n = not (anyOf (eqb n) tableNumbers)
+
+-- THE ORDER: the checks have these numbers, each of the table. Where none applies the call answers; it refuses with n exactly when the first check
+-- that applies has the number n.
 pub record Ordered {A : Type 0} (numbers : List ℕ) (checks : List Check) (s : Says A) : Type 0 where
   pub numbered : checkNumbers checks ≡ numbers
-  pub table : anyOf (λ n. ltb n 1 || ltb 16 n) numbers ≡ false
+  pub table : anyOf outsideTable numbers ≡ false
   pub answered : NoneApplies checks → (value : A) × (s ≡ answers value)
   pub refused : (n : ℕ) → FirstIs checks n → s ≡ refuses n
   pub only : (n : ℕ) → s ≡ refuses n → FirstIs checks n

@@ -1,11 +1,9 @@
 -- What a call of the library says by its number and leaves in its places, by what the reader's call answered. Assumes nothing.
 use mathlib.Core.Path.{_≡_, refl, sym, ap, _∙_}
-use mathlib.Core.Bool.{Bool, true, false, cond, _||_}
+use mathlib.Core.Bool.{true, false, cond, true≢false}
 use mathlib.Core.List.{List, [], _∷_, _++_}
 use Prim.Native.Nat.{ℕ}
-use native.Mathlib.Omega.{arith}
-use lib.Dec.{ltb}
-use borrow.Author.Tests.{ne-eqb, ltb-false}
+use borrow.Author.Tests.{ne-eqb}
 use Rattle.answer.specs.Order.{Says, refuses, answers, Check}
 use Rattle.frame.specs.Widths.{anyOf}
 use Rattle.frame.proofs.WidthLaws.{both-false}
@@ -14,16 +12,13 @@ use Rattle.reader.specs.declared.Answer.{Answer}
 use Rattle.reader.specs.declared.Answer.the-variants.{Done, Refused}
 use Rattle.rtcm2.specs.Answer.{numberOf, left}
 use Rattle.rtcm2.specs.Line.{doneBy}
-use Rattle.promises.specs.CarriesItsNumber.{Ordered, checkNumbers}
+use Rattle.promises.specs.CarriesItsNumber.{Ordered, checkNumbers, outsideTable}
 use Rattle.promises.specs.ChangesNeither.{Keeps}
 use Rattle.rtcm2_promises.specs.LineCalls.{saysNumber}
 
 -- ---- a refusal's number is never 0
 
--- none of the numbers of a table is outside it
-abbrev outsideTable : ℕ → Bool
-outsideTable n = ltb n 1 || ltb 16 n
-
+-- the number of a check of an order is one of the table's
 number-in : (front back : List Check) (n : ℕ) → anyOf outsideTable (checkNumbers (front ++ ((true, n) ∷ back))) ≡ false → outsideTable n ≡ false
 number-in [] back n e = both-false (outsideTable n) (anyOf outsideTable (checkNumbers back)) e .0
 number-in (c ∷ front) back n e =
@@ -34,7 +29,7 @@ never-0 o n e z =
     let f = o .only n e in
     let t = number-in (f .front) (f .back) n
     (ap (λ l. anyOf outsideTable (checkNumbers l)) (sym (f .split)) ∙ ap (anyOf outsideTable) (o .numbered) ∙ o .table) in
-    omega (arith, ltb-false n 1 (both-false (ltb n 1) (ltb 16 n) t .0))
+    true≢false (sym (ap outsideTable z) ∙ t)
 
 -- ---- x is what the reader's call left, and a its answer
 
