@@ -11,7 +11,7 @@ use borrow.Author.Tests.{ltb-false, le-ltb}
 use Rattle.bits.specs.Bits.{bits, number, isNonzero}
 use Rattle.bits.proofs.Numbers.{length-bits, number-bits, number-lt, bits-number}
 use Rattle.frame.specs.Header.{preambled, nOf, headerOf, firstWord, secondWord}
-use Rattle.frame.specs.Frames.{framed, dataWords, wordsOf, frameOf, Below}
+use Rattle.frame.specs.Frames.{builtOf, framed, dataWords, wordsOf, frameOf, Below}
 use Rattle.frame.specs.Widths.{anyOf, isWide, headerOutside, outside}
 use Rattle.frame.specs.declared.Header.{Header}
 use Rattle.frame.specs.declared.Frame.{Frame}
@@ -77,8 +77,8 @@ module _ (f : Frame) (e : outside f ≡ false) where
     pub framed-again : framed (f .header) (dataWords f) ≡ f
     unfolding framed
     framed-again =
-        ap (λ n. record { header = f .header; n = n; words = dataWords f ++ replicate (31 - n) 0 }) length-data
-        ∙ ap (λ ws. record { header = f .header; n = f .n; words = ws }) (sym words-padded)
+        ap (λ n. builtOf (f .header) n (dataWords f ++ replicate (31 - n) 0)) length-data
+        ∙ ap (λ ws. builtOf (f .header) (f .n) ws) (sym words-padded)
 
     -- FRAME TO WORDS AND BACK
     pub frame-words : frameOf (wordsOf f) ≡ f

@@ -8,9 +8,13 @@ use Rattle.frame.specs.declared.State.the-variants.{Factor}
 use Rattle.frame.specs.declared.Header.{Header}
 use Rattle.frame.specs.declared.Frame.{Frame}
 
+-- THE ONE FORM of a frame that did not come from the line: made, recalled, or given by its numbers
+abbrev pub builtOf : Header → ℕ → List ℕ → Frame
+builtOf h n ws = record { header = h; n = n; words = ws }
+
 -- the frame with this header and these data words: words past N are zero
 unfoldable pub framed : Header → List ℕ → Frame
-framed h ws = record { header = h; n = length ws; words = ws ++ replicate (31 - length ws) 0 }
+framed h ws = builtOf h (length ws) (ws ++ replicate (31 - length ws) 0)
 
 -- the data words of a frame
 abbrev pub dataWords : Frame → List ℕ
@@ -26,7 +30,7 @@ frameOf ws = framed (headerOf (bits 24 (getD ws 0 0)) (bits 24 (getD ws 1 0))) (
 
 -- what stands for a frame where there is none: no type has the number 0, so every call that is given it refuses it with 5
 unfoldable pub blank : Frame
-blank = record { header = record { kind = 0; station = 0; z = 0; sequence = 0; state = Factor 100 }; n = 0; words = replicate 31 0 }
+blank = builtOf (record { kind = 0; station = 0; z = 0; sequence = 0; state = Factor 100 }) 0 (replicate 31 0)
 
 -- each of these words has at most 24 bits
 abbrev pub Below : List ℕ → Type 0

@@ -6,7 +6,7 @@ ghost use mathlib.Core.Path.{_≡_};
 ghost use Prim.Native.Nat.{_%_, _<_};
 ghost use Rattle.bits.specs.Bits.{bits};
 ghost use Rattle.frame.specs.Header.{stateOf, kindOf, headerOf, nOf, preambled};
-ghost use Rattle.frame.specs.Frames.{blank};
+ghost use Rattle.frame.specs.Frames.{builtOf, blank};
 ghost use Rattle.frame.specs.Answer.{healthOf, headerWords, headerWidths, frameWidths, clockOf};
 ghost use Rattle.frame.specs.Layout.{layoutOf};
 use crate::code::FACTORS;
@@ -124,21 +124,26 @@ pub fn header_of(first: u32, second: u32) -> Header
     }
 }
 
+// A frame that did not come from the line: made, recalled, or given by its numbers.
+pub fn built(header: Header, n: usize, words: [u32; 31]) -> Frame
+    ensures { λ r. ⌜ r ≡ builtOf header n words ⌝ }
+{
+    Frame { header, n, words }
+}
+
 // What stands for a frame where there is none: type 0, which every call refuses with 5.
 pub fn no_frame() -> Frame
     ensures { λ r. ⌜ r ≡ blank ⌝ }
 {
-    Frame {
-        header: Header {
-            kind: 0,
-            station: 0,
-            z: 0,
-            sequence: 0,
-            state: State::Factor(100),
-        },
-        n: 0,
-        words: [0u32; 31],
-    }
+    let header = Header {
+        kind: 0,
+        station: 0,
+        z: 0,
+        sequence: 0,
+        state: State::Factor(100),
+    };
+    let words = [0u32; 31];
+    built(header, 0, words)
 }
 
 // N, in word 2.

@@ -8,7 +8,7 @@ use lib.Seq.{drop-drop}
 use borrow.Author.Tests.{eq-eqb, ne-eqb}
 use Rattle.bits.specs.Bits.{bits}
 use Rattle.frame.specs.Header.{nOf, preambled, headerOf}
-use Rattle.frame.specs.Frames.{framed, frameOf}
+use Rattle.frame.specs.Frames.{builtOf, framed, frameOf}
 use Rattle.journal.specs.Bytes.{wordIn, wordsFrom}
 use Rattle.journal.specs.Journal.{refusedRecall, recalled, frameIn}
 
@@ -37,7 +37,7 @@ module _ (n : ℕ) (bs : List ℕ) {first second : ℕ} (e₁ : first ≡ wordIn
 
 -- the frame of word 1, word 2 and N data words
 pub frame-is : (n first second : ℕ) (ws : List ℕ) → length ws ≡ n
-    → record { header = headerOf (bits 24 first) (bits 24 second); n = n; words = ws ++ replicate (31 - n) 0 } ≡ frameOf (first ∷ second ∷ ws)
+    → builtOf (headerOf (bits 24 first) (bits 24 second)) n (ws ++ replicate (31 - n) 0) ≡ frameOf (first ∷ second ∷ ws)
 unfolding framed frameOf
 frame-is n first second ws l =
-    ap (λ m. record { header = headerOf (bits 24 first) (bits 24 second); n = m; words = ws ++ replicate (31 - m) 0 }) (sym l)
+    ap (λ m. builtOf (headerOf (bits 24 first) (bits 24 second)) m (ws ++ replicate (31 - m) 0)) (sym l)

@@ -132,7 +132,7 @@ fn frame_in(n: usize, bytes: &[u8]) -> Recalled
     let words = data_at(n, 9, bytes);
     Recalled {
         answer: Found::Record(3 * n + 9),
-        frame: Frame { header, n, words },
+        frame: frame::built(header, n, words),
     }
 }
 

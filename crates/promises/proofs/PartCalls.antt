@@ -15,6 +15,7 @@ part-calls = record {
   state-of = record { asks-nothing = λ κs a. tt; settles = λ κs a z e p. p; ends = frame.state_of.Met.met };
   health-of = record { asks-nothing = λ κs a. tt; settles = λ κs a z e p. p; ends = frame.health_of.Met.met };
   header-of = record { asks-nothing = λ κs a. tt; settles = λ κs a z e p. p; ends = frame.header_of.Met.met };
+  frame-built = record { asks-nothing = λ κs a. tt; settles = λ κs a z e p. p; ends = frame.built.Met.met };
   no-frame = record { asks-nothing = λ κs a. tt; settles = λ κs a z e p. p; ends = frame.no_frame.Met.met };
   n-of = record { asks-nothing = λ κs a. tt; settles = λ κs a z e p. p; ends = frame.n_of.Met.met };
   has-preamble = record { asks-nothing = λ κs a. tt; settles = λ κs a z e p. p; ends = frame.has_preamble.Met.met };

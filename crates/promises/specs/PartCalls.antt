@@ -7,7 +7,7 @@ use Rattle.word.specs.Word.{dataOf, remainderOf, passes as passing}
 use Rattle.word.specs.Answer.{wordOf}
 use Rattle.frame.specs.Header.{stateOf, headerOf, nOf, preambled}
 use Rattle.frame.specs.Answer.{healthOf, headerWidths, headerWords, frameWidths, clockOf}
-use Rattle.frame.specs.Frames.{blank}
+use Rattle.frame.specs.Frames.{builtOf, blank}
 use Rattle.frame.specs.Layout.{layoutOf}
 use Rattle.line.proofs as line
 use Rattle.word.proofs as word
@@ -27,6 +27,7 @@ pub record PartCalls : Type 2 where
   pub state-of : Answered frame.state_of.Reads.Asked frame.state_of.Reads.Learnt frame.state_of.Statement.statement (λ κs (health, _). stateOf (health % 8))
   pub health-of : Answered frame.health_of.Reads.Asked frame.health_of.Reads.Learnt frame.health_of.Statement.statement (λ κs (state, _). healthOf state)
   pub header-of : Answered frame.header_of.Reads.Asked frame.header_of.Reads.Learnt frame.header_of.Statement.statement (λ κs (first, (second, _)). headerOf (bits 24 first) (bits 24 second))
+  pub frame-built : Answered frame.built.Reads.Asked frame.built.Reads.Learnt frame.built.Statement.statement (λ κs (header, (n, (words, _))). builtOf header n words)
   pub no-frame : Answered frame.no_frame.Reads.Asked frame.no_frame.Reads.Learnt frame.no_frame.Statement.statement (λ κs a. blank)
   pub n-of : Answered frame.n_of.Reads.Asked frame.n_of.Reads.Learnt frame.n_of.Statement.statement (λ κs (second, _). nOf (bits 24 second))
   pub has-preamble : Answered frame.has_preamble.Reads.Asked frame.has_preamble.Reads.Learnt frame.has_preamble.Statement.statement (λ κs (first, _). preambled (bits 24 first))

@@ -10,6 +10,7 @@ use Rattle.bits.specs.Bits.{bits}
 use Rattle.line.specs.Answer.{sixOf, saysSix}
 use Rattle.word.specs.Answer.{wordOf, saysSent}
 use Rattle.frame.specs.Header.{stateOf}
+use Rattle.frame.specs.Frames.{builtOf}
 use Rattle.frame.specs.declared.Frame.{Frame}
 use Rattle.frame.specs.declared.State.the-variants.{Factor}
 use Rattle.reader.specs.Reading.{started}
@@ -51,7 +52,7 @@ ListsAsTwoLines bs = (ps : List Piece) (out : List ℕ) → Roomy ps → 7 * len
 
 -- a frame of type 1 with this Z count and this N
 abbrev pub typeOne : ℕ → ℕ → Frame
-typeOne z n = record { header = record { kind = 1; station = 5; z = z; sequence = 3; state = Factor 100 }; n = n; words = replicate 31 0 }
+typeOne z n = builtOf (record { kind = 1; station = 5; z = z; sequence = 3; state = Factor 100 }) n (replicate 31 0)
 
 -- how many satellites it has, or the refusal
 abbrev pub satellites : ℕ → ℕ → Says ℕ

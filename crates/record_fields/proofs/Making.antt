@@ -9,7 +9,7 @@ use Rattle.bits.specs.Fields.{fieldsAt, span}
 use Rattle.bits.specs.Rows.{dataBits, rowsAt, filled, wordsIn}
 use Rattle.bits.proofs.RowLaws.{fields-front, rows-front}
 use Rattle.bits.proofs.WordLaws.{length-data, data-append}
-use Rattle.frame.specs.Frames.{framed, dataWords}
+use Rattle.frame.specs.Frames.{builtOf, framed, dataWords}
 use Rattle.frame.specs.Widths.{outside}
 use Rattle.frame.specs.declared.Header.{Header}
 use Rattle.frame.specs.declared.Frame.{Frame}
@@ -24,9 +24,9 @@ use Rattle.record_fields.proofs.Holds.{Narrow, Ready, empty-holds, rows
 pub packed-frame : {A : Type 0} (k : Coding A) (pattern : ℕ) (h : Header) (es : List A) (p : Packer) → Narrow (k .widths)
     → length es * span (k .widths) ≤ 744
     → p ≡ filledUp pattern (pushedRows (k .widths) (rowsOf k es) emptyPacker)
-    → record { header = h; n = p .whole; words = p .words } ≡ frameWith pattern k h es
+    → builtOf h (p .whole) (p .words) ≡ frameWith pattern k h es
 unfolding frameWith framed entryBits
-packed-frame k pattern h es p narrow room e = ap₂ (λ n ws. record { header = h; n = n; words = ws }) (whole .0) (whole .1)
+packed-frame k pattern h es p narrow room e = ap₂ (λ n ws. builtOf h n ws) (whole .0) (whole .1)
   where
     rows : Ready (pushedRows (k .widths) (rowsOf k es) emptyPacker) (entryBits k es)
     rows =

@@ -6,7 +6,7 @@ use mathlib.Core.List.{List, [], _∷_}
 use Prim.Native.Nat.{ℕ, _+_, _*_, _/_, _<_}
 use lib.Dec.{ltb, leb, eqb}
 use Rattle.answer.specs.Order.{Says, refuses, answers, Check, inOrder}
-use Rattle.frame.specs.Frames.{blank}
+use Rattle.frame.specs.Frames.{builtOf, blank}
 use Rattle.frame.specs.Layout.{layoutOf}
 use Rattle.frame.specs.Widths.{headerOutside, outside, late}
 use Rattle.frame.specs.declared.Header.{Header}
@@ -131,7 +131,7 @@ doneMade f = record { answer = making.Done; frame = f }
 
 -- the frame of what a packer holds, its last word filled by a pattern
 abbrev pub packedFrame : ℕ → Header → Packer → Frame
-packedFrame pattern h p = record { header = h; n = filledUp pattern p .whole; words = filledUp pattern p .words }
+packedFrame pattern h p = builtOf h (filledUp pattern p .whole) (filledUp pattern p .words)
 
 -- MAKING a frame of the rows of c entries: 5, 6, 7, 12, then 10 or 11
 abbrev pub madeOrder : Layout → ℕ → Header → ℕ → Bool → List Check

@@ -209,10 +209,6 @@ pub fn make_frame(
     let words = full.words;
     Made {
         answer: Making::Done,
-        frame: Frame {
-            header,
-            n: full.whole,
-            words,
-        },
+        frame: frame::built(header, full.whole, words),
     }
 }

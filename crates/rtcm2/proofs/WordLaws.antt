@@ -6,7 +6,7 @@ use native.Mathlib.Omega.{arith}
 use lib.ListN.{length, take, drop, getD, replicate}
 use borrow.Author.Tests.{lt-ltb, le-ltb, eq-eqb, ne-eqb}
 use Rattle.answer.specs.Order.{refuses, answers}
-use Rattle.frame.specs.Frames.{framed}
+use Rattle.frame.specs.Frames.{builtOf, framed}
 use Rattle.frame.specs.declared.Header.{Header}
 use Rattle.journal.specs.Bytes.{wordIn, wordsFrom}
 use Rattle.journal.proofs.ByteLaws.{word-none}
@@ -31,9 +31,9 @@ three-bytes bs at h b =
 
 -- ---- the frame
 
-framed-by : (h : Header) (n : ℕ) (ws : List ℕ) → length ws ≡ n → record { header = h; n = n; words = ws ++ replicate (31 - n) 0 } ≡ framed h ws
+framed-by : (h : Header) (n : ℕ) (ws : List ℕ) → length ws ≡ n → builtOf h n (ws ++ replicate (31 - n) 0) ≡ framed h ws
 unfolding framed
-framed-by h n ws l = ap (λ m. record { header = h; n = m; words = ws ++ replicate (31 - m) 0 }) (sym l)
+framed-by h n ws l = ap (λ m. builtOf h m (ws ++ replicate (31 - m) 0)) (sym l)
 
 module _ (h : Header) (bytes : List ℕ) where
   pub part-left : (length bytes % 3 ≡ 0 → ⊥) → refuses 5 ≡ wordsSaid h bytes
@@ -45,8 +45,8 @@ module _ (h : Header) (bytes : List ℕ) where
 
     pub words-kept : {words : List ℕ} → length bytes / 3 ≤ 31
         → words ≡ wordsFrom 3 (length bytes / 3) bytes ++ replicate (31 - length bytes / 3) 0
-        → answers (record { header = h; n = length bytes / 3; words = words }) ≡ wordsSaid h bytes
+        → answers (builtOf h (length bytes / 3) words) ≡ wordsSaid h bytes
     words-kept {words} m e =
         rw (eq-eqb (length bytes % 3) 0 d, le-ltb 31 (length bytes / 3) m)
-        (ap (λ ws. answers (record { header = h; n = length bytes / 3; words = ws })) e
+        (ap (λ ws. answers (builtOf h (length bytes / 3) ws)) e
         ∙ ap answers (framed-by h (length bytes / 3) (wordsFrom 3 (length bytes / 3) bytes) (length-words 3 (length bytes / 3) bytes)))

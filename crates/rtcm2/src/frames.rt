@@ -82,7 +82,7 @@ fn keep_words(header: Header, bytes: &[u8], frame: &mut [u8], length: &mut usize
         return 5;
     }
     let words = words_of(n, bytes);
-    keep_frame(Frame { header, n, words }, frame, length)
+    keep_frame(frame::built(header, n, words), frame, length)
 }
 
 // Keeps a frame of any type, from its five numbers and the bytes of its data words. Order 5, 13.

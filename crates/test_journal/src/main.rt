@@ -82,17 +82,15 @@ fn show_recalled(bytes: &[u8]) {
 
 // The null frame of station 5, sequence 3, health 0.
 fn null_frame(z: u16) -> Frame {
-    Frame {
-        header: Header {
-            kind: 6,
-            station: 5,
-            z,
-            sequence: 3,
-            state: State::Factor(100),
-        },
-        n: 0,
-        words: [0u32; 31],
-    }
+    let header = Header {
+        kind: 6,
+        station: 5,
+        z,
+        sequence: 3,
+        state: State::Factor(100),
+    };
+    let words = [0u32; 31];
+    frame::built(header, 0, words)
 }
 
 // What keeping answers, and what it leaves in the buffer.

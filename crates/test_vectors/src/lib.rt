@@ -30,7 +30,7 @@ pub fn frame_of(first: u32, second: u32, data: &[u32]) -> Frame {
     }
     let header = frame::header_of(first, second);
     let n = frame::n_of(second);
-    Frame { header, n, words }
+    frame::built(header, n, words)
 }
 
 // Writes text as it is.

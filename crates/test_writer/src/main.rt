@@ -66,7 +66,7 @@ fn show(kind: u8, n: usize, data: [u32; 7], bit: u8) {
         sequence: 3,
         state: State::Factor(100),
     };
-    let frame = Frame { header, n, words };
+    let frame = frame::built(header, n, words);
     let carried = Carried { d29: bit, d30: bit };
     let mut buffer = [0u8; 64];
     print_stream(frame, carried, &mut buffer);

@@ -3,6 +3,7 @@ use mathlib.Core.Path.{_≡_, ap, _∙_}
 use mathlib.Core.List.{List, [], _∷_}
 use borrow.Author.Needs.{needs}
 use Rattle.answer.specs.Order.{Check, inOrder}
+use Rattle.frame.specs.Frames.{builtOf}
 use Rattle.record_stages.specs.declared.Made.{Made}
 use Rattle.record_stages.specs.declared.checks.Suited.the-variants as suited
 use Rattle.record_stages.specs.Stages.{wrongCount, makeOrder, entryRefusal, packedFrame, refusedMade, doneMade, madeBy}
@@ -47,14 +48,15 @@ returns-2 c =
 returns-3 : tie.Need-returns-3
 unfolding doneMade
 returns-3 c =
-    let o = c .before .before .before in
+    let p = c .before .before in
+    let o = p .before .before in
     let s = o .before .before .before .before in
     last-decides (o .before) _
-    (ap (λ p. doneMade (record { header = s .args .header; n = p .whole; words = p .words })) (c .before .fill-up .ensures)
+    (ap doneMade (c .built .ensures ∙ ap (λ q. builtOf (s .args .header) (q .whole) (q .words)) (p .fill-up .ensures))
     ∙ last-fine refusedMade (done s) (s .args .rows .out) (entryRefusal (s .args .layout)) (o .if1 .left))
 
 pub make-frame-spec : {M : Type 1} → statement M
 make-frame-spec =
     tie.close
     (tie.spec (λ c κs. search needs) (λ c. search needs) (λ c κs. search needs) returns (λ c. search needs)
-    (λ c κs. search needs) (λ c κs. search needs) returns-2 (λ c κs. search needs) returns-3)
+    (λ c κs. search needs) (λ c κs. search needs) returns-2 (λ c κs. search needs) (λ c κs. search needs) returns-3)

@@ -15,4 +15,4 @@ frame-of-spec =
     tie.close
     (tie.spec Inv-loop μ-loop (λ c. tt) (λ c. search needs) (λ c. search needs) (λ c. search needs)
     (λ c. search needs) (λ c. search needs) (λ c. search needs) (λ c. tt) (λ c κs. search needs)
-    (λ c κs. search needs) (λ c. search needs))
+    (λ c κs. search needs) (λ c κs. search needs) (λ c. search needs))
