@@ -66,7 +66,7 @@ linedBy x = record { used = x .used; written = length (x .text); listing = x .li
 
 -- room for a line: seven numbers of at most twenty digits, each with the byte after it
 abbrev pub lineRoom : ℕ
-lineRoom = 147
+lineRoom = 7 * (20 + 1)
 
 -- a reader takes bytes once its waiting frames are taken: 5, 3
 abbrev pub readyBy : Reader → Answer

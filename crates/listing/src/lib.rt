@@ -40,10 +40,10 @@ pub struct Lined {
 }
 
 // Room for a line: seven numbers of at most twenty digits, each with the byte after it.
-const LINE_ROOM: usize = 147;
+const LINE_ROOM: usize = 7 * (20 + 1);
 
 // Room for the lines that the end may release and for the last line.
-const END_ROOM: usize = 2499;
+const END_ROOM: usize = (16 + 1) * LINE_ROOM;
 
 // A listing of which nothing has been read.
 pub fn new() -> Listing

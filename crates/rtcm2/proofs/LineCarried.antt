@@ -13,7 +13,7 @@ use Rattle.reader.specs.declared.Answer.{Answer}
 use Rattle.reader.specs.declared.Answer.the-variants.{Done, Refused}
 use Rattle.reader.specs.declared.Next.{Next}
 use Rattle.reader.specs.declared.Taken.{Taken}
-use Rattle.rtcm2_state.specs.State.{startPut, statePut}
+use Rattle.rtcm2_state.specs.State.{stateSize, startPut, statePut}
 use Rattle.rtcm2_state.proofs.RoundTrip.{put-held, put-read, put-again, start-put}
 use Rattle.rtcm2_state.proofs.Carried.{CarriedBy, carried-narrow, carried-fit, carried-ended, carried-taken, order-holds}
 use Rattle.rtcm2.specs.Line.{doneBy, readBy}
@@ -39,7 +39,7 @@ module _ (r : Reader) where
         reader = record { cells = r .cells; candidate = takeTo (r .cells) (r .candidate) (r .ended); ended = r .ended };
       }) (λ n. refl) (λ none. refl)
 
-module _ (r : Reader) (k : CarriedBy r) (state : List ℕ) (h : 188 ≤ length state) where
+module _ (r : Reader) (k : CarriedBy r) (state : List ℕ) (h : stateSize ≤ length state) where
   -- every call: feed, feed all, end and take are this at their own answer and call
   pub call-carried : {A : Type 0} (answer : A → Answer) (call : Reader → A) → readBy answer call (statePut r state) ≡ doneBy (answer (call r)) (call r)
   call-carried answer call =

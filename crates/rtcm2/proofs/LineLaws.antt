@@ -15,7 +15,7 @@ use Rattle.frame.specs.declared.Frame.{Frame}
 use Rattle.journal.specs.Journal.{keptBy, heldBy, saysKept}
 use Rattle.journal.specs.declared.Kept.the-variants as kept
 use Rattle.journal.proofs.RoundTrip.{refused-unchanged}
-use Rattle.rtcm2_state.specs.State.{holdsState, stateIn}
+use Rattle.rtcm2_state.specs.State.{stateSize, holdsState, stateIn}
 use Rattle.rtcm2.specs.Answer.{numberOf, left, andThen}
 use Rattle.rtcm2.specs.Line.{doneBy, readBy, startedIn, takenIn}
 
@@ -37,13 +37,13 @@ module _ {A : Type 0} {s : Says A} where
 
 -- ---- START
 
-pub start-short : (state : List ℕ) → length state < 188 → startedIn state ≡ refuses 13
+pub start-short : (state : List ℕ) → length state < stateSize → startedIn state ≡ refuses 13
 unfolding startedIn
-start-short state h = rw (lt-ltb (length state) 188 h)
+start-short state h = rw (lt-ltb (length state) stateSize h)
 
-pub start-done : (state : List ℕ) → 188 ≤ length state → startedIn state ≡ answers started
+pub start-done : (state : List ℕ) → stateSize ≤ length state → startedIn state ≡ answers started
 unfolding startedIn
-start-done state h = rw (le-ltb (length state) 188 h)
+start-done state h = rw (le-ltb (length state) stateSize h)
 
 -- ---- a call of the reader that is held
 

@@ -35,7 +35,7 @@ use Rattle.record_positions.specs.Positions as position
 use Rattle.record_positions.specs.declared.Position.{Position}
 use Rattle.record_nulls.specs.Nulls as null
 use Rattle.record_texts.specs.Texts as text
-use Rattle.rtcm2_rows.specs.Rows.{countOf, entriesFrom}
+use Rattle.rtcm2_rows.specs.Rows.{rowSize, countOf, entriesFrom}
 use Rattle.rtcm2_rows.specs.Corrections as correction-bytes
 use Rattle.rtcm2_rows.specs.Healths as health-bytes
 use Rattle.rtcm2.specs.Header.{headed, saysHeaded}
@@ -114,7 +114,7 @@ module _ (kind station z sequence code : ℕ) (buffer : List ℕ) where
     unfolding correction.makeCorrections
     corrections-made =
         let es = entriesFrom correction-bytes.row 18 bs in
-        let c = countOf 7 (length bs) in
+        let c = countOf (rowSize correction-bytes.row) (length bs) in
         entries-order layout.Correction correction.coding correction.fill (take c es) (listChecks 18 correction.outOfRange es c)
         (λ h. correction.makeCorrections h es c) refl (λ none. omega (arith, few es c 18 (none .0)))
 
@@ -123,7 +123,7 @@ module _ (kind station z sequence code : ℕ) (buffer : List ℕ) where
     unfolding health.makeHealths
     healths-made =
         let es = entriesFrom health-bytes.row 31 bs in
-        let c = countOf 10 (length bs) in
+        let c = countOf (rowSize health-bytes.row) (length bs) in
         entries-order layout.Health health.coding health.fill (take c es) (listChecks 31 health.outOfRange es c)
         (λ h. health.makeHealths h es c) refl (λ none. omega (arith, few es c 31 (none .0)))
 

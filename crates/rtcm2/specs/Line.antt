@@ -13,7 +13,7 @@ use Rattle.reader.specs.declared.Next.{Next}
 use Rattle.reader.specs.declared.FedAll.{FedAll}
 use Rattle.reader.specs.declared.Taken.{Taken}
 use Rattle.journal.specs.Journal.{keptBy, saysKept}
-use Rattle.rtcm2_state.specs.State.{holdsState, stateIn}
+use Rattle.rtcm2_state.specs.State.{stateSize, holdsState, stateIn}
 use Rattle.rtcm2.specs.Answer.{andThen}
 
 -- REFUSAL 5: bytes that hold no state
@@ -31,7 +31,7 @@ readBy answer call state = andThen (heldIn state) (λ r. doneBy (answer (call r)
 
 -- START: 13
 unfoldable pub startedIn : List ℕ → Says Reader
-startedIn state = cond (ltb (length state) 188) (refuses 13) (answers started)
+startedIn state = cond (ltb (length state) stateSize) (refuses 13) (answers started)
 
 -- FEED: 5, 3, 2, 1
 unfoldable pub fedIn : List ℕ → ℕ → Says Next

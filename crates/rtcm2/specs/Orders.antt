@@ -25,7 +25,7 @@ use Rattle.record_healths.specs.Healths as health
 use Rattle.record_positions.specs.Positions as position
 use Rattle.record_texts.specs.Texts as text
 use Rattle.record_positions.specs.declared.Position.{Position}
-use Rattle.rtcm2_state.specs.State.{holdsState, stateIn}
+use Rattle.rtcm2_state.specs.State.{stateSize, holdsState, stateIn}
 use Rattle.rtcm2_rows.specs.Rows.{rowSize, countOf, entriesFrom}
 use Rattle.rtcm2_rows.specs.Corrections as correction-bytes
 use Rattle.rtcm2_rows.specs.Healths as health-bytes
@@ -34,7 +34,7 @@ use Rattle.rtcm2_rows.specs.Healths as health-bytes
 
 -- START: 13
 abbrev pub startedOrder : List ℕ → List Check
-startedOrder state = (ltb (length state) 188, 13) ∷ []
+startedOrder state = (ltb (length state) stateSize, 13) ∷ []
 
 -- A CALL OF THE READER: 5 for bytes that hold no state, then the call's own
 abbrev pub heldOrder : List ℕ → List Check → List Check
@@ -119,20 +119,25 @@ module _ (kind station z sequence code : ℕ) where
 
   -- corrections: 12, 10
   abbrev pub correctionsFrame : List ℕ → Frame
-  correctionsFrame bs = frameWith correction.fill correction.coding H (take (countOf 7 (length bs)) (entriesFrom correction-bytes.row 18 bs))
+  correctionsFrame bs =
+      frameWith correction.fill correction.coding H
+      (take (countOf (rowSize correction-bytes.row) (length bs)) (entriesFrom correction-bytes.row 18 bs))
 
   abbrev pub correctionsOrder : List ℕ → List ℕ → List Check
   correctionsOrder bs buffer =
-      madeOrder layout.Correction (listChecks 18 correction.outOfRange (entriesFrom correction-bytes.row 18 bs) (countOf 7 (length bs)))
+      madeOrder layout.Correction
+      (listChecks 18 correction.outOfRange (entriesFrom correction-bytes.row 18 bs) (countOf (rowSize correction-bytes.row) (length bs)))
       (correctionsFrame bs) buffer
 
   -- constellation health: 12, 10
   abbrev pub healthsFrame : List ℕ → Frame
-  healthsFrame bs = frameWith health.fill health.coding H (take (countOf 10 (length bs)) (entriesFrom health-bytes.row 31 bs))
+  healthsFrame bs = frameWith health.fill health.coding H (take (countOf (rowSize health-bytes.row) (length bs)) (entriesFrom health-bytes.row 31 bs))
 
   abbrev pub healthsOrder : List ℕ → List ℕ → List Check
   healthsOrder bs buffer =
-      madeOrder layout.Health (listChecks 31 health.outOfRange (entriesFrom health-bytes.row 31 bs) (countOf 10 (length bs))) (healthsFrame bs) buffer
+      madeOrder layout.Health
+      (listChecks 31 health.outOfRange (entriesFrom health-bytes.row 31 bs) (countOf (rowSize health-bytes.row) (length bs)))
+      (healthsFrame bs) buffer
 
   -- a position: 10
   abbrev pub positionFrame : Position → Frame

@@ -2,7 +2,7 @@
 ghost use mathlib.Core.Path.{_≡_};
 ghost use lib.ListN.{length};
 ghost use Rattle.record_corrections.specs.Corrections.{makeCorrections, saysCorrectionRead};
-ghost use Rattle.rtcm2_rows.specs.Rows.{countOf, entriesFrom};
+ghost use Rattle.rtcm2_rows.specs.Rows.{rowSize, countOf, entriesFrom};
 ghost use Rattle.rtcm2_rows.specs.Corrections.{row};
 ghost use Rattle.rtcm2.specs.Answer.{numberOf, left};
 ghost use Rattle.rtcm2.specs.Header.{headed};
@@ -14,9 +14,6 @@ use frame::Header;
 use journal::Found;
 use record_corrections::CorrectionRead;
 use record_stages::Made;
-
-// The bytes of one correction.
-const SIZE: usize = 7;
 
 // How many corrections a frame has. Order 14, 15, 16, 15, 16, then 6, 7, 8.
 #[no_mangle]
@@ -67,9 +64,9 @@ pub extern "C" fn rtcm2_correction_at(frame: &[u8], index: usize, correction: &m
 
 // The frame of a header and the corrections in these bytes.
 fn made_of(header: Header, corrections: &[u8]) -> Made
-    ensures { λ r. ⌜ r ≡ makeCorrections header (entriesFrom row 18 (now (corrections .entry))) (countOf 7 (length (now (corrections .entry)))) ⌝ }
+    ensures { λ r. ⌜ r ≡ makeCorrections header (entriesFrom row 18 (now (corrections .entry))) (countOf (rowSize row) (length (now (corrections .entry)))) ⌝ }
 {
-    let count = rtcm2_rows::row::count_of(SIZE, corrections.len());
+    let count = rtcm2_rows::row::count_of(rtcm2_rows::correction::SIZE, corrections.len());
     let entries = rtcm2_rows::correction::corrections_in(corrections);
     record_corrections::make_corrections(header, entries, count)
 }

@@ -2,7 +2,7 @@
 ghost use mathlib.Core.Path.{_≡_};
 ghost use lib.ListN.{length};
 ghost use Rattle.record_healths.specs.Healths.{makeHealths, saysHealthRead};
-ghost use Rattle.rtcm2_rows.specs.Rows.{countOf, entriesFrom};
+ghost use Rattle.rtcm2_rows.specs.Rows.{rowSize, countOf, entriesFrom};
 ghost use Rattle.rtcm2_rows.specs.Healths.{row};
 ghost use Rattle.rtcm2.specs.Answer.{numberOf, left};
 ghost use Rattle.rtcm2.specs.Header.{headed};
@@ -14,9 +14,6 @@ use frame::Header;
 use journal::Found;
 use record_healths::HealthRead;
 use record_stages::Made;
-
-// The bytes of one satellite's health.
-const SIZE: usize = 10;
 
 // How many satellites a frame has. Order 14, 15, 16, 15, 16, then 6, 7, 8.
 #[no_mangle]
@@ -67,9 +64,9 @@ pub extern "C" fn rtcm2_health_at(frame: &[u8], index: usize, bytes: &mut [u8]) 
 
 // The frame of a header and the satellites' health in these bytes.
 fn made_of(header: Header, healths: &[u8]) -> Made
-    ensures { λ r. ⌜ r ≡ makeHealths header (entriesFrom row 31 (now (healths .entry))) (countOf 10 (length (now (healths .entry)))) ⌝ }
+    ensures { λ r. ⌜ r ≡ makeHealths header (entriesFrom row 31 (now (healths .entry))) (countOf (rowSize row) (length (now (healths .entry)))) ⌝ }
 {
-    let count = rtcm2_rows::row::count_of(SIZE, healths.len());
+    let count = rtcm2_rows::row::count_of(rtcm2_rows::health::SIZE, healths.len());
     let entries = rtcm2_rows::health::healths_in(healths);
     record_healths::make_healths(header, entries, count)
 }

@@ -1,7 +1,7 @@
 // Reading the line: each call finds the reader in the lent bytes and puts back what is left of it.
 ghost use mathlib.Core.Path.{_≡_};
 ghost use Rattle.journal.specs.Journal.{heldBy};
-ghost use Rattle.rtcm2_state.specs.State.{startPut, statePut};
+ghost use Rattle.rtcm2_state.specs.State.{stateSize, startPut, statePut};
 ghost use Rattle.rtcm2.specs.Answer.{numberOf, left};
 ghost use Rattle.rtcm2.specs.Line.{startedIn, fedIn, fedAllIn, endedIn, takenIn};
 use journal::Kept;
@@ -10,18 +10,18 @@ use reader::Answer;
 // How many bytes a state takes.
 #[no_mangle]
 pub extern "C" fn rtcm2_state_size() -> usize
-    ensures { λ r. ⌜ r ≡ 188 ⌝ }
+    ensures { λ r. ⌜ r ≡ stateSize ⌝ }
 {
-    188
+    rtcm2_state::SIZE
 }
 
-// Starts a reader: the first 188 bytes become a fresh state. Refusal: 13.
+// Starts a reader: the first bytes become a fresh state. Refusal: 13.
 #[no_mangle]
 pub extern "C" fn rtcm2_start(state: &mut [u8]) -> u8
     ensures { λ r. ⌜ r ≡ numberOf (startedIn (now (state .entry))) ⌝ }
     ensures { λ _. ⌜ now (state .exit) ≡ left (startedIn (now (state .entry))) (λ r. statePut r (now (state .entry))) (now (state .entry)) ⌝ }
 {
-    if state.len() < 188 {
+    if state.len() < rtcm2_state::SIZE {
         return 13;
     }
     rtcm2_state::put_state(reader::new(), state);

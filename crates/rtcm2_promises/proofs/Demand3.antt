@@ -12,7 +12,7 @@ use Rattle.reader.specs.declared.Reader.{Reader}
 use Rattle.reader.specs.declared.Taken.{Taken}
 use Rattle.journal.specs.Journal.{keptBy, saysKept}
 use Rattle.record_fields.specs.Coding.{Each}
-use Rattle.rtcm2_state.specs.State.{stateIn}
+use Rattle.rtcm2_state.specs.State.{stateSize, stateIn}
 use Rattle.rtcm2_state.proofs.RoundTrip.{put-read}
 use Rattle.rtcm2_state.proofs.Carried.{carried-fit}
 use Rattle.rtcm2.specs.Answer.{andThen}
@@ -69,7 +69,7 @@ takes-its-record state frame rest size t e =
 
 -- ---- the sentences, of a state's bytes with room
 
-module _ (state : List ℕ) (h : 188 ≤ length state) where
+module _ (state : List ℕ) (h : stateSize ≤ length state) where
   same : (cs : List LineCall) → Each HasRoom cs → outcomeIn state cs ≡ outcome (asked cs)
   same cs room = is-reader state h cs room .same
 

@@ -23,6 +23,7 @@ use Rattle.rtcm2.specs.Send.{pairOf, writeSaid, lineLent}
 use Rattle.promises.specs.Calls.{Outcome, reported}
 use Rattle.promises.proofs.CarriesItsNumber.{says-inj}
 use Rattle.promises.proofs.ThoseOfRtcm.{frames-of-rtcm}
+use Rattle.rtcm2_state.specs.State.{stateSize}
 use Rattle.rtcm2_promises.specs.LineCalls.{outcomeIn}
 use Rattle.rtcm2_promises.specs.LineBack.{Sends, behindIn, writtenIn, streamIn, LineGivesBack}
 use Rattle.rtcm2_promises.proofs.Demand3.{library-demand-3}
@@ -55,7 +56,7 @@ written-same (p ∷ sent) a d29 d30 line =
     go (Done k on) after next = ap (λ l. take k after ++ l) (next (on .d29) (on .d30) (drop k after))
     go (Refused n) after next = refl
 
-pub line-gives-back : (state : List ℕ) → 188 ≤ length state → LineGivesBack state
+pub line-gives-back : (state : List ℕ) → stateSize ≤ length state → LineGivesBack state
 line-gives-back state h sent a line cs room long bits ended none =
     library-demand-3 state h .only cs room .given
     ∙ ap (map reported) (library-demand-3 state h .nothing-lost cs room none ∙ whole ∙ ap framesIn bits

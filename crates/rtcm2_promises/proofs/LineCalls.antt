@@ -7,7 +7,7 @@ use lib.ListN.{length}
 use Rattle.record_fields.specs.Coding.{Each}
 use Rattle.reader.specs.Reading.{started}
 use Rattle.reader.specs.declared.Reader.{Reader}
-use Rattle.rtcm2_state.specs.State.{stateIn, statePut}
+use Rattle.rtcm2_state.specs.State.{stateSize, stateIn, statePut}
 use Rattle.rtcm2_state.proofs.RoundTrip.{put-read}
 use Rattle.rtcm2_state.proofs.Carried.{carried-fit}
 use Rattle.rtcm2.specs.Answer.{left}
@@ -27,7 +27,7 @@ pub record SameAll (r : Reader) (state : List ℕ) (cs : List LineCall) : Type 0
   pub leaves : afterAllIn (statePut r state) cs ≡ statePut (afterAll r (asked cs)) state
   pub called : Called (afterAll r (asked cs))
 
-module _ (state : List ℕ) (h : 188 ≤ length state) where
+module _ (state : List ℕ) (h : stateSize ≤ length state) where
   pub same-calls : (cs : List LineCall) (r : Reader) → Called r → Each HasRoom cs → SameAll r state cs
   unfolding repliesIn replies bitsTakenIn bitsTaken handedOutIn handedOut afterAllIn afterAll
   same-calls [] r k room = record { reply = refl; bits = refl; out = refl; leaves = refl; called = k }

@@ -23,7 +23,7 @@ use Rattle.reader.specs.declared.FedAll.{FedAll}
 use Rattle.reader.specs.declared.Taken.{Taken}
 use Rattle.journal.specs.Journal.{keepOrder, keptBy, heldBy, saysKept}
 use Rattle.journal.specs.declared.Kept.the-variants as kept-as
-use Rattle.rtcm2_state.specs.State.{startPut, statePut}
+use Rattle.rtcm2_state.specs.State.{stateSize, startPut, statePut}
 use Rattle.rtcm2_state.proofs.Carried.{carried-fed, carried-fed-all}
 use Rattle.rtcm2.specs.Answer.{left, andThen}
 use Rattle.rtcm2.specs.Frames.{frameSaid}
@@ -42,7 +42,7 @@ pub record Same (r : Reader) (state : List ℕ) (c : LineCall) : Type 0 where
   pub reply : replyIn (statePut r state) c ≡ replyTo r (asks c)
   pub leaves : afterIn (statePut r state) c ≡ statePut (after r (asks c)) state
 
-module _ (r : Reader) (k : Called r) (state : List ℕ) (h : 188 ≤ length state) where
+module _ (r : Reader) (k : Called r) (state : List ℕ) (h : stateSize ≤ length state) where
   abbrev held : List ℕ
   held = statePut r state
 

@@ -142,13 +142,14 @@ module _ {A : Type 0} (row : Coding A) (Good : A → Type 0) (law : Faithful row
 
 correction-typed : (bs : List ℕ) → AreBytes bs → correction.Typed (entryOf correction-bytes.row bs)
 correction-typed bs b =
-    let f = fit-take 7 bs b in
-    let low = byte-small (take 7 bs) 3 f in
-    let high = byte-small (take 7 bs) 4 f in
+    let vs = take (rowSize correction-bytes.row) bs in
+    let f = fit-take (rowSize correction-bytes.row) bs b in
+    let low = byte-small vs 3 f in
+    let high = byte-small vs 4 f in
     record {
-      prc = mag-signed 15 (getD (take 7 bs) 3 0 + 256 * getD (take 7 bs) 4 0) (omega (arith, low, high));
-      rrc = mag-signed 7 (getD (take 7 bs) 5 0) (byte-small (take 7 bs) 5 f);
-      iod = byte-small (take 7 bs) 6 f;
+      prc = mag-signed 15 (getD vs 3 0 + 256 * getD vs 4 0) (omega (arith, low, high));
+      rrc = mag-signed 7 (getD vs 5 0) (byte-small vs 5 f);
+      iod = byte-small vs 6 f;
     }
 
 -- ---- a frame of any type: its data words are the bytes of its record from the tenth on
@@ -198,11 +199,11 @@ module _ (kind station z sequence code : ℕ) where
   library-reads-back = record {
     make-corrections = λ rows b.
         let es = entriesFrom correction-bytes.row 18 rows in
-        let c = countOf 7 (length rows) in
+        let c = countOf (rowSize correction-bytes.row) (length rows) in
         let many = length-entries correction-bytes.row 18 rows in
         let typed = subst (Each correction.Typed) (take-all 18 es (omega (arith, many)))
         (each-read correction-bytes.row correction.Typed correction-typed 18 18 rows b) in
-        list-back correction-bytes.row correction-bytes.Typed correction-rows.faithful refl (λ i l m. omega (arith, count-held 7 l))
+        list-back correction-bytes.row correction-bytes.Typed correction-rows.faithful refl (λ i l m. omega (arith, count-held (rowSize correction-bytes.row) l))
         correction.makeCorrections 18 40 0xAAAAAA _ _ rows b kind station z sequence code (λ h. corrections-framed h es c)
         (λ h f e. (
           told-some-few c 18 (none-told (carries-its-number .make-corrections h es c) f e .1 .1 .1 .0) .1,
@@ -210,8 +211,8 @@ module _ (kind station z sequence code : ℕ) where
         ));
     make-healths = λ rows b.
         let es = entriesFrom health-bytes.row 31 rows in
-        let c = countOf 10 (length rows) in
-        list-back health-bytes.row health-bytes.Typed health-rows.faithful refl (λ i l m. omega (arith, count-held 10 l))
+        let c = countOf (rowSize health-bytes.row) (length rows) in
+        list-back health-bytes.row health-bytes.Typed health-rows.faithful refl (λ i l m. omega (arith, count-held (rowSize health-bytes.row) l))
         health.makeHealths 31 24 0 _ _ rows b kind station z sequence code (λ h. healths-framed h es c)
         (λ h f e. (
           told-some-few c 31 (none-told (carries-its-number .make-healths h es c) f e .1 .1 .1 .0) .1,

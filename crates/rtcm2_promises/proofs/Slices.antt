@@ -8,7 +8,7 @@ use Rattle.reader.specs.declared.Reader.{Reader}
 use Rattle.reader.specs.declared.Answer.{Answer}
 use Rattle.reader.specs.declared.Answer.the-variants.{Done, Refused}
 use Rattle.record_fields.specs.Coding.{Each}
-use Rattle.rtcm2_state.specs.State.{statePut}
+use Rattle.rtcm2_state.specs.State.{stateSize, statePut}
 use Rattle.promises.specs.Calls.{Call, feedsAll, used, replyTo, afterAll, takesAll, inSlices, unused}
 use Rattle.promises.proofs.ChangesNeither.{number-alone}
 use Rattle.rtcm2_promises.specs.LineCalls.{LineCall, feed-all, HasRoom, asks, asked, replyIn, afterAllIn, usedBy, SlicesIn, no-slice, slice-and}
@@ -44,7 +44,7 @@ used-said r bs = go (fedAllBy r bs .answer) refl
 
 -- ---- slice after slice
 
-module _ (state : List ℕ) (h : 188 ≤ length state) where
+module _ (state : List ℕ) (h : stateSize ≤ length state) where
   pub sliced : {held ns bs rest : List ℕ} {cs : List LineCall} → SlicesIn held ns bs cs rest → (r : Reader) → Called r → held ≡ statePut r state
       → Each HasRoom cs → (asked cs ≡ inSlices r ns bs) × (rest ≡ unused r ns bs)
   unfolding inSlices unused

@@ -29,7 +29,7 @@ abbrev pub TakesItsRecord : Type 0
 TakesItsRecord = (state frame rest : List ℕ) (size : ℕ) (t : Taken) → takenIn state frame ≡ answers (size, t)
     → recallSaid (take size (heldBy (t .frame) frame) ++ rest) ≡ answers (size, t .frame)
 
--- THE DEMAND, of a state's bytes with room, at least 188
+-- THE DEMAND, of a state's bytes with room
 pub record LibraryDemand3 (state : List ℕ) : Type 0 where
   pub reader : (cs : List LineCall) → Each HasRoom cs → IsReader state cs
   -- "Let a correct frame stand undamaged in the bits taken .. It is handed out once and exactly, at latest when 990 bits from its first have been

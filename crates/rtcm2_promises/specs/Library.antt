@@ -2,6 +2,7 @@
 use mathlib.Core.List.{List}
 use Prim.Native.Nat.{ℕ, _≤_}
 use lib.ListN.{length}
+use Rattle.rtcm2_state.specs.State.{stateSize}
 use Rattle.rtcm2_promises.specs.LibraryCalls.{LibraryCalls}
 use Rattle.rtcm2_promises.specs.CarriesItsNumber.{LibraryNumbers}
 use Rattle.rtcm2_promises.specs.ChangesNeither.{LibraryKeeps}
@@ -20,7 +21,7 @@ pub record Library : Type 2 where
   pub reads-back : (kind station z sequence code : ℕ) → LibraryReadsBack kind station z sequence code
   pub kept-again : KeptAgain
   -- demand 3, of every state's bytes with room; a frame that is taken is the one whose record comes
-  pub third : (state : List ℕ) → 188 ≤ length state → LibraryDemand3 state
+  pub third : (state : List ℕ) → stateSize ≤ length state → LibraryDemand3 state
   pub takes-record : TakesItsRecord
   -- and what is written comes back from the line
-  pub line-back : (state : List ℕ) → 188 ≤ length state → LineGivesBack state
+  pub line-back : (state : List ℕ) → stateSize ≤ length state → LineGivesBack state

@@ -4,7 +4,7 @@ use Prim.Native.Nat.{ℕ}
 use lib.IntN.{ℤ}
 use denote.Ref.{now}
 use Rattle.bits.specs.Bits.{val}
-use Rattle.rtcm2_state.specs.State.{holdsState, stateIn, storedBy, startPut, statePut}
+use Rattle.rtcm2_state.specs.State.{stateSize, holdsState, stateIn, storedBy, startPut, statePut}
 use Rattle.rtcm2_rows.specs.Rows.{countOf, entriesFrom, putBy, rowAfter}
 use Rattle.rtcm2.specs.Answer.{numberOf, left}
 use Rattle.rtcm2.specs.Line.{startedIn, fedIn, fedAllIn, endedIn, takenIn}
@@ -54,7 +54,7 @@ pub record LibraryCalls : Type 2 where
       (λ κs (_, (bytes, _)). putBy entry-healths.row (now bytes))
       (λ κs (_, (bytes, _)). now bytes) (λ κs (entry, (bytes, _)). rowAfter entry-healths.row entry (now bytes))
   -- rtcm2::line
-  pub state-size : Answered rtcm2.line.rtcm2_state_size.Reads.Asked rtcm2.line.rtcm2_state_size.Reads.Learnt rtcm2.line.rtcm2_state_size.Statement.statement (λ κs a. 188)
+  pub state-size : Answered rtcm2.line.rtcm2_state_size.Reads.Asked rtcm2.line.rtcm2_state_size.Reads.Learnt rtcm2.line.rtcm2_state_size.Statement.statement (λ κs a. stateSize)
   pub start : AnsweredLent rtcm2.line.rtcm2_start.Reads.Asked rtcm2.line.rtcm2_start.Reads.Learnt rtcm2.line.rtcm2_start.Statement.statement
       (λ κs (state, _). numberOf (startedIn (now state)))
       (λ κs (state, _). now state) (λ κs (state, _). left (startedIn (now state)) (λ r. statePut r (now state)) (now state))

@@ -101,38 +101,40 @@ module _ {A : Type 0} (k : Coding A) (Good : A → Type 0) (law : Faithful k Goo
 
 -- ---- corrections
 
-pub correction-put-read : (e : Correction) (bs : List ℕ) → correction.Typed e → 7 ≤ length bs → entryOf correction.row (rowAfter correction.row e bs) ≡ e
+pub correction-put-read : (e : Correction) (bs : List ℕ) → correction.Typed e → rowSize correction.row ≤ length bs
+    → entryOf correction.row (rowAfter correction.row e bs) ≡ e
 correction-put-read = row-put-read correction.row correction.Typed corrections.faithful
 
 pub correction-read-put : (bs : List ℕ) → AreBytes bs → rowAfter correction.row (entryOf correction.row bs) bs ≡ bs
 correction-read-put = row-read-put correction.row correction.Typed corrections.faithful refl
 
-pub corrections-counted : (es : List Correction) → Each correction.Typed es → countOf 7 (length (rowBytes correction.row es)) ≡ length es
+pub corrections-counted : (es : List Correction) → Each correction.Typed es → countOf (rowSize correction.row) (length (rowBytes correction.row es)) ≡ length es
 corrections-counted es = rows-counted correction.row correction.Typed corrections.faithful es (omega arith)
 
 pub corrections-put-read : (es : List Correction) (rest : List ℕ) → Each correction.Typed es
     → entriesFrom correction.row (length es) (rowBytes correction.row es ++ rest) ≡ es
 corrections-put-read = rows-put-read correction.row correction.Typed corrections.faithful
 
-pub corrections-read-put : (n : ℕ) (bs : List ℕ) → AreBytes bs → n * 7 ≤ length bs
-    → rowBytes correction.row (entriesFrom correction.row n bs) ≡ take (n * 7) bs
+pub corrections-read-put : (n : ℕ) (bs : List ℕ) → AreBytes bs → n * rowSize correction.row ≤ length bs
+    → rowBytes correction.row (entriesFrom correction.row n bs) ≡ take (n * rowSize correction.row) bs
 corrections-read-put = rows-read-put correction.row correction.Typed corrections.faithful refl
 
 -- ---- satellites' health
 
-pub health-put-read : (e : SatelliteHealth) (bs : List ℕ) → health.Typed e → 10 ≤ length bs → entryOf health.row (rowAfter health.row e bs) ≡ e
+pub health-put-read : (e : SatelliteHealth) (bs : List ℕ) → health.Typed e → rowSize health.row ≤ length bs
+    → entryOf health.row (rowAfter health.row e bs) ≡ e
 health-put-read = row-put-read health.row health.Typed healths.faithful
 
 pub health-read-put : (bs : List ℕ) → AreBytes bs → rowAfter health.row (entryOf health.row bs) bs ≡ bs
 health-read-put = row-read-put health.row health.Typed healths.faithful refl
 
-pub healths-counted : (es : List SatelliteHealth) → Each health.Typed es → countOf 10 (length (rowBytes health.row es)) ≡ length es
+pub healths-counted : (es : List SatelliteHealth) → Each health.Typed es → countOf (rowSize health.row) (length (rowBytes health.row es)) ≡ length es
 healths-counted es = rows-counted health.row health.Typed healths.faithful es (omega arith)
 
 pub healths-put-read : (es : List SatelliteHealth) (rest : List ℕ) → Each health.Typed es
     → entriesFrom health.row (length es) (rowBytes health.row es ++ rest) ≡ es
 healths-put-read = rows-put-read health.row health.Typed healths.faithful
 
-pub healths-read-put : (n : ℕ) (bs : List ℕ) → AreBytes bs → n * 10 ≤ length bs
-    → rowBytes health.row (entriesFrom health.row n bs) ≡ take (n * 10) bs
+pub healths-read-put : (n : ℕ) (bs : List ℕ) → AreBytes bs → n * rowSize health.row ≤ length bs
+    → rowBytes health.row (entriesFrom health.row n bs) ≡ take (n * rowSize health.row) bs
 healths-read-put = rows-read-put health.row health.Typed healths.faithful refl

@@ -9,7 +9,7 @@ use crate::row::byte_at;
 use record_corrections::Correction;
 
 // The bytes of one correction.
-const SIZE: usize = 7;
+pub const SIZE: usize = 7;
 
 // The correction whose bytes start at `at`; a byte past the last counts as 0.
 fn entry_from(bytes: &[u8], at: usize) -> Correction

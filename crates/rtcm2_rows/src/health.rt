@@ -9,7 +9,7 @@ use crate::row::byte_at;
 use record_healths::SatelliteHealth;
 
 // The bytes of one satellite's health.
-const SIZE: usize = 10;
+pub const SIZE: usize = 10;
 
 // The health whose bytes start at `at`; a byte past the last counts as 0.
 fn entry_from(bytes: &[u8], at: usize) -> SatelliteHealth

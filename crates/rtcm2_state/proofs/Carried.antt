@@ -45,7 +45,7 @@ use Rattle.reader.specs.declared.Next.{Next}
 use Rattle.reader.specs.declared.FedAll.{FedAll}
 use Rattle.reader.specs.declared.Taken.{Taken}
 use Rattle.reader.proofs.Accepted.{Accepted, accept-free, length-step, accepted-step, accepted-end, accepted-take}
-use Rattle.rtcm2_state.specs.State.{stateNumbers, tooWide}
+use Rattle.rtcm2_state.specs.State.{stateCount, stateNumbers, tooWide}
 use Rattle.rtcm2_state.proofs.StateLaws.{narrow}
 
 -- ---- cells of 32 bits
@@ -128,7 +128,7 @@ carried-narrow r k =
     narrow (r .candidate) (omega (arith, a .top)) (omega (arith, a .top, a .low)) (omega (arith, a .few))
 
 -- every number fits in 32 bits
-pub carried-fit : (r : Reader) → CarriedBy r → Fit (replicate 47 32) (stateNumbers r)
+pub carried-fit : (r : Reader) → CarriedBy r → Fit (replicate stateCount 32) (stateNumbers r)
 unfolding stateNumbers
 carried-fit r k =
     let a = k .fine in (

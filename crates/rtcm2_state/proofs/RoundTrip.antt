@@ -14,7 +14,8 @@ use Rattle.bits.specs.Fields.{Fit, AreBytes}
 use Rattle.bits.proofs.FieldLaws.{length-fit, fit-drop}
 use Rattle.reader.specs.declared.Reader.{Reader}
 use Rattle.rtcm2_state.specs.Numbers.{lowBytes, numbersWritten, numbersIn}
-use Rattle.rtcm2_state.specs.State.{startOf, stateNumbers, readerOf, areState, holdsState, stateIn, tooWide, startPut, statePut}
+use Rattle.rtcm2_state.specs.State.{stateSize, stateCount, startSize, startOf, stateNumbers, readerOf, areState}
+use Rattle.rtcm2_state.specs.State.{holdsState, stateIn, tooWide, startPut, statePut}
 use Rattle.rtcm2_state.proofs.NumberLaws.{length-written, length-numbers, number-of, number-four, numbers-written, written-numbers}
 use Rattle.rtcm2_state.proofs.StateLaws.{held-long, narrow, start-is}
 
@@ -64,33 +65,41 @@ numbers-reader (a ∷ b ∷ c ∷ d ∷ e ∷ f ∷ g ∷ ns) l h =
 
 -- ---- put, then read
 
--- where there are at least 188 bytes
-put-is : (r : Reader) (bs : List ℕ) → tooWide (r .candidate) ≡ false → 188 ≤ length bs → statePut r bs ≡ numbersWritten (stateNumbers r) ++ drop 188 bs
+-- where there are enough bytes
+put-is : (r : Reader) (bs : List ℕ) → tooWide (r .candidate) ≡ false → stateSize ≤ length bs
+    → statePut r bs ≡ numbersWritten (stateNumbers r) ++ drop stateSize bs
 unfolding statePut
-put-is r bs w h = rw (w, le-ltb (length bs) 188 h)
+put-is r bs w h = rw (w, le-ltb (length bs) stateSize h)
 
 -- every number of the reader fits in 32 bits, and there are forty cells
-module _ (r : Reader) (bs : List ℕ) (h : 188 ≤ length bs) (f : Fit (replicate 47 32) (stateNumbers r)) where
-  count : 47 ≡ length (stateNumbers r)
-  count = sym (length-replicate {A = ℕ} 47 32) ∙ sym (length-fit (replicate 47 32) (stateNumbers r) f)
+module _ (r : Reader) (bs : List ℕ) (h : stateSize ≤ length bs) (f : Fit (replicate stateCount 32) (stateNumbers r)) where
+  count : stateCount ≡ length (stateNumbers r)
+  count = sym (length-replicate {A = ℕ} stateCount 32) ∙ sym (length-fit (replicate stateCount 32) (stateNumbers r) f)
 
   counts : tooWide (r .candidate) ≡ false
   unfolding stateNumbers
   counts = narrow (r .candidate) (f .1 .0) (f .1 .1 .0) (f .1 .1 .1 .0)
 
-  numbers-back : numbersIn 47 (statePut r bs) ≡ stateNumbers r
+  numbers-back : numbersIn stateCount (statePut r bs) ≡ stateNumbers r
   numbers-back =
-      ap (numbersIn 47) (put-is r bs counts h)
-      ∙ ap (λ n. numbersIn n (numbersWritten (stateNumbers r) ++ drop 188 bs)) count
-      ∙ numbers-written (stateNumbers r) (drop 188 bs) (rw (sym count) f)
+      ap (numbersIn stateCount) (put-is r bs counts h)
+      ∙ ap (λ n. numbersIn n (numbersWritten (stateNumbers r) ++ drop stateSize bs)) count
+      ∙ numbers-written (stateNumbers r) (drop stateSize bs) (rw (sym count) f)
 
-  long : 188 ≤ length (statePut r bs)
-  long = omega (arith, ap length (put-is r bs counts h), length-append (numbersWritten (stateNumbers r)) (drop 188 bs), length-written (stateNumbers r), count)
+  long : stateSize ≤ length (statePut r bs)
+  long =
+      omega (
+        arith,
+        ap length (put-is r bs counts h),
+        length-append (numbersWritten (stateNumbers r)) (drop stateSize bs),
+        length-written (stateNumbers r),
+        count,
+      )
 
   -- HELD after it was put
   pub put-held : holdsState (statePut r bs) ≡ true
   unfolding holdsState
-  put-held = ap₂ (λ t ns. not t && areState ns) (le-ltb (length (statePut r bs)) 188 long) numbers-back ∙ numbers-state r
+  put-held = ap₂ (λ t ns. not t && areState ns) (le-ltb (length (statePut r bs)) stateSize long) numbers-back ∙ numbers-state r
 
   -- READ after it was put: the same reader
   pub put-read : stateIn (statePut r bs) ≡ r
@@ -101,11 +110,11 @@ module _ (r : Reader) (bs : List ℕ) (h : 188 ≤ length bs) (f : Fit (replicat
   pub put-again : (q : Reader) → tooWide (q .candidate) ≡ false → statePut q (statePut r bs) ≡ statePut q bs
   put-again q w =
       put-is q (statePut r bs) w long
-      ∙ ap (λ l. numbersWritten (stateNumbers q) ++ drop 188 l) (put-is r bs counts h)
-      ∙ ap (λ l. numbersWritten (stateNumbers q) ++ l) (drop-at (numbersWritten (stateNumbers r)) (drop 188 bs) 188 size)
+      ∙ ap (λ l. numbersWritten (stateNumbers q) ++ drop stateSize l) (put-is r bs counts h)
+      ∙ ap (λ l. numbersWritten (stateNumbers q) ++ l) (drop-at (numbersWritten (stateNumbers r)) (drop stateSize bs) stateSize size)
       ∙ sym (put-is q bs w h)
     where
-      size : length (numbersWritten (stateNumbers r)) ≡ 188
+      size : length (numbersWritten (stateNumbers r)) ≡ stateSize
       size = omega (arith, length-written (stateNumbers r), count)
 
   -- PUT THE START over it, of a reader with the same cells: as if the whole of that reader had been put
@@ -114,32 +123,32 @@ module _ (r : Reader) (bs : List ℕ) (h : 188 ≤ length bs) (f : Fit (replicat
   start-put q w e =
       let start = numbersWritten (startOf (q .candidate) (q .ended)) in
       start-is (q .candidate) (q .ended) (statePut r bs) w long
-      ∙ ap (λ l. start ++ drop 28 l) (put-is r bs counts h)
-      ∙ ap (λ cells. start ++ (numbersWritten cells ++ drop 188 bs)) (sym e)
+      ∙ ap (λ l. start ++ drop startSize l) (put-is r bs counts h)
+      ∙ ap (λ cells. start ++ (numbersWritten cells ++ drop stateSize bs)) (sym e)
       ∙ sym (put-is q bs w h)
 
 -- ---- read, then put: no byte changes
 
 module _ (bs : List ℕ) (f : AreBytes bs) (e : holdsState bs ≡ true) where
-  are-state : areState (numbersIn 47 bs) ≡ true
+  are-state : areState (numbersIn stateCount bs) ≡ true
   unfolding holdsState
-  are-state = and-eq-true-iff (not (ltb (length bs) 188)) (areState (numbersIn 47 bs)) .0 e .1
+  are-state = and-eq-true-iff (not (ltb (length bs) stateSize)) (areState (numbersIn stateCount bs)) .0 e .1
 
-  read-is : stateIn bs ≡ readerOf (numbersIn 47 bs)
+  read-is : stateIn bs ≡ readerOf (numbersIn stateCount bs)
   unfolding stateIn
   read-is = rw e
 
   -- each of its numbers is four bytes
-  below : (i : ℕ) → i < 47 → getD (numbersIn 47 bs) i 0 < 2 ^ 32
-  below i l = subst (λ n. n < 2 ^ 32) (sym (number-of 47 i bs l)) (number-four (drop (4 * i) bs) (fit-drop (4 * i) bs f))
+  below : (i : ℕ) → i < stateCount → getD (numbersIn stateCount bs) i 0 < 2 ^ 32
+  below i l = subst (λ n. n < 2 ^ 32) (sym (number-of stateCount i bs l)) (number-four (drop (4 * i) bs) (fit-drop (4 * i) bs f))
 
   counts-read : tooWide (stateIn bs .candidate) ≡ false
-  counts-read = subst (λ r. tooWide (r .candidate) ≡ false) (sym read-is) (unfold readerOf in narrow (readerOf (numbersIn 47 bs) .candidate) (below 1 (omega arith)) (below 2 (omega arith)) (below 3 (omega arith)))
+  counts-read = subst (λ r. tooWide (r .candidate) ≡ false) (sym read-is) (unfold readerOf in narrow (readerOf (numbersIn stateCount bs) .candidate) (below 1 (omega arith)) (below 2 (omega arith)) (below 3 (omega arith)))
 
   pub read-put : statePut (stateIn bs) bs ≡ bs
   read-put =
       put-is (stateIn bs) bs counts-read (held-long bs e)
-      ∙ ap (λ r. numbersWritten (stateNumbers r) ++ drop 188 bs) read-is
-      ∙ ap (λ ns. numbersWritten ns ++ drop 188 bs) (numbers-reader (numbersIn 47 bs) (omega (arith, length-numbers 47 bs)) are-state)
-      ∙ ap (λ l. l ++ drop 188 bs) (written-numbers 47 bs f (held-long bs e))
-      ∙ take-append-drop 188 bs
+      ∙ ap (λ r. numbersWritten (stateNumbers r) ++ drop stateSize bs) read-is
+      ∙ ap (λ ns. numbersWritten ns ++ drop stateSize bs) (numbers-reader (numbersIn stateCount bs) (omega (arith, length-numbers stateCount bs)) are-state)
+      ∙ ap (λ l. l ++ drop stateSize bs) (written-numbers stateCount bs f (held-long bs e))
+      ∙ take-append-drop stateSize bs

@@ -13,38 +13,39 @@ use Rattle.reader.specs.Reading.{started}
 use Rattle.reader.specs.declared.Candidate.{Candidate}
 use Rattle.reader.specs.declared.Reader.{Reader}
 use Rattle.rtcm2_state.specs.Numbers.{lowBytes, numberIn, numbersWritten, numbersIn}
-use Rattle.rtcm2_state.specs.State.{startOf, stateNumbers, readerOf, areState, holdsState, stateIn, tooWide, storedBy, startPut, statePut}
+use Rattle.rtcm2_state.specs.State.{stateSize, stateCount, startSize, startOf, stateNumbers, readerOf, areState}
+use Rattle.rtcm2_state.specs.State.{holdsState, stateIn, tooWide, storedBy, startPut, statePut}
 use Rattle.rtcm2_state.specs.declared.Stored.the-variants as stored
 use Rattle.rtcm2_state.proofs.NumberLaws.{length-written, number-of, numbers-from}
 use Rattle.rtcm2_state.proofs.StoreLaws.{store-both, store-seven}
 
 -- ---- what is held
 
-pub held-short : (bs : List ℕ) → length bs < 188 → holdsState bs ≡ false
+pub held-short : (bs : List ℕ) → length bs < stateSize → holdsState bs ≡ false
 unfolding holdsState
-held-short bs h = rw (lt-ltb (length bs) 188 h)
+held-short bs h = rw (lt-ltb (length bs) stateSize h)
 
--- at least 188 bytes: by the mark, waits and ended as they are read
-pub held-read : (bs : List ℕ) → 188 ≤ length bs → {a b c : ℕ}
+-- enough bytes: by the mark, waits and ended as they are read
+pub held-read : (bs : List ℕ) → stateSize ≤ length bs → {a b c : ℕ}
     → a ≡ numberIn (take 4 bs) → b ≡ numberIn (take 4 (drop 20 bs)) → c ≡ numberIn (take 4 (drop 24 bs))
     → holdsState bs ≡ eqb a 0x31533252 && ltb b 2 && ltb c 2
 unfolding holdsState areState
 held-read bs h ea eb ec =
     rw (
-      le-ltb (length bs) 188 h,
-      number-of 47 0 bs (omega arith),
-      number-of 47 5 bs (omega arith),
-      number-of 47 6 bs (omega arith),
+      le-ltb (length bs) stateSize h,
+      number-of stateCount 0 bs (omega arith),
+      number-of stateCount 5 bs (omega arith),
+      number-of stateCount 6 bs (omega arith),
       ea,
       eb,
       ec,
     )
 
-pub held-long : (bs : List ℕ) → holdsState bs ≡ true → 188 ≤ length bs
+pub held-long : (bs : List ℕ) → holdsState bs ≡ true → stateSize ≤ length bs
 unfolding holdsState
-held-long bs e = ltb-false (length bs) 188 (go (ltb (length bs) 188) e)
+held-long bs e = ltb-false (length bs) stateSize (go (ltb (length bs) stateSize) e)
   where
-    go : (t : Bool) → not t && areState (numbersIn 47 bs) ≡ true → t ≡ false
+    go : (t : Bool) → not t && areState (numbersIn stateCount bs) ≡ true → t ≡ false
     go true h = sym h
     go false h = refl
 
@@ -56,7 +57,7 @@ read-none bs e = rw e
 
 pub read-held : (bs : List ℕ) → holdsState bs ≡ true → {end held words at waits ended : ℕ} {cells : List ℕ}
     → end ≡ numberIn (take 4 (drop 4 bs)) → held ≡ numberIn (take 4 (drop 8 bs)) → words ≡ numberIn (take 4 (drop 12 bs)) → at ≡ numberIn (take 4 (drop 16 bs))
-    → waits ≡ numberIn (take 4 (drop 20 bs)) → ended ≡ numberIn (take 4 (drop 24 bs)) → cells ≡ numbersIn 40 (drop 28 bs)
+    → waits ≡ numberIn (take 4 (drop 20 bs)) → ended ≡ numberIn (take 4 (drop 24 bs)) → cells ≡ numbersIn 40 (drop startSize bs)
     → _≡_ {A = Reader} (record {
       cells = cells;
       candidate = record { end = end; held = held; words = words; at = at; waits = eqb waits 1 };
@@ -66,13 +67,13 @@ unfolding stateIn readerOf
 read-held bs e {end} {held} {words} {at} {waits} {ended} {cells} e₁ e₂ e₃ e₄ e₅ e₆ e₇ =
     rw (
       e,
-      numbers-from 47 40 7 bs (omega arith),
-      number-of 47 1 bs (omega arith),
-      number-of 47 2 bs (omega arith),
-      number-of 47 3 bs (omega arith),
-      number-of 47 4 bs (omega arith),
-      number-of 47 5 bs (omega arith),
-      number-of 47 6 bs (omega arith),
+      numbers-from stateCount 40 7 bs (omega arith),
+      number-of stateCount 1 bs (omega arith),
+      number-of stateCount 2 bs (omega arith),
+      number-of stateCount 3 bs (omega arith),
+      number-of stateCount 4 bs (omega arith),
+      number-of stateCount 5 bs (omega arith),
+      number-of stateCount 6 bs (omega arith),
       e₁,
       e₂,
       e₃,
@@ -104,24 +105,24 @@ module _ (c : Candidate) (ended : Bool) (bs : List ℕ) where
   start-wide w = (rw w, rw w)
 
   module _ (w : tooWide c ≡ false) where
-    pub start-short : length bs < 188 → (stored.Refused 13 ≡ storedBy c bs) × (bs ≡ startPut c ended bs)
+    pub start-short : length bs < stateSize → (stored.Refused 13 ≡ storedBy c bs) × (bs ≡ startPut c ended bs)
     unfolding startPut
-    start-short h = (rw (w, lt-ltb (length bs) 188 h), rw (w, lt-ltb (length bs) 188 h))
+    start-short h = (rw (w, lt-ltb (length bs) stateSize h), rw (w, lt-ltb (length bs) stateSize h))
 
-    pub start-done : 188 ≤ length bs → stored.Done ≡ storedBy c bs
-    start-done h = rw (w, le-ltb (length bs) 188 h)
+    pub start-done : stateSize ≤ length bs → stored.Done ≡ storedBy c bs
+    start-done h = rw (w, le-ltb (length bs) stateSize h)
 
-    -- where there are at least 188 bytes
-    pub start-is : 188 ≤ length bs → startPut c ended bs ≡ numbersWritten (startOf c ended) ++ drop 28 bs
+    -- where there are enough bytes
+    pub start-is : stateSize ≤ length bs → startPut c ended bs ≡ numbersWritten (startOf c ended) ++ drop startSize bs
     unfolding startPut
-    start-is h = rw (w, le-ltb (length bs) 188 h)
+    start-is h = rw (w, le-ltb (length bs) stateSize h)
 
-  pub start-whole : tooWide c ≡ false → 188 ≤ length bs → {l : List ℕ} → l ≡ sets bs 0 (numbersWritten (startOf c ended)) → l ≡ startPut c ended bs
+  pub start-whole : tooWide c ≡ false → stateSize ≤ length bs → {l : List ℕ} → l ≡ sets bs 0 (numbersWritten (startOf c ended)) → l ≡ startPut c ended bs
   start-whole w h e =
       e ∙ sets-eq (numbersWritten (startOf c ended)) bs 0 (omega (arith, size)) ∙ ap (λ j. numbersWritten (startOf c ended) ++ drop j bs) size
       ∙ sym (start-is w h)
     where
-      size : 0 + length (numbersWritten (startOf c ended)) ≡ 28
+      size : 0 + length (numbersWritten (startOf c ended)) ≡ startSize
       size = omega (arith, length-written (startOf c ended))
 
 module _ (r : Reader) (bs : List ℕ) where
@@ -129,21 +130,21 @@ module _ (r : Reader) (bs : List ℕ) where
   unfolding statePut
   put-wide w = rw w
 
-  pub put-short : tooWide (r .candidate) ≡ false → length bs < 188 → bs ≡ statePut r bs
+  pub put-short : tooWide (r .candidate) ≡ false → length bs < stateSize → bs ≡ statePut r bs
   unfolding statePut
-  put-short w h = rw (w, lt-ltb (length bs) 188 h)
+  put-short w h = rw (w, lt-ltb (length bs) stateSize h)
 
   -- the start, then the cells
-  pub put-whole : tooWide (r .candidate) ≡ false → length (r .cells) ≡ 40 → 188 ≤ length bs → {l m : List ℕ}
-      → l ≡ sets bs 0 (numbersWritten (startOf (r .candidate) (r .ended))) → m ≡ sets l 28 (numbersWritten (r .cells))
+  pub put-whole : tooWide (r .candidate) ≡ false → length (r .cells) ≡ 40 → stateSize ≤ length bs → {l m : List ℕ}
+      → l ≡ sets bs 0 (numbersWritten (startOf (r .candidate) (r .ended))) → m ≡ sets l startSize (numbersWritten (r .cells))
       → m ≡ statePut r bs
   unfolding statePut stateNumbers
   put-whole w full h {l} {m} el em =
-      em ∙ ap (λ k. sets k 28 (numbersWritten (r .cells))) el
+      em ∙ ap (λ k. sets k startSize (numbersWritten (r .cells))) el
       ∙ sym (store-both (startOf (r .candidate) (r .ended)) (r .cells) bs 0)
       ∙ sets-eq (numbersWritten (startOf (r .candidate) (r .ended) ++ r .cells)) bs 0 (omega (arith, size))
       ∙ ap (λ j. numbersWritten (startOf (r .candidate) (r .ended) ++ r .cells) ++ drop j bs) size
-      ∙ sym (rw (w, le-ltb (length bs) 188 h))
+      ∙ sym (rw (w, le-ltb (length bs) stateSize h))
     where
-      size : 0 + length (numbersWritten (startOf (r .candidate) (r .ended) ++ r .cells)) ≡ 188
+      size : 0 + length (numbersWritten (startOf (r .candidate) (r .ended) ++ r .cells)) ≡ stateSize
       size = omega (arith, length-written (startOf (r .candidate) (r .ended) ++ r .cells))

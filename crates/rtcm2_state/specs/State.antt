@@ -1,7 +1,7 @@
--- A reader's state as 188 bytes: 47 numbers of four bytes, low byte first. Assumes nothing.
+-- A reader's state as bytes: numbers of four bytes each, low byte first. Assumes nothing.
 use mathlib.Core.Bool.{Bool, cond, _&&_, _||_, not}
 use mathlib.Core.List.{List, [], _∷_, _++_}
-use Prim.Native.Nat.{ℕ, _^_}
+use Prim.Native.Nat.{ℕ, _+_, _*_, _^_}
 use lib.Dec.{ltb, leb, eqb}
 use lib.ListN.{length, drop, getD}
 use Rattle.answer.specs.Order.{Says, refuses, answers, Check, inOrder}
@@ -13,18 +13,31 @@ use Rattle.rtcm2_state.specs.Numbers.{numbersWritten, numbersIn}
 use Rattle.rtcm2_state.specs.declared.Stored.{Stored}
 use Rattle.rtcm2_state.specs.declared.Stored.the-variants as stored
 
+-- THE SIZES: a state is seven numbers, its start, and the forty cells; of each how many numbers, and how many bytes
+abbrev pub startCount : ℕ
+startCount = 7
+
+abbrev pub stateCount : ℕ
+stateCount = startCount + 40
+
+abbrev pub startSize : ℕ
+startSize = 4 * startCount
+
+abbrev pub stateSize : ℕ
+stateSize = 4 * stateCount
+
 -- the mark, bytes 52 32 53 31; then the counts, whether a frame waits, whether the input has ended
 abbrev pub startOf : Candidate → Bool → List ℕ
 startOf c ended = 0x31533252 ∷ c .end ∷ c .held ∷ c .words ∷ c .at ∷ val (c .waits) ∷ val ended ∷ []
 
--- the numbers of a reader: these seven and the forty cells
+-- the numbers of a reader: the start and the cells
 unfoldable pub stateNumbers : Reader → List ℕ
 stateNumbers r = startOf (r .candidate) (r .ended) ++ r .cells
 
 -- the reader of such numbers
 unfoldable pub readerOf : List ℕ → Reader
 readerOf ns = record {
-  cells = drop 7 ns;
+  cells = drop startCount ns;
   candidate = record { end = getD ns 1 0; held = getD ns 2 0; words = getD ns 3 0; at = getD ns 4 0; waits = eqb (getD ns 5 0) 1 };
   ended = eqb (getD ns 6 0) 1;
 }
@@ -33,13 +46,13 @@ readerOf ns = record {
 unfoldable pub areState : List ℕ → Bool
 areState ns = eqb (getD ns 0 0) 0x31533252 && ltb (getD ns 5 0) 2 && ltb (getD ns 6 0) 2
 
--- HELD: at least 188 bytes, and the first 188 are a state
+-- HELD: there are enough bytes, and the first of them are a state
 unfoldable pub holdsState : List ℕ → Bool
-holdsState bs = not (ltb (length bs) 188) && areState (numbersIn 47 bs)
+holdsState bs = not (ltb (length bs) stateSize) && areState (numbersIn stateCount bs)
 
 -- READ: the reader whose state is held, or a fresh one
 unfoldable pub stateIn : List ℕ → Reader
-stateIn bs = cond (holdsState bs) (readerOf (numbersIn 47 bs)) started
+stateIn bs = cond (holdsState bs) (readerOf (numbersIn stateCount bs)) started
 
 -- ---- PUTTING: 5, 13; a refusal leaves every byte
 
@@ -48,18 +61,18 @@ unfoldable pub tooWide : Candidate → Bool
 tooWide c = leb (2 ^ 32) (c .end) || leb (2 ^ 32) (c .held) || leb (2 ^ 32) (c .words)
 
 abbrev pub putChecks : Candidate → List ℕ → List Check
-putChecks c bs = (tooWide c, 5) ∷ (ltb (length bs) 188, 13) ∷ []
+putChecks c bs = (tooWide c, 5) ∷ (ltb (length bs) stateSize, 13) ∷ []
 
 abbrev pub storedBy : Candidate → List ℕ → Stored
 storedBy c bs = inOrder (putChecks c bs) stored.Refused stored.Done
 
--- THE STATE: the first 188 bytes become the reader's, those past them stay
+-- THE STATE: as many bytes as it takes become the reader's, those past them stay
 unfoldable pub statePut : Reader → List ℕ → List ℕ
-statePut r bs = inOrder (putChecks (r .candidate) bs) (λ n. bs) (numbersWritten (stateNumbers r) ++ drop 188 bs)
+statePut r bs = inOrder (putChecks (r .candidate) bs) (λ n. bs) (numbersWritten (stateNumbers r) ++ drop stateSize bs)
 
--- THE START alone: the first 28 bytes become the mark, the counts and whether a frame waits and the input has ended, all others stay
+-- THE START alone: its bytes become the mark, the counts and whether a frame waits and the input has ended, all others stay
 unfoldable pub startPut : Candidate → Bool → List ℕ → List ℕ
-startPut c ended bs = inOrder (putChecks c bs) (λ n. bs) (numbersWritten (startOf c ended) ++ drop 28 bs)
+startPut c ended bs = inOrder (putChecks c bs) (λ n. bs) (numbersWritten (startOf c ended) ++ drop startSize bs)
 
 -- ---- in the table's terms
 abbrev pub saysStored : Stored → Says (Unit {0})

@@ -1,4 +1,4 @@
-// A reader's state as 188 bytes that a caller lends: 47 numbers of four bytes each, low byte first.
+// A reader's state as bytes that a caller lends: 47 numbers of four bytes each, low byte first.
 mod number;
 
 ghost use mathlib.Core.Path.{_≡_};
@@ -7,7 +7,7 @@ ghost use lib.ListN.{length, drop};
 ghost use lib.Seq.{sets};
 ghost use Rattle.bits.specs.Bits.{val};
 ghost use Rattle.rtcm2_state.specs.Numbers.{numbersWritten, numbersIn};
-ghost use Rattle.rtcm2_state.specs.State.{startOf, holdsState, stateIn, tooWide, storedBy, startPut, statePut};
+ghost use Rattle.rtcm2_state.specs.State.{startSize, stateSize, startOf, holdsState, stateIn, tooWide, storedBy, startPut, statePut};
 use crate::number::number_at;
 use crate::number::put_number;
 use crate::number::wide;
@@ -20,16 +20,16 @@ pub enum Stored {
     Refused(u8),
 }
 
-// How many bytes a state takes.
-const SIZE: usize = 188;
+// Where the cells start: past seven numbers of four bytes.
+const CELLS: usize = 4 * 7;
 
-// Where the cells start.
-const CELLS: usize = 28;
+// How many bytes a state takes.
+pub const SIZE: usize = CELLS + 4 * 40;
 
 // The mark, bytes 52 32 53 31.
 const MARK: u32 = 0x31533252;
 
-// The bytes hold a state: there are at least 188, the mark stands first, and waits and ended are 0 or 1.
+// The bytes hold a state: there are enough, the mark stands first, and waits and ended are 0 or 1.
 pub fn holds_state(bytes: &[u8]) -> bool
     ensures { λ r. ⌜ r ≡ holdsState (now (bytes .entry)) ⌝ }
 {
@@ -47,8 +47,8 @@ pub fn holds_state(bytes: &[u8]) -> bool
 
 // The forty cells.
 fn cells_in(bytes: &[u8]) -> [u32; 40]
-    requires { ⌜ 188 ≤ length (now bytes) ⌝ }
-    ensures { λ r. ⌜ r ≡ numbersIn 40 (drop 28 (now (bytes .entry))) ⌝ }
+    requires { ⌜ stateSize ≤ length (now bytes) ⌝ }
+    ensures { λ r. ⌜ r ≡ numbersIn 40 (drop startSize (now (bytes .entry))) ⌝ }
 {
     let mut cells = [0u32; 40];
     let mut i = 0;
@@ -100,7 +100,7 @@ fn flag(yes: bool) -> usize
 
 // Puts the mark, the counts and whether a frame waits and the input has ended.
 fn put_counts(c: Candidate, ended: bool, bytes: &mut [u8])
-    requires { ⌜ 188 ≤ length (now bytes) ⌝ }
+    requires { ⌜ stateSize ≤ length (now bytes) ⌝ }
     ensures { λ _. ⌜ now (bytes .exit) ≡ sets (now (bytes .entry)) 0 (numbersWritten (startOf c ended)) ⌝ }
 {
     put_number(wide(MARK), 0, bytes);
@@ -142,8 +142,8 @@ pub fn put_start(c: Candidate, ended: bool, bytes: &mut [u8]) -> Stored
 
 // Puts the forty cells.
 fn put_cells(cells: &[u32; 40], bytes: &mut [u8])
-    requires { ⌜ (length (now cells) ≡ 40) × (188 ≤ length (now bytes)) ⌝ }
-    ensures { λ _. ⌜ now (bytes .exit) ≡ sets (now (bytes .entry)) 28 (numbersWritten (now (cells .entry))) ⌝ }
+    requires { ⌜ (length (now cells) ≡ 40) × (stateSize ≤ length (now bytes)) ⌝ }
+    ensures { λ _. ⌜ now (bytes .exit) ≡ sets (now (bytes .entry)) startSize (numbersWritten (now (cells .entry))) ⌝ }
 {
     let mut i = 0;
     let mut next = CELLS;
@@ -154,7 +154,7 @@ fn put_cells(cells: &[u32; 40], bytes: &mut [u8])
     }
 }
 
-// Puts a reader's state to the first 188 bytes: 5, 13.
+// Puts a reader's state to the first bytes: 5, 13.
 pub fn put_state(reader: Reader, bytes: &mut [u8]) -> Stored
     ensures { λ r. ⌜ r ≡ storedBy (reader .candidate) (now (bytes .entry)) ⌝ }
     ensures { λ _. ⌜ now (bytes .exit) ≡ statePut reader (now (bytes .entry)) ⌝ }

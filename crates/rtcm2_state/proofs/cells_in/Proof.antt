@@ -6,6 +6,7 @@ use native.Mathlib.Omega.{arith}
 use lib.ListN.{take, drop, set, replicate}
 use lib.Seq.{drop-drop}
 use denote.Ref.{now}
+use Rattle.rtcm2_state.specs.State.{startSize}
 use Rattle.rtcm2_state.specs.Numbers.{numberIn, numbersIn}
 use Rattle.rtcm2_state.proofs.NumberLaws.{number-filled, numbers-all}
 use Rattle.rtcm2_state.proofs.cells_in.Statement.{statement}
@@ -13,7 +14,7 @@ use Rattle.rtcm2_state.proofs.cells_in.Tie as tie
 
 -- the first i numbers, and zeros
 abbrev Inv-loop : tie.InvT-loop
-Inv-loop bytes cells₀ i₀ next₀ cells i next = (cells ≡ numbersIn i (drop 28 bytes) ++ replicate (40 - i) 0) × ((i ≤ 40) × (next ≡ 28 + 4 * i))
+Inv-loop bytes cells₀ i₀ next₀ cells i next = (cells ≡ numbersIn i (drop startSize bytes) ++ replicate (40 - i) 0) × ((i ≤ 40) × (next ≡ startSize + 4 * i))
 
 abbrev μ-loop : tie.MeasureT-loop
 μ-loop bytes cells₀ i₀ next₀ cells i next = 40 - i
@@ -27,9 +28,9 @@ loop-again c =
     let l = c .before .before in
     let bytes = now (l .before .before .args .bytes) in
     let v = l .loop in
-    let number : c .number-at .result ≡ numberIn (take 4 (drop (4 * v .i) (drop 28 bytes))) =
-    c .number-at .ensures ∙ ap (λ r. numberIn (take 4 r)) (ap (λ j. drop j bytes) (v .inv .1 .1) ∙ sym (drop-drop (4 * v .i) 28 bytes)) in (
-      ap₂ (λ ns n. set ns (v .i) n) (v .inv .0) number ∙ number-filled 40 (v .i) (drop 28 bytes) (omega arith),
+    let number : c .number-at .result ≡ numberIn (take 4 (drop (4 * v .i) (drop startSize bytes))) =
+    c .number-at .ensures ∙ ap (λ r. numberIn (take 4 r)) (ap (λ j. drop j bytes) (v .inv .1 .1) ∙ sym (drop-drop (4 * v .i) startSize bytes)) in (
+      ap₂ (λ ns n. set ns (v .i) n) (v .inv .0) number ∙ number-filled 40 (v .i) (drop startSize bytes) (omega arith),
       (omega arith, omega arith),
     )
 
@@ -37,7 +38,7 @@ returns : tie.Need-returns Inv-loop μ-loop
 returns c =
     let v = c .before .loop in
     let all : v .i ≡ 40 = omega arith in
-    v .inv .0 ∙ numbers-all 40 (v .i) (drop 28 (now (c .before .before .before .args .bytes))) all
+    v .inv .0 ∙ numbers-all 40 (v .i) (drop startSize (now (c .before .before .before .args .bytes))) all
 
 pub cells-in-spec : {M : Type 1} → statement M
 cells-in-spec =

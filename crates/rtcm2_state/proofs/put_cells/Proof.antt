@@ -6,6 +6,7 @@ use lib.ListN.{length, drop, getD, drop-of-length-le}
 use lib.Seq.{sets, length-sets}
 use denote.Ref.{now}
 use borrow.Author.Needs.{needs}
+use Rattle.rtcm2_state.specs.State.{startSize}
 use Rattle.rtcm2_state.specs.Numbers.{lowBytes, numbersWritten}
 use Rattle.rtcm2_state.proofs.StoreLaws.{store-next}
 use Rattle.rtcm2_state.proofs.put_cells.Statement.{statement}
@@ -14,7 +15,8 @@ use Rattle.rtcm2_state.proofs.put_cells.Tie as tie
 -- storing the cells that are left from here on is storing all of them from byte 28 on
 abbrev Inv-loop : tie.InvT-loop
 Inv-loop cells bytes₀ i₀ next₀ bytes i next =
-    (sets bytes₀ 28 (numbersWritten cells) ≡ sets bytes next (numbersWritten (drop i cells))) × ((i ≤ 40) × ((next ≡ 28 + 4 * i) × (length bytes ≡ length bytes₀)))
+    (sets bytes₀ startSize (numbersWritten cells) ≡ sets bytes next (numbersWritten (drop i cells)))
+    × ((i ≤ 40) × ((next ≡ startSize + 4 * i) × (length bytes ≡ length bytes₀)))
 
 abbrev μ-loop : tie.MeasureT-loop
 μ-loop cells bytes₀ i₀ next₀ bytes i next = 40 - i

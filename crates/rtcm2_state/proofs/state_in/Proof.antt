@@ -6,6 +6,7 @@ use lib.ListN.{length}
 use denote.Ref.{now}
 use borrow.Author.Needs.{needs}
 use borrow.Author.Tests.{not-true, not-false}
+use Rattle.rtcm2_state.specs.State.{stateSize}
 use Rattle.rtcm2_state.proofs.StateLaws.{held-long, read-none, read-held}
 use Rattle.rtcm2_state.proofs.state_in.Statement.{statement}
 use Rattle.rtcm2_state.proofs.state_in.Tie as tie
@@ -16,7 +17,7 @@ returns c =
     c .new .ensures ∙ sym (read-none (now (h .before .before .args .bytes)) (sym (h .holds-state .ensures) ∙ not-true _ (c .before .if1 .taken)))
 
 -- past the test there are enough bytes
-long : (c : tie.Else1) → 188 ≤ length (now (c .before .before .before .args .bytes))
+long : (c : tie.Else1) → stateSize ≤ length (now (c .before .before .before .args .bytes))
 long c = held-long (now (c .before .before .before .args .bytes)) (sym (c .before .holds-state .ensures) ∙ not-false _ (c .if1 .left))
 
 returns-2 : tie.Need-returns-2

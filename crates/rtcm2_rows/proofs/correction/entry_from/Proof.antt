@@ -8,6 +8,8 @@ use mir.ValLaws.{toZ-ofZ}
 use denote.Ref.{now}
 use borrow.Author.Needs.{needs}
 use Rattle.record_fields.proofs.SignedCode.{meant-fits}
+use Rattle.rtcm2_rows.specs.Rows.{rowSize}
+use Rattle.rtcm2_rows.specs.Corrections.{row}
 use Rattle.rtcm2_rows.proofs.RowLaws.{byte-first, byte-in}
 use Rattle.rtcm2_rows.proofs.CorrectionRows.{entry-law}
 use Rattle.rtcm2_rows.proofs.correction.entry_from.Statement.{statement}
@@ -26,15 +28,15 @@ returns c =
     let low = c4 .before .byte-at4 in
     let high = c4 .byte-at5 in
     let last = c2 .before .byte-at6 in
-    entry-law (take 7 (drop (a .at) bs)) (c8 .byte-at .result) (c6 .before .byte-at2 .result) (c6 .byte-at3 .result)
+    entry-law (take (rowSize row) (drop (a .at) bs)) (c8 .byte-at .result) (c6 .before .byte-at2 .result) (c6 .byte-at3 .result)
     (low .result) (high .result) (last .result) (c2 .byte-at7 .result) _ _
-    (c8 .byte-at .ensures .0 ∙ sym (byte-first 7 bs (a .at) (omega arith)))
-    (c6 .before .byte-at2 .ensures .0 ∙ sym (byte-in 7 bs (a .at) 1 (omega arith)))
-    (c6 .byte-at3 .ensures .0 ∙ sym (byte-in 7 bs (a .at) 2 (omega arith)))
-    (low .ensures .0 ∙ sym (byte-in 7 bs (a .at) 3 (omega arith)))
-    (high .ensures .0 ∙ sym (byte-in 7 bs (a .at) 4 (omega arith)))
-    (last .ensures .0 ∙ sym (byte-in 7 bs (a .at) 5 (omega arith)))
-    (c2 .byte-at7 .ensures .0 ∙ sym (byte-in 7 bs (a .at) 6 (omega arith)))
+    (c8 .byte-at .ensures .0 ∙ sym (byte-first (rowSize row) bs (a .at) (omega arith)))
+    (c6 .before .byte-at2 .ensures .0 ∙ sym (byte-in (rowSize row) bs (a .at) 1 (omega arith)))
+    (c6 .byte-at3 .ensures .0 ∙ sym (byte-in (rowSize row) bs (a .at) 2 (omega arith)))
+    (low .ensures .0 ∙ sym (byte-in (rowSize row) bs (a .at) 3 (omega arith)))
+    (high .ensures .0 ∙ sym (byte-in (rowSize row) bs (a .at) 4 (omega arith)))
+    (last .ensures .0 ∙ sym (byte-in (rowSize row) bs (a .at) 5 (omega arith)))
+    (c2 .byte-at7 .ensures .0 ∙ sym (byte-in (rowSize row) bs (a .at) 6 (omega arith)))
     (low .ensures .1) (high .ensures .1) (last .ensures .1)
     (toZ-ofZ w16 (p .result) (meant-fits w16 _ ((low .result + 256 * high .result) % 65536) (p .ensures) (omega arith)) ∙ p .ensures)
     (toZ-ofZ w8 (r .result) (meant-fits w8 _ (last .result % 256) (r .ensures) (omega arith)) ∙ r .ensures)
