@@ -11,8 +11,8 @@ use Rattle.promises.specs.RecordCalls.{RecordCalls}
 
 pub record-calls : RecordCalls
 record-calls = record {
-  pack-field = record { asks-nothing = λ κs a. tt; settles = λ κs a z e p. p .0; ends = record-fields.field.Met.met };
-  pack-fields = record { asks-nothing = λ κs a. tt; settles = λ κs a z e p. p; ends = record-fields.fields.Met.met };
+  field = record { asks-nothing = λ κs a. tt; settles = λ κs a z e p. p .0; ends = record-fields.field.Met.met };
+  fields = record { asks-nothing = λ κs a. tt; settles = λ κs a z e p. p; ends = record-fields.fields.Met.met };
   no-rows = record { asks-nothing = λ κs a. tt; settles = λ κs a z e p. p; ends = record-fields.no_rows.Met.met };
   put-row = record { asks-nothing = λ κs a. tt; settles = λ κs a z e p. p; ends = record-fields.put_row.Met.met };
   fill-up = record { asks-nothing = λ κs a. tt; settles = λ κs a z e p. p; ends = record-fields.fill_up.Met.met };

@@ -22,7 +22,8 @@ module _ {K : Type 0} {A Z E : K → Type 0} where
 
   -- A CALL: nothing is asked of the arguments; the answer is settled; in every model, from what its parameters own and nothing else, the function's
   -- code returns, with an answer of which its contract holds
-  pub record Answered (asked : (κs : K) → A κs → Type 0) (learnt : (κs : K) → A κs → Z κs → E κs → Type 0) (statement : Type 1 → Type 2) (answer : (κs : K) → A κs → Z κs) : Type 2 where
+  pub record Answered (asked : (κs : K) → A κs → Type 0) (learnt : (κs : K) → A κs → Z κs → E κs → Type 0) (statement : Type 1 → Type 2)
+      (answer : (κs : K) → A κs → Z κs) : Type 2 where
     pub asks-nothing : (κs : K) (a : A κs) → asked κs a
     pub settles : Settles learnt answer
     pub ends : {M : Type 1} → statement M
@@ -37,6 +38,8 @@ module _ {K : Type 0} {A Z E : K → Type 0} where
 
 -- whatever the contract: what settles has one answer
 pub record SettledOnce : Type 1 where
-  pub answer : {K : Type 0} {A Z E : K → Type 0} (learnt : (κs : K) → A κs → Z κs → E κs → Type 0) (f : (κs : K) → A κs → Z κs) → Settles learnt f → OneAnswer learnt
-  pub buffer : {K : Type 0} {A Z E : K → Type 0} {B : Type 0} (learnt : (κs : K) → A κs → Z κs → E κs → Type 0) (held : (κs : K) → E κs → B) (left : (κs : K) → A κs → B)
+  pub answer : {K : Type 0} {A Z E : K → Type 0} (learnt : (κs : K) → A κs → Z κs → E κs → Type 0) (f : (κs : K) → A κs → Z κs) → Settles learnt f
+      → OneAnswer learnt
+  pub buffer : {K : Type 0} {A Z E : K → Type 0} {B : Type 0} (learnt : (κs : K) → A κs → Z κs → E κs → Type 0)
+      (held : (κs : K) → E κs → B) (left : (κs : K) → A κs → B)
       → Leaves learnt held left → OneBuffer learnt held

@@ -5,36 +5,51 @@ use Rattle.reader.specs.Reading.{started, fedBy, fedAllBy, endedBy, takenBy}
 use Rattle.writer.specs.Answer.{openedBy, openedTo, writtenBy, writtenTo}
 use Rattle.journal.specs.Journal.{keptBy, heldBy, recalledBy}
 use Rattle.listing.specs.Listing.{begun, pieceBy, pieceText, finishBy, finishText}
-use Rattle.reader.proofs as reader
-use Rattle.writer.proofs as writer
-use Rattle.journal.proofs as journal
-use Rattle.listing.proofs as listing
+use Rattle.reader.proofs.new as reader-new
+use Rattle.reader.proofs.feed
+use Rattle.reader.proofs.feed_all
+use Rattle.reader.proofs.end as reader-end
+use Rattle.reader.proofs.take as reader-take
+use Rattle.writer.proofs.open as writer-open
+use Rattle.writer.proofs.write
+use Rattle.journal.proofs.keep
+use Rattle.journal.proofs.recall
+use Rattle.listing.proofs.new as listing-new
+use Rattle.listing.proofs.list_piece
+use Rattle.listing.proofs.finish
 use Rattle.promises.specs.Answered.{Answered, AnsweredLent}
 
 pub record StreamCalls : Type 2 where
   -- reader
-  pub reader-new : Answered reader.new.Reads.Asked reader.new.Reads.Learnt reader.new.Statement.statement (λ κs a. started)
-  pub feed : Answered reader.feed.Reads.Asked reader.feed.Reads.Learnt reader.feed.Statement.statement (λ κs (reader, (byte, _)). fedBy reader byte)
-  pub feed-all : Answered reader.feed_all.Reads.Asked reader.feed_all.Reads.Learnt reader.feed_all.Statement.statement (λ κs (reader, (bytes, _)). fedAllBy reader (now bytes))
-  pub reader-end : Answered reader.end.Reads.Asked reader.end.Reads.Learnt reader.end.Statement.statement (λ κs (reader, _). endedBy reader)
-  pub reader-take : Answered reader.take.Reads.Asked reader.take.Reads.Learnt reader.take.Statement.statement (λ κs (reader, _). takenBy reader)
+  pub reader-new : Answered reader-new.Reads.Asked reader-new.Reads.Learnt reader-new.Statement.statement
+      (λ κs a. started)
+  pub feed : Answered feed.Reads.Asked feed.Reads.Learnt feed.Statement.statement
+      (λ κs (reader, (byte, _)). fedBy reader byte)
+  pub feed-all : Answered feed_all.Reads.Asked feed_all.Reads.Learnt feed_all.Statement.statement
+      (λ κs (reader, (bytes, _)). fedAllBy reader (now bytes))
+  pub reader-end : Answered reader-end.Reads.Asked reader-end.Reads.Learnt reader-end.Statement.statement
+      (λ κs (reader, _). endedBy reader)
+  pub reader-take : Answered reader-take.Reads.Asked reader-take.Reads.Learnt reader-take.Statement.statement
+      (λ κs (reader, _). takenBy reader)
   -- writer
-  pub writer-open : AnsweredLent writer.open.Reads.Asked writer.open.Reads.Learnt writer.open.Statement.statement
+  pub writer-open : AnsweredLent writer-open.Reads.Asked writer-open.Reads.Learnt writer-open.Statement.statement
       (λ κs (buffer, _). openedBy (now buffer))
       (λ κs (buffer, _). now buffer) (λ κs (buffer, _). openedTo (now buffer))
-  pub write : AnsweredLent writer.write.Reads.Asked writer.write.Reads.Learnt writer.write.Statement.statement
+  pub write : AnsweredLent write.Reads.Asked write.Reads.Learnt write.Statement.statement
       (λ κs (frame, (carried, (buffer, _))). writtenBy frame carried (now buffer))
       (λ κs (_, (_, (buffer, _))). now buffer) (λ κs (frame, (carried, (buffer, _))). writtenTo frame carried (now buffer))
   -- journal
-  pub keep : AnsweredLent journal.keep.Reads.Asked journal.keep.Reads.Learnt journal.keep.Statement.statement
+  pub keep : AnsweredLent keep.Reads.Asked keep.Reads.Learnt keep.Statement.statement
       (λ κs (frame, (buffer, _)). keptBy frame (now buffer))
       (λ κs (_, (buffer, _)). now buffer) (λ κs (frame, (buffer, _)). heldBy frame (now buffer))
-  pub recall : Answered journal.recall.Reads.Asked journal.recall.Reads.Learnt journal.recall.Statement.statement (λ κs (bytes, _). recalledBy (now bytes))
+  pub recall : Answered recall.Reads.Asked recall.Reads.Learnt recall.Statement.statement
+      (λ κs (bytes, _). recalledBy (now bytes))
   -- listing
-  pub listing-new : Answered listing.new.Reads.Asked listing.new.Reads.Learnt listing.new.Statement.statement (λ κs a. begun)
-  pub list-piece : AnsweredLent listing.list_piece.Reads.Asked listing.list_piece.Reads.Learnt listing.list_piece.Statement.statement
+  pub listing-new : Answered listing-new.Reads.Asked listing-new.Reads.Learnt listing-new.Statement.statement
+      (λ κs a. begun)
+  pub list-piece : AnsweredLent list_piece.Reads.Asked list_piece.Reads.Learnt list_piece.Statement.statement
       (λ κs (listing, (input, (output, _))). pieceBy listing (now input) (length (now output)))
       (λ κs (_, (_, (output, _))). now output) (λ κs (listing, (input, (output, _))). pieceText listing (now input) (now output))
-  pub finish : AnsweredLent listing.finish.Reads.Asked listing.finish.Reads.Learnt listing.finish.Statement.statement
+  pub finish : AnsweredLent finish.Reads.Asked finish.Reads.Learnt finish.Statement.statement
       (λ κs (listing, (output, _)). finishBy listing (length (now output)))
       (λ κs (_, (output, _)). now output) (λ κs (listing, (output, _)). finishText listing (now output))

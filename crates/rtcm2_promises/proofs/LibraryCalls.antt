@@ -1,9 +1,8 @@
 -- Each contract is an equation for the answer and one for each lent place, asks nothing, and was met as its crate was checked. Assumes nothing.
-use mathlib.Core.Path.{refl}
 use Rattle.rtcm2_state.proofs as rtcm2_state
 use Rattle.rtcm2_rows.proofs as rtcm2_rows
 use Rattle.rtcm2.proofs as rtcm2
-use Rattle.promises.proofs.Answered.{place-and}
+use Rattle.promises.proofs.Answered.{place-and, two-places, three-places, four-places}
 use Rattle.rtcm2_promises.specs.LibraryCalls.{LibraryCalls}
 
 pub library-calls : LibraryCalls
@@ -14,34 +13,125 @@ library-calls = record {
   put-state = record { asks-nothing = λ κs a. tt; settles = λ κs a z e p. p .0; leaves = λ κs a z e p. p .1; ends = rtcm2_state.put_state.Met.met };
   count-of = record { asks-nothing = λ κs a. tt; settles = λ κs a z e p. p; ends = rtcm2_rows.row.count_of.Met.met };
   corrections-in = record { asks-nothing = λ κs a. tt; settles = λ κs a z e p. p; ends = rtcm2_rows.correction.corrections_in.Met.met };
-  put-correction = record { asks-nothing = λ κs a. tt; settles = λ κs a z e p. p .0; leaves = λ κs a z e p. p .1; ends = rtcm2_rows.correction.put_correction.Met.met };
+  put-correction = record {
+    asks-nothing = λ κs a. tt;
+    settles = λ κs a z e p. p .0;
+    leaves = λ κs a z e p. p .1;
+    ends = rtcm2_rows.correction.put_correction.Met.met;
+  };
   healths-in = record { asks-nothing = λ κs a. tt; settles = λ κs a z e p. p; ends = rtcm2_rows.health.healths_in.Met.met };
   put-health = record { asks-nothing = λ κs a. tt; settles = λ κs a z e p. p .0; leaves = λ κs a z e p. p .1; ends = rtcm2_rows.health.put_health.Met.met };
   state-size = record { asks-nothing = λ κs a. tt; settles = λ κs a z e p. p; ends = rtcm2.line.rtcm2_state_size.Met.met };
   start = record { asks-nothing = λ κs a. tt; settles = λ κs a z e p. p .0; leaves = λ κs a z e p. p .1; ends = rtcm2.line.rtcm2_start.Met.met };
   feed = record { asks-nothing = λ κs a. tt; settles = λ κs a z e p. p .0; leaves = λ κs a z e p. p .1; ends = rtcm2.line.rtcm2_feed.Met.met };
-  feed-all = record { asks-nothing = λ κs a. tt; settles = λ κs a z e p. p .0; leaves = λ κs a z e p. place-and (p .1 .0) (place-and (p .1 .1 .0) (p .1 .1 .1)); ends = rtcm2.line.rtcm2_feed_all.Met.met };
+  feed-all = record {
+    asks-nothing = λ κs a. tt;
+    settles = λ κs a z e p. p .0;
+    leaves = λ κs a z e p. three-places (p .1);
+    ends = rtcm2.line.rtcm2_feed_all.Met.met;
+  };
   line-end = record { asks-nothing = λ κs a. tt; settles = λ κs a z e p. p .0; leaves = λ κs a z e p. p .1; ends = rtcm2.line.rtcm2_end.Met.met };
-  line-take = record { asks-nothing = λ κs a. tt; settles = λ κs a z e p. p .0; leaves = λ κs a z e p. place-and (p .1 .0) (place-and (p .1 .1 .0) (place-and (p .1 .1 .1 .0) (p .1 .1 .1 .1))); ends = rtcm2.line.rtcm2_take.Met.met };
+  line-take = record {
+    asks-nothing = λ κs a. tt;
+    settles = λ κs a z e p. p .0;
+    leaves = λ κs a z e p. four-places (p .1);
+    ends = rtcm2.line.rtcm2_take.Met.met;
+  };
   line-open = record { asks-nothing = λ κs a. tt; settles = λ κs a z e p. p .0; leaves = λ κs a z e p. p .1; ends = rtcm2.send.rtcm2_open.Met.met };
-  write = record { asks-nothing = λ κs a. tt; settles = λ κs a z e p. p .0; leaves = λ κs a z e p. place-and (p .1 .0) (place-and (p .1 .1 .0) (place-and (p .1 .1 .1 .0) (p .1 .1 .1 .1))); ends = rtcm2.send.rtcm2_write.Met.met };
-  keep = record { asks-nothing = λ κs a. tt; settles = λ κs a z e p. p .0; leaves = λ κs a z e p. place-and (p .1 .0) (p .1 .1); ends = rtcm2.frames.rtcm2_keep.Met.met };
-  recall = record { asks-nothing = λ κs a. tt; settles = λ κs a z e p. p .0; leaves = λ κs a z e p. place-and (p .1 .0) (place-and (p .1 .1 .0) (place-and (p .1 .1 .1 .0) (place-and (p .1 .1 .1 .1 .0) (place-and (p .1 .1 .1 .1 .1 .0) (place-and (p .1 .1 .1 .1 .1 .1 .0) (p .1 .1 .1 .1 .1 .1 .1)))))); ends = rtcm2.frames.rtcm2_recall.Met.met };
-  count-corrections = record { asks-nothing = λ κs a. tt; settles = λ κs a z e p. p .0; leaves = λ κs a z e p. p .1; ends = rtcm2.correction.rtcm2_count_corrections.Met.met };
-  correction-at = record { asks-nothing = λ κs a. tt; settles = λ κs a z e p. p .0; leaves = λ κs a z e p. p .1; ends = rtcm2.correction.rtcm2_correction_at.Met.met };
-  make-corrections = record { asks-nothing = λ κs a. tt; settles = λ κs a z e p. p .0; leaves = λ κs a z e p. place-and (p .1 .0) (p .1 .1); ends = rtcm2.correction.rtcm2_make_corrections.Met.met };
-  count-healths = record { asks-nothing = λ κs a. tt; settles = λ κs a z e p. p .0; leaves = λ κs a z e p. p .1; ends = rtcm2.health.rtcm2_count_healths.Met.met };
+  write = record { asks-nothing = λ κs a. tt; settles = λ κs a z e p. p .0; leaves = λ κs a z e p. four-places (p .1); ends = rtcm2.send.rtcm2_write.Met.met };
+  keep = record { asks-nothing = λ κs a. tt; settles = λ κs a z e p. p .0; leaves = λ κs a z e p. two-places (p .1); ends = rtcm2.frames.rtcm2_keep.Met.met };
+  recall = record {
+    asks-nothing = λ κs a. tt;
+    settles = λ κs a z e p. p .0;
+    leaves =
+        λ κs a z e p. place-and (p .1 .0) (place-and (p .1 .1 .0) (place-and (p .1 .1 .1 .0) (four-places (p .1 .1 .1 .1))));
+    ends = rtcm2.frames.rtcm2_recall.Met.met;
+  };
+  count-corrections = record {
+    asks-nothing = λ κs a. tt;
+    settles = λ κs a z e p. p .0;
+    leaves = λ κs a z e p. p .1;
+    ends = rtcm2.correction.rtcm2_count_corrections.Met.met;
+  };
+  correction-at = record {
+    asks-nothing = λ κs a. tt;
+    settles = λ κs a z e p. p .0;
+    leaves = λ κs a z e p. p .1;
+    ends = rtcm2.correction.rtcm2_correction_at.Met.met;
+  };
+  make-corrections = record {
+    asks-nothing = λ κs a. tt;
+    settles = λ κs a z e p. p .0;
+    leaves = λ κs a z e p. two-places (p .1);
+    ends = rtcm2.correction.rtcm2_make_corrections.Met.met;
+  };
+  count-healths = record {
+    asks-nothing = λ κs a. tt;
+    settles = λ κs a z e p. p .0;
+    leaves = λ κs a z e p. p .1;
+    ends = rtcm2.health.rtcm2_count_healths.Met.met;
+  };
   health-at = record { asks-nothing = λ κs a. tt; settles = λ κs a z e p. p .0; leaves = λ κs a z e p. p .1; ends = rtcm2.health.rtcm2_health_at.Met.met };
-  make-healths = record { asks-nothing = λ κs a. tt; settles = λ κs a z e p. p .0; leaves = λ κs a z e p. place-and (p .1 .0) (p .1 .1); ends = rtcm2.health.rtcm2_make_healths.Met.met };
-  read-position = record { asks-nothing = λ κs a. tt; settles = λ κs a z e p. p .0; leaves = λ κs a z e p. place-and (p .1 .0) (place-and (p .1 .1 .0) (p .1 .1 .1)); ends = rtcm2.position.rtcm2_read_position.Met.met };
-  make-position = record { asks-nothing = λ κs a. tt; settles = λ κs a z e p. p .0; leaves = λ κs a z e p. place-and (p .1 .0) (p .1 .1); ends = rtcm2.position.rtcm2_make_position.Met.met };
+  make-healths = record {
+    asks-nothing = λ κs a. tt;
+    settles = λ κs a z e p. p .0;
+    leaves = λ κs a z e p. two-places (p .1);
+    ends = rtcm2.health.rtcm2_make_healths.Met.met;
+  };
+  read-position = record {
+    asks-nothing = λ κs a. tt;
+    settles = λ κs a z e p. p .0;
+    leaves = λ κs a z e p. three-places (p .1);
+    ends = rtcm2.position.rtcm2_read_position.Met.met;
+  };
+  make-position = record {
+    asks-nothing = λ κs a. tt;
+    settles = λ κs a z e p. p .0;
+    leaves = λ κs a z e p. two-places (p .1);
+    ends = rtcm2.position.rtcm2_make_position.Met.met;
+  };
   read-null = record { asks-nothing = λ κs a. tt; settles = λ κs a z e p. p; ends = rtcm2.null.rtcm2_read_null.Met.met };
-  make-null = record { asks-nothing = λ κs a. tt; settles = λ κs a z e p. p .0; leaves = λ κs a z e p. place-and (p .1 .0) (p .1 .1); ends = rtcm2.null.rtcm2_make_null.Met.met };
-  read-text = record { asks-nothing = λ κs a. tt; settles = λ κs a z e p. p .0; leaves = λ κs a z e p. place-and (p .1 .0) (p .1 .1); ends = rtcm2.text.rtcm2_read_text.Met.met };
-  make-text = record { asks-nothing = λ κs a. tt; settles = λ κs a z e p. p .0; leaves = λ κs a z e p. place-and (p .1 .0) (p .1 .1); ends = rtcm2.text.rtcm2_make_text.Met.met };
-  prc-mm = record { asks-nothing = λ κs a. tt; settles = λ κs a z e p. p .0; leaves = λ κs a z e p. place-and (p .1 .0) (p .1 .1); ends = rtcm2.values.rtcm2_prc_mm.Met.met };
-  rrc-mm-s = record { asks-nothing = λ κs a. tt; settles = λ κs a z e p. p .0; leaves = λ κs a z e p. place-and (p .1 .0) (p .1 .1); ends = rtcm2.values.rtcm2_rrc_mm_s.Met.met };
+  make-null = record {
+    asks-nothing = λ κs a. tt;
+    settles = λ κs a z e p. p .0;
+    leaves = λ κs a z e p. two-places (p .1);
+    ends = rtcm2.null.rtcm2_make_null.Met.met;
+  };
+  read-text = record {
+    asks-nothing = λ κs a. tt;
+    settles = λ κs a z e p. p .0;
+    leaves = λ κs a z e p. two-places (p .1);
+    ends = rtcm2.text.rtcm2_read_text.Met.met;
+  };
+  make-text = record {
+    asks-nothing = λ κs a. tt;
+    settles = λ κs a z e p. p .0;
+    leaves = λ κs a z e p. two-places (p .1);
+    ends = rtcm2.text.rtcm2_make_text.Met.met;
+  };
+  prc-mm = record {
+    asks-nothing = λ κs a. tt;
+    settles = λ κs a z e p. p .0;
+    leaves = λ κs a z e p. two-places (p .1);
+    ends = rtcm2.values.rtcm2_prc_mm.Met.met;
+  };
+  rrc-mm-s = record {
+    asks-nothing = λ κs a. tt;
+    settles = λ κs a z e p. p .0;
+    leaves = λ κs a z e p. two-places (p .1);
+    ends = rtcm2.values.rtcm2_rrc_mm_s.Met.met;
+  };
   stops = record { asks-nothing = λ κs a. tt; settles = λ κs a z e p. p .0; leaves = λ κs a z e p. p .1; ends = rtcm2.values.rtcm2_stops.Met.met };
-  udre-limit-mm = record { asks-nothing = λ κs a. tt; settles = λ κs a z e p. p .0; leaves = λ κs a z e p. place-and (p .1 .0) (p .1 .1); ends = rtcm2.values.rtcm2_udre_limit_mm.Met.met };
-  cn0-dbhz = record { asks-nothing = λ κs a. tt; settles = λ κs a z e p. p .0; leaves = λ κs a z e p. place-and (p .1 .0) (p .1 .1); ends = rtcm2.values.rtcm2_cn0_dbhz.Met.met };
+  udre-limit-mm = record {
+    asks-nothing = λ κs a. tt;
+    settles = λ κs a z e p. p .0;
+    leaves = λ κs a z e p. two-places (p .1);
+    ends = rtcm2.values.rtcm2_udre_limit_mm.Met.met;
+  };
+  cn0-dbhz = record {
+    asks-nothing = λ κs a. tt;
+    settles = λ κs a z e p. p .0;
+    leaves = λ κs a z e p. two-places (p .1);
+    ends = rtcm2.values.rtcm2_cn0_dbhz.Met.met;
+  };
 }
