@@ -17,7 +17,7 @@ END = "<!-- end of table -->"
 
 def conjuncts(clause):
     """The facts of an `ensures`: the text between the half brackets, taken apart at `×`."""
-    text = re.search(r"⌜ (.*) ⌝", clause, re.DOTALL).group(1)
+    text = " ".join(re.search(r"⌜ (.*) ⌝", clause, re.DOTALL).group(1).split())
     found, depth, start = [], 0, 0
     for place, mark in enumerate(text):
         depth += {"(": 1, ")": -1}.get(mark, 0)

@@ -77,8 +77,3 @@ pub rows-front : (ws : List ℕ) (n o : ℕ) (p q : List Bool) → o + n * span 
 rows-front ws zero o p q h = refl
 rows-front ws (suc n) o p q h =
     ap₂ _∷_ (fields-front ws o p q (omega (arith, suc-mul n (span ws)))) (rows-front ws n (o + span ws) p q (omega (arith, suc-mul n (span ws))))
-
--- rows after one another
-pub rows-append : (ws : List ℕ) (a b : List (List ℕ)) → packedRows ws (a ++ b) ≡ packedRows ws a ++ packedRows ws b
-rows-append ws [] b = refl
-rows-append ws (r ∷ a) b = ap (λ l. packed ws r ++ l) (rows-append ws a b) ∙ sym (append-assoc (packed ws r) (packedRows ws a) (packedRows ws b))

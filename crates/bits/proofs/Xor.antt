@@ -28,11 +28,6 @@ xor-cancel true false = refl
 xor-cancel false true = refl
 xor-cancel false false = refl
 
-pub xor-back : (a b : Bool) → a ⊻ (a ⊻ b) ≡ b
-xor-back true true = refl
-xor-back true false = refl
-xor-back false b = refl
-
 pub xor-zero : (a b : Bool) → a ⊻ b ≡ false → a ≡ b
 xor-zero true true e = refl
 xor-zero true false e = e
@@ -73,12 +68,6 @@ pub turned-ones : (w : List Bool) → map not w ≡ w ⊕ replicate (length w) t
 turned-ones [] = refl
 turned-ones (true ∷ w) = ap (λ v. false ∷ v) (turned-ones w)
 turned-ones (false ∷ w) = ap (λ v. true ∷ v) (turned-ones w)
-
--- what turns v into w is v ⊕ w
-pub xors-back : (v w : List Bool) → length v ≡ length w → v ⊕ (v ⊕ w) ≡ w
-xors-back [] w l = refl
-xors-back (a ∷ v) [] l = absurd (omega arith)
-xors-back (a ∷ v) (b ∷ w) l = rw (xor-back a b, xors-back v w (omega arith))
 
 pub length-xors : (v w : List Bool) → length v ≡ length w → length (v ⊕ w) ≡ length w
 length-xors [] w l = refl

@@ -32,7 +32,8 @@ module _ (n : ℕ) (bs : List ℕ) {first second : ℕ} (e₁ : first ≡ wordIn
     pub preamble-wrong : preambled (bits 24 first) ≡ false → frameIn n (wordsFrom 3 (suc (suc n)) (drop 3 bs)) ≡ refusedRecall 16
     preamble-wrong p = frame-at ∙ rw (eq-eqb n (nOf (bits 24 second)) h, p)
 
-    pub both-right : preambled (bits 24 first) ≡ true → frameIn n (wordsFrom 3 (suc (suc n)) (drop 3 bs)) ≡ recalled n (first ∷ second ∷ wordsFrom 3 n (drop 9 bs))
+    pub both-right : preambled (bits 24 first) ≡ true
+        → frameIn n (wordsFrom 3 (suc (suc n)) (drop 3 bs)) ≡ recalled n (first ∷ second ∷ wordsFrom 3 n (drop 9 bs))
     both-right p = frame-at ∙ rw (eq-eqb n (nOf (bits 24 second)) h, p)
 
 -- the frame of word 1, word 2 and N data words

@@ -20,7 +20,8 @@ use Rattle.frame.specs.declared.Frame.{Frame}
 use Rattle.frame.proofs.HeaderLaws.{length-first, length-second, n-words, first-preambled}
 use Rattle.frame.proofs.FrameLaws.{header-within, n-within, below-words, frame-words, length-framed, words-frame, frame-inside}
 use Rattle.journal.specs.Forms.{nByte, wordsAfter, startOrder, recordWith}
-use Rattle.journal.specs.Journal.{recordOf, keepOrder, keptBy, heldBy, dataOrder, recallOrder, refusedRecall, recalled, recalledBy, saysKept, saysRecalled}
+use Rattle.journal.specs.Journal.{recordOf, keepOrder, keptBy, heldBy, dataOrder, recallOrder}
+use Rattle.journal.specs.Journal.{refusedRecall, recalled, recalledBy, saysKept, saysRecalled}
 use Rattle.journal.specs.declared.Found.the-variants.{Record}
 use Rattle.journal.specs.declared.Kept.{Kept}
 use Rattle.journal.specs.declared.Kept.the-variants as kept
@@ -153,20 +154,6 @@ module _ (bs : List ℕ) (fits : AreBytes bs) (f : Frame) (size : ℕ) (h : says
 -- ---- through the lent buffer
 
 module _ (f : Frame) (buffer : List ℕ) where
-  -- RECALLED from the buffer that keeping leaves
-  pub recall-kept : (size : ℕ) → length (f .words) ≡ 31 → saysKept (keptBy f buffer) ≡ answers size
-      → saysRecalled (recalledBy (heldBy f buffer)) ≡ answers (size, f)
-  recall-kept size full h =
-      ap (λ b. saysRecalled (recalledBy b)) (order-answers (λ n. buffer) (recordOf f ++ drop (3 * f .n + 9) buffer) (keepOrder f buffer) room)
-      ∙ ap saysRecalled (recall-record f full (room .0) (drop (3 * f .n + 9) buffer))
-      ∙ ap (λ n. answers (n, f)) length-is
-    where
-      room : NoneApplies (keepOrder f buffer)
-      room = says-none saysKept kept.Refused (λ n. refl) (kept.Done (3 * f .n + 9)) (keepOrder f buffer) h
-
-      length-is : 3 * f .n + 9 ≡ size
-      length-is = let a = ap saysKept (order-answers kept.Refused (kept.Done (3 * f .n + 9)) (keepOrder f buffer) room) in cc (a, h)
-
   -- a refusal leaves the buffer as it was
   pub refused-unchanged : (number : ℕ) → saysKept (keptBy f buffer) ≡ refuses number → heldBy f buffer ≡ buffer
   refused-unchanged number h = sym (order-map held (keepOrder f buffer) kept.Refused (kept.Done (3 * f .n + 9))) ∙ go (keptBy f buffer) h

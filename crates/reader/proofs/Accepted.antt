@@ -205,7 +205,8 @@ module _ (cells : List ℕ) (len : length cells ≡ 40) (c : Candidate) (a : Acc
     pub accepted-step : Accepted (stepTo cells c six)
     unfolding stepTo
     accepted-step =
-        accepted-halt (stepCells cells c six) length-step (roomEnd (c .end) (c .held) + 6) (c .held + 6) step-top step-low (c .words) false (c .at) (c .held + 6)
+        accepted-halt (stepCells cells c six) length-step (roomEnd (c .end) (c .held) + 6) (c .held + 6)
+        step-top step-low (c .words) false (c .at) (c .held + 6)
         (omega (arith, room-free c a w)) (a .few) (omega (arith, a .known))
 
     -- the bits held after six more, before the hunt

@@ -57,7 +57,8 @@ held-none cells end = drop-of-length-le (take end (cellBits cells)) {i = end - 0
 pub held-bit : (cells : List ℕ) (end n j m : ℕ) → j + m ≤ n → n ≤ end → take m (drop j (heldBits cells end n)) ≡ take m (drop (end - n + j) (cellBits cells))
 unfolding heldBits
 held-bit cells end n j m h l =
-    ap (take m) (drop-drop j (end - n) (take end (cellBits cells)) ∙ ap (λ (k : ℕ). drop (end - n + j) (take k (cellBits cells))) back ∙ drop-take (end - n + j) (n - j) (cellBits cells))
+    ap (take m) (drop-drop j (end - n) (take end (cellBits cells)) ∙ ap (λ (k : ℕ). drop (end - n + j) (take k (cellBits cells))) back
+    ∙ drop-take (end - n + j) (n - j) (cellBits cells))
     ∙ take-take m (n - j) (drop (end - n + j) (cellBits cells)) (omega arith)
   where
     back : end ≡ end - n + j + (n - j)
@@ -71,7 +72,9 @@ pub drop-cells : (j : ℕ) (l : List ℕ) → j ≤ length l → drop (32 * j) (
 unfolding cellBits
 drop-cells zero l h = refl
 drop-cells (suc j) [] h = absurd (omega arith)
-drop-cells (suc j) (c ∷ l) h = ap (λ (m : ℕ). drop m (bits 32 c ++ cellBits l)) back ∙ sym (drop-drop (32 * j) 32 (bits 32 c ++ cellBits l)) ∙ rw (drop-at (bits 32 c) (cellBits l) 32 (length-bits 32 c)) (drop-cells j l (omega arith))
+drop-cells (suc j) (c ∷ l) h =
+    ap (λ (m : ℕ). drop m (bits 32 c ++ cellBits l)) back ∙ sym (drop-drop (32 * j) 32 (bits 32 c ++ cellBits l))
+    ∙ rw (drop-at (bits 32 c) (cellBits l) 32 (length-bits 32 c)) (drop-cells j l (omega arith))
   where
     back : 32 * suc j ≡ 32 + 32 * j
     back = omega arith
@@ -87,7 +90,8 @@ abbrev twoBits : List ℕ → ℕ → List Bool
 twoBits cells w = bits 32 (getD cells w 0) ++ bits 32 (getD cells (w + 1) 0)
 
 length-two : (cells : List ℕ) (w : ℕ) → length (twoBits cells w) ≡ 64
-length-two cells w = length-append (bits 32 (getD cells w 0)) (bits 32 (getD cells (w + 1) 0)) ∙ rw (length-bits 32 (getD cells w 0), length-bits 32 (getD cells (w + 1) 0))
+length-two cells w =
+    length-append (bits 32 (getD cells w 0)) (bits 32 (getD cells (w + 1) 0)) ∙ rw (length-bits 32 (getD cells w 0), length-bits 32 (getD cells (w + 1) 0))
 
 number-two : (cells : List ℕ) (w : ℕ) → number (twoBits cells w) ≡ pairAt cells w
 number-two cells w =
@@ -95,7 +99,8 @@ number-two cells w =
     ∙ rw (length-bits 32 (getD cells (w + 1) 0), number-bits 32 (getD cells w 0), number-bits 32 (getD cells (w + 1) 0))
 
 -- m bits that pairAt cells have
-in-two : (cells : List ℕ) (w o m : ℕ) → length cells ≡ 40 → w < 40 → 32 * w + o + m ≤ 1280 → o + m ≤ 64 → take m (drop (32 * w + o) (cellBits cells)) ≡ take m (drop o (twoBits cells w))
+in-two : (cells : List ℕ) (w o m : ℕ) → length cells ≡ 40 → w < 40 → 32 * w + o + m ≤ 1280 → o + m ≤ 64
+    → take m (drop (32 * w + o) (cellBits cells)) ≡ take m (drop o (twoBits cells w))
 unfolding cellBits
 in-two cells w o m l h room two =
     ap (take m) (sym (drop-drop o (32 * w) (cellBits cells))) ∙ rw (drop-cells w cells (omega (arith, l)), first) (same (decLt (w + 1) 40))
@@ -105,26 +110,34 @@ in-two cells w o m l h room two =
 
     same : Dec (w + 1 < 40) → take m (drop o (bits 32 (getD cells w 0) ++ cellBits (drop (w + 1) cells))) ≡ take m (drop o (twoBits cells w))
     same (yes g) =
-        rw (drop-cons cells (w + 1) 0 (omega (arith, l, g)), ← (append-assoc (bits 32 (getD cells w 0)) (bits 32 (getD cells (w + 1) 0)) (cellBits (drop (suc (w + 1)) cells))))
+        rw (
+          drop-cons cells (w + 1) 0 (omega (arith, l, g)),
+          ← (append-assoc (bits 32 (getD cells w 0)) (bits 32 (getD cells (w + 1) 0)) (cellBits (drop (suc (w + 1)) cells))),
+        )
         (prefix m o (twoBits cells w) (cellBits (drop (suc (w + 1)) cells)) (omega (arith, length-two cells w)))
     same (no g) =
         prefix m o (bits 32 (getD cells w 0)) (cellBits (drop (w + 1) cells)) (omega (arith, g, length-bits 32 (getD cells w 0)))
         ∙ sym (prefix m o (bits 32 (getD cells w 0)) (bits 32 (getD cells (w + 1) 0)) (omega (arith, g, length-bits 32 (getD cells w 0))))
 
 -- b bits from bit a of pairAt cells on, as a number
-number-in : (cells : List ℕ) (w a b c : ℕ) → length cells ≡ 40 → w < 40 → 32 * w + a + b ≤ 1280 → 64 ≡ a + b + c → pairAt cells w / 2 ^ c % 2 ^ b ≡ number (take b (drop (32 * w + a) (cellBits cells)))
+number-in : (cells : List ℕ) (w a b c : ℕ) → length cells ≡ 40 → w < 40 → 32 * w + a + b ≤ 1280 → 64 ≡ a + b + c
+    → pairAt cells w / 2 ^ c % 2 ^ b ≡ number (take b (drop (32 * w + a) (cellBits cells)))
 number-in cells w a b c l h room e =
-    ap (λ (n : ℕ). n / 2 ^ c % 2 ^ b) (sym (number-two cells w)) ∙ number-part a b c (twoBits cells w) (length-two cells w ∙ e) ∙ ap number (sym (in-two cells w a b l h room (omega arith)))
+    ap (λ (n : ℕ). n / 2 ^ c % 2 ^ b) (sym (number-two cells w)) ∙ number-part a b c (twoBits cells w) (length-two cells w ∙ e)
+    ∙ ap number (sym (in-two cells w a b l h room (omega arith)))
 
-pub number-window : (cells : List ℕ) (i : ℕ) → length cells ≡ 40 → i + 32 ≤ 1280 → pairAt cells (i / 32) / 2 ^ (32 - i % 32) % 2 ^ 32 ≡ number (take 32 (drop i (cellBits cells)))
+pub number-window : (cells : List ℕ) (i : ℕ) → length cells ≡ 40 → i + 32 ≤ 1280
+    → pairAt cells (i / 32) / 2 ^ (32 - i % 32) % 2 ^ 32 ≡ number (take 32 (drop i (cellBits cells)))
 number-window cells i l room =
-    number-in cells (i / 32) (i % 32) 32 (32 - i % 32) l (omega arith) (omega arith) (omega arith) ∙ ap (λ (n : ℕ). number (take 32 (drop n (cellBits cells)))) back
+    number-in cells (i / 32) (i % 32) 32 (32 - i % 32) l (omega arith) (omega arith) (omega arith)
+    ∙ ap (λ (n : ℕ). number (take 32 (drop n (cellBits cells)))) back
   where
     back : 32 * (i / 32) + i % 32 ≡ i
     back = omega arith
 
 -- D30* and D1 to D8 of the position at bit i
-pub number-nine : (cells : List ℕ) (w o i : ℕ) → length cells ≡ 40 → w < 40 → o ≤ 54 → 32 * w + o ≡ i → i + 10 ≤ 1280 → pairAt cells w / 2 ^ (54 - o) % 512 ≡ number (take 9 (drop (i + 1) (cellBits cells)))
+pub number-nine : (cells : List ℕ) (w o i : ℕ) → length cells ≡ 40 → w < 40 → o ≤ 54 → 32 * w + o ≡ i → i + 10 ≤ 1280
+    → pairAt cells w / 2 ^ (54 - o) % 512 ≡ number (take 9 (drop (i + 1) (cellBits cells)))
 number-nine cells w o i l h low e room =
     number-in cells w (o + 1) 9 (54 - o) l h (omega arith) (omega arith) ∙ ap (λ (n : ℕ). number (take 9 (drop n (cellBits cells)))) back
   where

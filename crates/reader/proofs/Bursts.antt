@@ -1,6 +1,6 @@
 -- Sixes of which all but the last bring no word to its end: what `burst` and the loop of `run` go by. Assumes nothing.
 use mathlib.Core.Path.{_≡_, refl, sym, ap, ap₂, subst, _∙_}
-use mathlib.Core.Bool.{Bool, true, false}
+use mathlib.Core.Bool.{true, false}
 use mathlib.Core.List.{List, [], _∷_}
 use Prim.Native.Nat.{ℕ, suc, _+_, _-_, _*_, _%_, _^_, _≤_, _<_}
 use native.Mathlib.Numerals.{add-one}
@@ -9,9 +9,9 @@ use lib.ListN.{length, drop, getD}
 use Rattle.bits.specs.Bits.{number}
 use Rattle.line.specs.Line.{isData, six}
 use Rattle.line.proofs.LineLaws.{six-lt}
-use Rattle.reader.specs.Cells.{putCells, putFive, pushedCells, roomEnd}
+use Rattle.reader.specs.Cells.{putCells, putFive}
 use Rattle.reader.specs.Hunting.{huntOf}
-use Rattle.reader.specs.Reading.{movedTo, stepCells, stepTo, manyCells, manyTo, Carried, Run, spent, runTo}
+use Rattle.reader.specs.Reading.{movedTo, stepCells, stepTo, manyCells, manyTo, SixesAt, Run, spent, runTo}
 use Rattle.reader.specs.declared.hunt.Halt.{Halt}
 use Rattle.reader.specs.declared.Candidate.{Candidate}
 use Rattle.reader.proofs.Pushing.{length-puts, push-in}
@@ -31,14 +31,17 @@ module _ (cells : List ℕ) (end held words at s : ℕ) (len : length cells ≡ 
 
   -- six bits with room
   put-to : stepTo cells (cand end held words at) s ≡ movedTo at (end + 6) (held + 6) (huntOf (putCells cells end s) (end + 6) (held + 6) words false)
-  put-to = sym (step-law cells (cand end held words at) s (putCells cells end s) (end + 6) _ (push-in cells end held s top .1) (push-in cells end held s top .0) refl)
+  put-to =
+      sym (step-law cells (cand end held words at) s (putCells cells end s) (end + 6) _
+      (push-in cells end held s top .1) (push-in cells end held s top .0) refl)
 
   -- and no word ends
   quiet : words ≤ 32 → held + 6 < 32 + 30 * words → stepTo cells (cand end held words at) s ≡ cand (end + 6) (held + 6) words (at % 2 ^ 32)
   unfolding movedTo
   quiet few h =
       put-to
-      ∙ ap (movedTo at (end + 6) (held + 6)) (step-wait (putCells cells end s) (length-puts cells end s ∙ len) (end + 6) (omega (arith, top)) (held + 6) (omega (arith, low)) words few h)
+      ∙ ap (movedTo at (end + 6) (held + 6))
+      (step-wait (putCells cells end s) (length-puts cells end s ∙ len) (end + 6) (omega (arith, top)) (held + 6) (omega (arith, low)) words few h)
       ∙ ap (λ n. cand (end + 6) (held + 6) words (n % 2 ^ 32)) same
     where
       same : at + (held + 6 - (held + 6)) ≡ at
@@ -74,8 +77,8 @@ Quiet cells c [] = Unit {0}
 Quiet cells c (s ∷ []) = Unit {0}
 Quiet cells c (s ∷ r ∷ ss) = (stepTo cells c s .waits ≡ false) × Quiet (stepCells cells c s) (stepTo cells c s) (r ∷ ss)
 
-module _ (cells : List ℕ) (c : Candidate) (len : length cells ≡ 40) (top : c .end ≤ 1192) (low : c .held ≤ c .end) (few : c .words ≤ 32) (no : c .held + 24 < 32 + 30 * c .words)
-    (a b d e f : ℕ) where
+module _ (cells : List ℕ) (c : Candidate) (len : length cells ≡ 40)
+    (top : c .end ≤ 1192) (low : c .held ≤ c .end) (few : c .words ≤ 32) (no : c .held + 24 < 32 + 30 * c .words) (a b d e f : ℕ) where
   end : ℕ
   end = c .end
 
@@ -146,7 +149,9 @@ module _ (cells : List ℕ) (c : Candidate) (len : length cells ≡ 40) (top : c
 
   s₄ : manyTo cells c (a ∷ b ∷ d ∷ e ∷ []) ≡ cand (end + 6 + 6 + 6 + 6) (held + 6 + 6 + 6 + 6) words (at % 2 ^ 32 % 2 ^ 32 % 2 ^ 32 % 2 ^ 32)
   unfolding end held words manyCells manyTo
-  s₄ = on-quiet c₃ (end + 6 + 6 + 6) (held + 6 + 6 + 6) words (at % 2 ^ 32 % 2 ^ 32 % 2 ^ 32) e len₃ (omega (arith, top)) (omega (arith, low)) _ _ k₃ s₃ few (omega (arith, no))
+  s₄ =
+      on-quiet c₃ (end + 6 + 6 + 6) (held + 6 + 6 + 6) words (at % 2 ^ 32 % 2 ^ 32 % 2 ^ 32) e len₃
+      (omega (arith, top)) (omega (arith, low)) _ _ k₃ s₃ few (omega (arith, no))
 
   five-is : putCells c₄ (end + 6 + 6 + 6 + 6) f ≡ putFive cells (c .end) a b d e f
   unfolding putFive c₁ c₂ c₃ c₄ end
@@ -168,9 +173,11 @@ module _ (cells : List ℕ) (c : Candidate) (len : length cells ≡ 40) (top : c
   many-to after ea halt es =
       let ends : c .end + 6 + 6 + 6 + 6 + 6 ≡ c .end + 30 = omega arith in
       let helds : c .held + 6 + 6 + 6 + 6 + 6 ≡ c .held + 30 = omega arith in
-      on-to c₄ (end + 6 + 6 + 6 + 6) (held + 6 + 6 + 6 + 6) words (at % 2 ^ 32 % 2 ^ 32 % 2 ^ 32 % 2 ^ 32) f len₄ (omega (arith, top)) (omega (arith, low)) _ _ k₄ s₄
+      on-to c₄ (end + 6 + 6 + 6 + 6) (held + 6 + 6 + 6 + 6) words (at % 2 ^ 32 % 2 ^ 32 % 2 ^ 32 % 2 ^ 32) f len₄
+      (omega (arith, top)) (omega (arith, low)) _ _ k₄ s₄
       ∙ ap₂ (λ m n. movedTo (at % 2 ^ 32 % 2 ^ 32 % 2 ^ 32 % 2 ^ 32) m n (huntOf (putCells c₄ (end + 6 + 6 + 6 + 6) f) m n words false)) ends helds
-      ∙ ap (movedTo (at % 2 ^ 32 % 2 ^ 32 % 2 ^ 32 % 2 ^ 32) (c .end + 30) (c .held + 30)) (ap (λ l. huntOf l (c .end + 30) (c .held + 30) (c .words) false) (five-is ∙ sym ea) ∙ sym es)
+      ∙ ap (movedTo (at % 2 ^ 32 % 2 ^ 32 % 2 ^ 32 % 2 ^ 32) (c .end + 30) (c .held + 30))
+      (ap (λ l. huntOf l (c .end + 30) (c .held + 30) (c .words) false) (five-is ∙ sym ea) ∙ sym es)
       ∙ ap (λ n. record { end = c .end + 30; held = halt .left; words = halt .words; at = n; waits = halt .found }) same
     where
       same : (c .at % 2 ^ 32 % 2 ^ 32 % 2 ^ 32 % 2 ^ 32 + (c .held + 30 - halt .left)) % 2 ^ 32 ≡ (c .at + (c .held + 30 - halt .left)) % 2 ^ 32
@@ -198,7 +205,7 @@ goes-one whole bytes s cells c used passed g w h d e = record {
 }
 
 pub goes-many : (whole : Run) (bytes ss : List ℕ) (cells : List ℕ) (c : Candidate) (used passed : ℕ) → Goes whole bytes cells c used passed
-    → c .waits ≡ false → Carried bytes used ss → Quiet cells c ss
+    → c .waits ≡ false → SixesAt bytes used ss → Quiet cells c ss
     → Goes whole bytes (manyCells cells c ss) (manyTo cells c ss) (used + length ss) passed
 unfolding manyCells manyTo
 goes-many whole bytes [] cells c used passed g w t q = subst (λ n. Goes whole bytes cells c n passed) none g
@@ -206,22 +213,24 @@ goes-many whole bytes [] cells c used passed g w t q = subst (λ n. Goes whole b
     none : used ≡ used + 0
     none = omega arith
 goes-many whole bytes (s ∷ []) cells c used passed g w t q =
-    subst (λ n. Goes whole bytes (stepCells cells c s) (stepTo cells c s) n passed) (sym (add-one used)) (goes-one whole bytes s cells c used passed g w (t .0) (t .1) (t .2))
+    subst (λ n. Goes whole bytes (stepCells cells c s) (stepTo cells c s) n passed) (sym (add-one used))
+    (goes-one whole bytes s cells c used passed g w (t .0) (t .1) (t .2))
 goes-many whole bytes (s ∷ r ∷ ss) cells c used passed g w t q =
     subst (λ n. Goes whole bytes (manyCells cells c (s ∷ r ∷ ss)) (manyTo cells c (s ∷ r ∷ ss)) n passed) more
-    (goes-many whole bytes (r ∷ ss) (stepCells cells c s) (stepTo cells c s) (suc used) passed (goes-one whole bytes s cells c used passed g w (t .0) (t .1) (t .2)) (q .0) (t .4) (q .1))
+    (goes-many whole bytes (r ∷ ss) (stepCells cells c s) (stepTo cells c s) (suc used) passed
+    (goes-one whole bytes s cells c used passed g w (t .0) (t .1) (t .2)) (q .0) (t .4) (q .1))
   where
     more : suc used + length (r ∷ ss) ≡ used + length (s ∷ r ∷ ss)
     more = omega arith
 
 -- five bytes that carry sixes, by their places
-abbrev pub Carries : List ℕ → ℕ → ℕ → Type 0
-Carries bytes i n = (isData (getD bytes i 0) ≡ true) × (n ≡ number (six (getD bytes i 0)))
+abbrev pub SixAt : List ℕ → ℕ → ℕ → Type 0
+SixAt bytes i n = (isData (getD bytes i 0) ≡ true) × (n ≡ number (six (getD bytes i 0)))
 
-pub carried-five : (bytes : List ℕ) (at a b d e f : ℕ) → at + 5 ≤ length bytes
-    → Carries bytes at a → Carries bytes (at + 1) b → Carries bytes (at + 2) d → Carries bytes (at + 3) e → Carries bytes (at + 4) f
-    → Carried bytes at (a ∷ b ∷ d ∷ e ∷ f ∷ [])
-carried-five bytes at a b d e f h p q r s t = (
+pub five-sixes : (bytes : List ℕ) (at a b d e f : ℕ) → at + 5 ≤ length bytes
+    → SixAt bytes at a → SixAt bytes (at + 1) b → SixAt bytes (at + 2) d → SixAt bytes (at + 3) e → SixAt bytes (at + 4) f
+    → SixesAt bytes at (a ∷ b ∷ d ∷ e ∷ f ∷ [])
+five-sixes bytes at a b d e f h p q r s t = (
   omega (arith, h),
   p .0,
   p .1,
@@ -247,8 +256,8 @@ carried-five bytes at a b d e f h p q r s t = (
   ),
 )
   where
-    shift : (i j n : ℕ) → i ≡ j → Carries bytes i n → Carries bytes j n
-    shift i j n w c = subst (λ k. Carries bytes k n) w c
+    shift : (i j n : ℕ) → i ≡ j → SixAt bytes i n → SixAt bytes j n
+    shift i j n w c = subst (λ k. SixAt bytes k n) w c
 
-    bound : (i n : ℕ) → Carries bytes i n → n < 64
+    bound : (i n : ℕ) → SixAt bytes i n → n < 64
     bound i n c = omega (arith, c .1, six-lt (getD bytes i 0))

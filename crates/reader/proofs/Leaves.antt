@@ -50,7 +50,8 @@ turned-over (false ∷ l) = omega (arith, turned-over l, pow-suc 2 (length l), a
     long (b ∷ l) = ap suc (long l)
 
 -- nine bits that are neither 0 01100110 nor 1 10011001: no preamble
-pub no-preamble : (w : List Bool) → length w ≡ 32 → (number (take 9 (drop 1 w)) ≡ 102 → ⊥) → (number (take 9 (drop 1 w)) ≡ 409 → ⊥) → preambled (dataOf w) ≡ false
+pub no-preamble : (w : List Bool) → length w ≡ 32 → (number (take 9 (drop 1 w)) ≡ 102 → ⊥) → (number (take 9 (drop 1 w)) ≡ 409 → ⊥)
+    → preambled (dataOf w) ≡ false
 unfolding preambled number
 no-preamble w h f g = ne-eqb (number (take 8 (dataOf w))) 102 (λ e. go (getD w 1 false) (sym (ap number (data-is w)) ∙ e) (ap number (nine-is w h)))
   where

@@ -1,5 +1,6 @@
 pub mod Buffer
 pub mod Pushing
+pub mod PutNext
 pub mod Bursting
 pub mod Leaves
 pub mod Steps

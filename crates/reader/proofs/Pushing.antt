@@ -43,7 +43,9 @@ pair-bits c o x h l =
 three : (cells : List ℕ) (j : ℕ) → j + 1 < length cells → cells ≡ take j cells ++ getD cells j 0 ∷ getD cells (j + 1) 0 ∷ drop (suc (j + 1)) cells
 three cells j h =
     sym (take-append-drop j cells)
-    ∙ ap (λ (t : List ℕ). take j cells ++ t) (drop-cons cells j 0 (omega arith) ∙ ap (λ (m : ℕ). getD cells j 0 ∷ drop m cells) (sym (add-one j)) ∙ ap (λ (t : List ℕ). getD cells j 0 ∷ t) (drop-cons cells (j + 1) 0 h))
+    ∙ ap (λ (t : List ℕ). take j cells ++ t)
+    (drop-cons cells j 0 (omega arith) ∙ ap (λ (m : ℕ). getD cells j 0 ∷ drop m cells) (sym (add-one j))
+    ∙ ap (λ (t : List ℕ). getD cells j 0 ∷ t) (drop-cons cells (j + 1) 0 h))
 
 pub set-two : (p : List ℕ) (a b : ℕ) (t : List ℕ) (j u v : ℕ) → length p ≡ j → set (set (p ++ a ∷ b ∷ t) j u) (j + 1) v ≡ p ++ u ∷ v ∷ t
 set-two p a b t j u v e =
@@ -52,10 +54,13 @@ set-two p a b t j u v e =
     ∙ set-at (p ++ (u ∷ [])) b t v (j + 1) (length-append p (u ∷ []) ∙ rw e)
     ∙ append-assoc p (u ∷ []) (v ∷ t)
 
-pub take-puts : (cells : List ℕ) (end x : ℕ) → length cells ≡ 40 → x < 64 → end ≤ 1216 → take (end + 6) (cellBits (putCells cells end x)) ≡ take end (cellBits cells) ++ bits 6 x
+pub take-puts : (cells : List ℕ) (end x : ℕ) → length cells ≡ 40 → x < 64 → end ≤ 1216
+    → take (end + 6) (cellBits (putCells cells end x)) ≡ take end (cellBits cells) ++ bits 6 x
 unfolding putCells cellBits
 take-puts cells end x l h room =
-    ap (λ (t : List ℕ). take (end + 6) (cellBits t)) (ap (λ (t : List ℕ). set (set t j (v / 2 ^ 32)) (j + 1) (v % 2 ^ 32)) (three cells j (omega (arith, l))) ∙ set-two P c (getD cells (j + 1) 0) T j (v / 2 ^ 32) (v % 2 ^ 32) long-p)
+    ap (λ (t : List ℕ). take (end + 6) (cellBits t))
+    (ap (λ (t : List ℕ). set (set t j (v / 2 ^ 32)) (j + 1) (v % 2 ^ 32)) (three cells j (omega (arith, l)))
+    ∙ set-two P c (getD cells (j + 1) 0) T j (v / 2 ^ 32) (v % 2 ^ 32) long-p)
     ∙ ap (take (end + 6)) after
     ∙ take-at (cellBits P ++ (take o (bits 32 c) ++ bits 6 x)) (bits (58 - o) 0 ++ cellBits T) (end + 6) long-new
     ∙ sym (append-assoc (cellBits P) (take o (bits 32 c)) (bits 6 x))
@@ -86,7 +91,16 @@ take-puts cells end x l h room =
     long-o = length-take-le o (bits 32 c) (omega (arith, length-bits 32 c))
 
     long-new : length (cellBits P ++ (take o (bits 32 c) ++ bits 6 x)) ≡ end + 6
-    long-new = omega (arith, length-append (cellBits P) (take o (bits 32 c) ++ bits 6 x), length-append (take o (bits 32 c)) (bits 6 x), length-bits 6 x, long-o, length-cells P, long-p)
+    long-new =
+        omega (
+          arith,
+          length-append (cellBits P) (take o (bits 32 c) ++ bits 6 x),
+          length-append (take o (bits 32 c)) (bits 6 x),
+          length-bits 6 x,
+          long-o,
+          length-cells P,
+          long-p,
+        )
 
     long-old : length (cellBits P ++ take o (bits 32 c)) ≡ end
     long-old = omega (arith, length-append (cellBits P) (take o (bits 32 c)), long-o, length-cells P, long-p)
@@ -94,7 +108,10 @@ take-puts cells end x l h room =
     after : cellBits (P ++ v / 2 ^ 32 ∷ v % 2 ^ 32 ∷ T) ≡ (cellBits P ++ (take o (bits 32 c) ++ bits 6 x)) ++ (bits (58 - o) 0 ++ cellBits T)
     after =
         cells-append P (v / 2 ^ 32 ∷ v % 2 ^ 32 ∷ T)
-        ∙ ap (λ (t : List Bool). cellBits P ++ t) (sym (append-assoc (bits 32 (v / 2 ^ 32)) (bits 32 (v % 2 ^ 32)) (cellBits T)) ∙ ap (λ (t : List Bool). t ++ cellBits T) (pair-bits c o x (omega arith) h) ∙ append-assoc (take o (bits 32 c) ++ bits 6 x) (bits (58 - o) 0) (cellBits T))
+        ∙ ap (λ (t : List Bool). cellBits P ++ t)
+        (sym (append-assoc (bits 32 (v / 2 ^ 32)) (bits 32 (v % 2 ^ 32)) (cellBits T))
+        ∙ ap (λ (t : List Bool). t ++ cellBits T) (pair-bits c o x (omega arith) h)
+        ∙ append-assoc (take o (bits 32 c) ++ bits 6 x) (bits (58 - o) 0) (cellBits T))
         ∙ sym (append-assoc (cellBits P) (take o (bits 32 c) ++ bits 6 x) (bits (58 - o) 0 ++ cellBits T))
 
     old : cellBits cells ≡ (cellBits P ++ take o (bits 32 c)) ++ (drop o (bits 32 c) ++ cellBits (getD cells (j + 1) 0 ∷ T))
@@ -111,7 +128,8 @@ pub length-puts : (cells : List ℕ) (end x : ℕ) → length (putCells cells en
 unfolding putCells
 length-puts cells end x = simp length-set
 
-held-puts : (cells : List ℕ) (end n x : ℕ) → length cells ≡ 40 → x < 64 → end ≤ 1216 → n ≤ end → heldBits (putCells cells end x) (end + 6) (n + 6) ≡ heldBits cells end n ++ bits 6 x
+held-puts : (cells : List ℕ) (end n x : ℕ) → length cells ≡ 40 → x < 64 → end ≤ 1216 → n ≤ end
+    → heldBits (putCells cells end x) (end + 6) (n + 6) ≡ heldBits cells end n ++ bits 6 x
 unfolding heldBits
 held-puts cells end n x l h room low =
     ap (drop (end + 6 - (n + 6))) (take-puts cells end x l h room)
@@ -126,11 +144,16 @@ pub length-down : (cells : List ℕ) (k : ℕ) → length cells ≡ 40 → k ≤
 unfolding downCells
 length-down cells k l h = omega (arith, length-append (drop k cells) (drop (40 - k) cells), length-drop k cells, length-drop (40 - k) cells)
 
-held-down : (cells : List ℕ) (end n k : ℕ) → length cells ≡ 40 → end ≤ 1280 → n + 32 * k ≤ end → heldBits (downCells cells k) (end - 32 * k) n ≡ heldBits cells end n
+held-down : (cells : List ℕ) (end n k : ℕ) → length cells ≡ 40 → end ≤ 1280 → n + 32 * k ≤ end
+    → heldBits (downCells cells k) (end - 32 * k) n ≡ heldBits cells end n
 unfolding heldBits downCells
 held-down cells end n k l t h =
-    ap (λ (w : List Bool). drop (end - 32 * k - n) (take (end - 32 * k) w)) (cells-append (drop k cells) (drop (40 - k) cells) ∙ ap (λ (w : List Bool). w ++ cellBits (drop (40 - k) cells)) (sym (drop-cells k cells (omega (arith, l)))))
-    ∙ ap (drop (end - 32 * k - n)) (take-append-le (end - 32 * k) (drop (32 * k) (cellBits cells)) (cellBits (drop (40 - k) cells)) (omega (arith, length-drop (32 * k) (cellBits cells), length-cells cells)) ∙ sym (drop-take (32 * k) (end - 32 * k) (cellBits cells)))
+    ap (λ (w : List Bool). drop (end - 32 * k - n) (take (end - 32 * k) w))
+    (cells-append (drop k cells) (drop (40 - k) cells)
+    ∙ ap (λ (w : List Bool). w ++ cellBits (drop (40 - k) cells)) (sym (drop-cells k cells (omega (arith, l)))))
+    ∙ ap (drop (end - 32 * k - n))
+    (take-append-le (end - 32 * k) (drop (32 * k) (cellBits cells)) (cellBits (drop (40 - k) cells))
+    (omega (arith, length-drop (32 * k) (cellBits cells), length-cells cells)) ∙ sym (drop-take (32 * k) (end - 32 * k) (cellBits cells)))
     ∙ drop-drop (end - 32 * k - n) (32 * k) (take (32 * k + (end - 32 * k)) (cellBits cells))
     ∙ ap₂ (λ (a b : ℕ). drop a (take b (cellBits cells))) first second
   where
@@ -185,7 +208,9 @@ module _ (cells : List ℕ) (end held x : ℕ) where
   unfolding roomEnd roomCells pushedCells
   push-in h = (rw (le-leb end 1216 h), rw (le-leb end 1216 h))
 
-  pub push-over : 1216 < end → (end - 32 * ((end - held) / 32) + 6 ≡ roomEnd end held + 6) × (putCells (downCells cells ((end - held) / 32)) (end - 32 * ((end - held) / 32)) x ≡ pushedCells cells end held x)
+  pub push-over : 1216 < end
+      → (end - 32 * ((end - held) / 32) + 6 ≡ roomEnd end held + 6)
+      × (putCells (downCells cells ((end - held) / 32)) (end - 32 * ((end - held) / 32)) x ≡ pushedCells cells end held x)
   unfolding roomEnd roomCells pushedCells
   push-over h = (rw (lt-leb end 1216 h), rw (lt-leb end 1216 h))
 
@@ -204,7 +229,8 @@ part-set i m l h g =
 
 pub down-step : (cells l : List ℕ) (k i : ℕ) → cells ≡ part i (drop k l) l → i + k < length l → set cells i (getD cells (i + k) 0) ≡ part (i + 1) (drop k l) l
 down-step cells l k i e h =
-    rw (e, part-get i (drop k l) l k (omega (arith, length-drop k l)), add-one i, add-comm i k, ← (getD-drop k l i 0)) (part-set i (drop k l) l (omega (arith, length-drop k l)) (omega arith))
+    rw (e, part-get i (drop k l) l k (omega (arith, length-drop k l)), add-one i, add-comm i k, ← (getD-drop k l i 0))
+    (part-set i (drop k l) l (omega (arith, length-drop k l)) (omega arith))
 
 pub down-end : (cells l : List ℕ) (k i : ℕ) → length l ≡ 40 → cells ≡ part i (drop k l) l → i + k ≡ 40 → cells ≡ downCells l k
 unfolding downCells

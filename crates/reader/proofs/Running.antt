@@ -20,7 +20,8 @@ pub spent-none : (x : Run) → x ≡ spent 0 0 x
 spent-none x = λ i. record { cells = x .cells; candidate = x .candidate; used = sym (zero-add (x .used)) i; passed = sym (zero-add (x .passed)) i }
 
 spent-again : (u p v q : ℕ) (x : Run) → spent u p (spent v q x) ≡ spent (u + v) (p + q) x
-spent-again u p v q x = λ i. record { cells = x .cells; candidate = x .candidate; used = sym (add-assoc u v (x .used)) i; passed = sym (add-assoc p q (x .passed)) i }
+spent-again u p v q x =
+    λ i. record { cells = x .cells; candidate = x .candidate; used = sym (add-assoc u v (x .used)) i; passed = sym (add-assoc p q (x .passed)) i }
 
 spent-stopped : (u p : ℕ) (cells : List ℕ) (c : Candidate) → spent u p (stopped cells c) ≡ record { cells = cells; candidate = c; used = u; passed = p }
 spent-stopped u p cells c = λ i. record { cells = cells; candidate = c; used = add-zero u i; passed = add-zero p i }
@@ -31,20 +32,24 @@ pub run-waits : (cells : List ℕ) (c : Candidate) (bs : List ℕ) → c .waits 
 unfolding runTo
 run-waits cells c [] w = refl
 run-waits cells c (b ∷ bs) w =
-    ap (λ t. cond t (stopped cells c) (cond (isData b) (spent 1 0 (runTo (stepCells cells c (number (six b))) (stepTo cells c (number (six b))) bs)) (spent 1 1 (runTo cells c bs)))) w
+    ap (λ t. cond t (stopped cells c)
+    (cond (isData b) (spent 1 0 (runTo (stepCells cells c (number (six b))) (stepTo cells c (number (six b))) bs)) (spent 1 1 (runTo cells c bs)))) w
 
 module _ (cells : List ℕ) (c : Candidate) (b : ℕ) (bs : List ℕ) (w : c .waits ≡ false) where
   by-byte : runTo cells c (b ∷ bs)
       ≡ cond (isData b) (spent 1 0 (runTo (stepCells cells c (number (six b))) (stepTo cells c (number (six b))) bs)) (spent 1 1 (runTo cells c bs))
   unfolding runTo
   by-byte =
-      ap (λ t. cond t (stopped cells c) (cond (isData b) (spent 1 0 (runTo (stepCells cells c (number (six b))) (stepTo cells c (number (six b))) bs)) (spent 1 1 (runTo cells c bs)))) w
+      ap (λ t. cond t (stopped cells c)
+      (cond (isData b) (spent 1 0 (runTo (stepCells cells c (number (six b))) (stepTo cells c (number (six b))) bs)) (spent 1 1 (runTo cells c bs)))) w
 
   pub run-on : isData b ≡ true → runTo cells c (b ∷ bs) ≡ spent 1 0 (runTo (stepCells cells c (number (six b))) (stepTo cells c (number (six b))) bs)
-  run-on d = by-byte ∙ ap (λ t. cond t (spent 1 0 (runTo (stepCells cells c (number (six b))) (stepTo cells c (number (six b))) bs)) (spent 1 1 (runTo cells c bs))) d
+  run-on d =
+      by-byte ∙ ap (λ t. cond t (spent 1 0 (runTo (stepCells cells c (number (six b))) (stepTo cells c (number (six b))) bs)) (spent 1 1 (runTo cells c bs))) d
 
   pub run-over : isData b ≡ false → runTo cells c (b ∷ bs) ≡ spent 1 1 (runTo cells c bs)
-  run-over d = by-byte ∙ ap (λ t. cond t (spent 1 0 (runTo (stepCells cells c (number (six b))) (stepTo cells c (number (six b))) bs)) (spent 1 1 (runTo cells c bs))) d
+  run-over d =
+      by-byte ∙ ap (λ t. cond t (spent 1 0 (runTo (stepCells cells c (number (six b))) (stepTo cells c (number (six b))) bs)) (spent 1 1 (runTo cells c bs))) d
 
 -- ---- the loop: the run from the start is what was used, and the run from here
 

@@ -145,7 +145,8 @@ headless-law n o z ho e =
     never : (s : ℕ) → s + o ≤ 54 → 55 ≤ s + o + z → unlike (n / 2 ^ s) % 2 ^ 8 ≡ 85 → ⊥
     never s l u q =
         let one = ap (λ (y : ℕ). y % 2 ^ 1) (heads-shr n s) ∙ heads-is (n / 2 ^ s) q in
-        let none = sym (mod-mod-pow (heads n / 2 ^ s) (54 - (s + o)) 1) ∙ ap (λ (y : ℕ). heads n / 2 ^ s % 2 ^ y % 2 ^ 1) (up s l) ∙ ap (λ (y : ℕ). y % 2 ^ 1) (zero-at s l u) in
+        let none = sym (mod-mod-pow (heads n / 2 ^ s) (54 - (s + o)) 1) ∙ ap (λ (y : ℕ). heads n / 2 ^ s % 2 ^ y % 2 ^ 1) (up s l)
+        ∙ ap (λ (y : ℕ). y % 2 ^ 1) (zero-at s l u) in
         omega (arith, one, none)
       where
         up : (s : ℕ) → s + o ≤ 54 → 54 - (s + o) + 1 ≡ 55 - (s + o)
@@ -178,4 +179,6 @@ seek-past cells len end top left low both z is none (suc k) l e r g f ended =
     down = omega arith
 
     at : both / 2 ^ s % 512 ≡ number (take 9 (drop (end - suc l + 1) (cellBits cells)))
-    at = ap (λ n. n / 2 ^ s % 512) is ∙ number-nine cells ((end - left) / 32) o (end - suc l) len (omega arith) (omega (arith, f)) (omega (arith, e, low)) (omega (arith, r, e, low))
+    at =
+        ap (λ n. n / 2 ^ s % 512) is
+        ∙ number-nine cells ((end - left) / 32) o (end - suc l) len (omega arith) (omega (arith, f)) (omega (arith, e, low)) (omega (arith, r, e, low))

@@ -2,7 +2,7 @@
 use mathlib.Core.Path.{_≡_, refl, sym, ap, _∙_}
 use mathlib.Core.Bool.{Bool, true, false, cond, not}
 use mathlib.Core.List.{List, [], _∷_}
-use Prim.Native.Nat.{ℕ, _+_, _-_}
+use Prim.Native.Nat.{ℕ, _+_}
 use native.Mathlib.Omega.{arith}
 use Rattle.answer.specs.Order.{inOrder}
 use Rattle.answer.proofs.OrderLaws.{order-map, order-append}
@@ -79,14 +79,16 @@ module _ (r : Reader) (b : ℕ) where
 
     pub fed-empty : state ≡ Yes → isData b ≡ false → record { answer = answer.Refused 1; reader = r } ≡ fedBy r b
     unfolding refused
-    fed-empty e d = ap (λ t. cond (not t) (refused 1) (record { answer = answer.Done; reader = steppedBy r b })) (sym d) ∙ is-ready refused _ r state is e ∙ sym fed-order
+    fed-empty e d =
+        ap (λ t. cond (not t) (refused 1) (record { answer = answer.Done; reader = steppedBy r b })) (sym d) ∙ is-ready refused _ r state is e ∙ sym fed-order
 
     pub fed-done : state ≡ Yes → isData b ≡ true → (cells : List ℕ) → cells ≡ stepCells (r .cells) (r .candidate) (number (six b))
         → (c : Candidate) → c ≡ stepTo (r .cells) (r .candidate) (number (six b))
         → record { answer = answer.Done; reader = record { cells = cells; candidate = c; ended = r .ended } } ≡ fedBy r b
     unfolding steppedBy
     fed-done e d cells ec c cc′ =
-        rw (ec, cc′) (ap (λ t. cond (not t) (refused 1) (record { answer = answer.Done; reader = steppedBy r b })) (sym d) ∙ is-ready refused _ r state is e ∙ sym fed-order)
+        rw (ec, cc′) (ap (λ t. cond (not t) (refused 1) (record { answer = answer.Done; reader = steppedBy r b })) (sym d)
+        ∙ is-ready refused _ r state is e ∙ sym fed-order)
 
 -- ---- bytes fed, and the end
 

@@ -41,7 +41,8 @@ module _ (cells : List ℕ) (len : length cells ≡ 40) (end : ℕ) (top : end �
 
   pub word-is : (k w : ℕ) → 32 + 30 * k ≤ left → w ≡ seen cells (end - left + 30 * k) → bits 32 w ≡ wordAt k (heldBits cells end left)
   word-is k w c e =
-      rw (e, ← (held-word cells end left (30 * k) (omega arith) low)) (bits-number 32 (wordAt k (heldBits cells end left)) (word-long k (heldBits cells end left) (omega (arith, long))))
+      rw (e, ← (held-word cells end left (30 * k) (omega arith) low))
+      (bits-number 32 (wordAt k (heldBits cells end left)) (word-long k (heldBits cells end left) (omega (arith, long))))
 
   pub n-is : (w n : ℕ) → 62 ≤ left → w ≡ seen cells (end - left + 30) → n ≡ nOf (dataOf (bits 32 w)) → n ≡ nAt (heldBits cells end left)
   unfolding nAt
@@ -55,7 +56,8 @@ module _ (cells : List ℕ) (len : length cells ≡ 40) (end : ℕ) (top : end �
     unfolding huntOf
     step-next r t = ap haltOf (hunt-next e k low-k (heldBits cells end left) here (ap (right k) (sym (word-is k w c is)) ∙ r) t)
 
-    pub step-whole : right k (bits 32 w) ≡ true → size (heldBits cells end left) ≤ suc k → huntOf cells end left k e ≡ record { left = left; words = 0; found = true }
+    pub step-whole : right k (bits 32 w) ≡ true → size (heldBits cells end left) ≤ suc k
+        → huntOf cells end left k e ≡ record { left = left; words = 0; found = true }
     unfolding huntOf haltOf
     step-whole r t = rw (hunt-whole e k low-k (heldBits cells end left) here (ap (right k) (sym (word-is k w c is)) ∙ r) t, long)
 
@@ -67,7 +69,8 @@ module _ (cells : List ℕ) (len : length cells ≡ 40) (end : ℕ) (top : end �
   -- no preamble stands at the candidate
   nine-held : 32 ≤ left → number (take 9 (drop (end - left + 1) (cellBits cells))) ≡ number (take 9 (drop 1 (wordAt 0 (heldBits cells end left))))
   nine-held c =
-      ap number (sym (ap (take 9) (drop-take 1 31 (heldBits cells end left)) ∙ take-take 9 31 (drop 1 (heldBits cells end left)) (omega arith) ∙ held-bit cells end left 1 9 (omega arith) low))
+      ap number (sym (ap (take 9) (drop-take 1 31 (heldBits cells end left)) ∙ take-take 9 31 (drop 1 (heldBits cells end left)) (omega arith)
+      ∙ held-bit cells end left 1 9 (omega arith) low))
 
   pub step-seek : (ended : Bool) (k t : ℕ) → k ≡ 0 → 32 ≤ left → t ≡ number (take 9 (drop (end - left + 1) (cellBits cells))) → (t ≡ 102 → ⊥) → (t ≡ 409 → ⊥)
       → huntOf cells end left k ended ≡ huntOf cells end (left - 1) k ended

@@ -41,7 +41,8 @@ pub gather-none : (d : List Bool) → replicate {A = ℕ} 31 0 ≡ gathered 0 d
 unfolding dataFrom
 gather-none d = refl
 
-pub gather-step : (ws : List ℕ) (k x : ℕ) (d : List Bool) → ws ≡ gathered k d → k < 31 → x ≡ number (dataOf (wordAt (2 + k) d)) → set ws k x ≡ gathered (k + 1) d
+pub gather-step : (ws : List ℕ) (k x : ℕ) (d : List Bool) → ws ≡ gathered k d → k < 31 → x ≡ number (dataOf (wordAt (2 + k) d))
+    → set ws k x ≡ gathered (k + 1) d
 gather-step ws k x d e h f =
     rw (e, add-one k, zeros, f, data-more k 2 d)
     (set-at (dataFrom k 2 d) 0 (replicate (31 - suc k) 0) (number (dataOf (wordAt (2 + k) d))) k (length-dataFrom k 2 d)
@@ -107,7 +108,8 @@ module _ (cells : List ℕ) (len : length cells ≡ 40) (end : ℕ) (top : end �
     right-here b f = ap (right (2 + k)) (sym word-here) ∙ right-later (2 + k) (bits 32 w) (λ z. omega arith) ∙ sym f
 
   -- the header's two words
-  module _ (some : 62 ≤ held) (one two n : ℕ) (e1 : one ≡ seen cells (end - held)) (e2 : two ≡ seen cells (end - held + 30)) (en : n ≡ nOf (dataOf (bits 32 two))) where
+  module _ (some : 62 ≤ held) (one two n : ℕ) (e1 : one ≡ seen cells (end - held)) (e2 : two ≡ seen cells (end - held + 30))
+      (en : n ≡ nOf (dataOf (bits 32 two))) where
     first : bits 32 one ≡ wordAt 0 d
     first = word-is cells len end top held low 0 one (omega arith) (e1 ∙ ap (seen cells) place)
       where
@@ -129,7 +131,8 @@ module _ (cells : List ℕ) (len : length cells ≡ 40) (end : ℕ) (top : end �
     pub wrong-second : (b : Bool) → b ≡ passes (bits 32 two) → b ≡ false → Stands d → ⊥
     wrong-second b f z = wrong-word d 1 (omega arith) (ap (right 1) (sym second) ∙ right-later 1 (bits 32 two) (λ e. omega arith) ∙ sym f ∙ z)
 
-    pub header-here : true ≡ right 0 (bits 32 one) → true ≡ passes (bits 32 two) → (x y : ℕ) → x ≡ number (dataOf (bits 32 one)) → y ≡ number (dataOf (bits 32 two))
+    pub header-here : true ≡ right 0 (bits 32 one) → true ≡ passes (bits 32 two) → (x y : ℕ) → x ≡ number (dataOf (bits 32 one))
+        → y ≡ number (dataOf (bits 32 two))
         → (h : Header) → h ≡ headerOf (bits 24 x) (bits 24 y) → HeaderIn d h n
     header-here r1 r2 x y ex ey h eh = record {
       words = eh ∙ ap₂ headerOf (bits-data one x ex ∙ ap dataOf first) (bits-data two y ey ∙ ap dataOf second);

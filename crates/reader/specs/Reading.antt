@@ -90,13 +90,14 @@ manyTo cells c [] = c
 manyTo cells c (s ∷ ss) = manyTo (stepCells cells c s) (stepTo cells c s) ss
 
 -- bytes from a place on that carry these sixes
-abbrev pub Carried : List ℕ → ℕ → List ℕ → Type 0
-Carried bytes at [] = Unit {0}
-Carried bytes at (s ∷ ss) = (at < length bytes) × (isData (getD bytes at 0) ≡ true) × (s ≡ number (six (getD bytes at 0))) × (s < 64) × Carried bytes (suc at) ss
+abbrev pub SixesAt : List ℕ → ℕ → List ℕ → Type 0
+SixesAt bytes at [] = Unit {0}
+SixesAt bytes at (s ∷ ss) =
+    (at < length bytes) × (isData (getD bytes at 0) ≡ true) × (s ≡ number (six (getD bytes at 0))) × (s < 64) × SixesAt bytes (suc at) ss
 
 -- of five bytes that carry sixes the first four bring no word to its end, and there is room for all
 abbrev pub FiveIn : Candidate → List ℕ → ℕ → Five → Type 0
-FiveIn c bytes at (Sixes a b d e f) = (c .end ≤ 1192) × (c .held + 24 < 32 + 30 * c .words) × Carried bytes at (a ∷ b ∷ d ∷ e ∷ f ∷ [])
+FiveIn c bytes at (Sixes a b d e f) = (c .end ≤ 1192) × (c .held + 24 < 32 + 30 * c .words) × SixesAt bytes at (a ∷ b ∷ d ∷ e ∷ f ∷ [])
 FiveIn c bytes at Fewer = Unit {0}
 
 -- ---- FEED: 5, 3, 2, 1

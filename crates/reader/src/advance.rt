@@ -42,7 +42,8 @@ pub(crate) fn moved(at: u32, end: usize, held: usize, halt: Halt) -> Candidate
 
 // Six bits more that bring no word to its end: they are held, and there is nothing to hunt for.
 fn hold(cells: &mut [u32; 40], c: Candidate, six: u32) -> Candidate
-    requires { ⌜ (length (now cells) ≡ 40) × (c .end ≤ 1280) × (c .held ≤ c .end) × (c .held ≤ 991) × (c .words ≤ 32) × (six < 64) × (c .held + 6 < 32 + 30 * c .words) ⌝ }
+    requires { ⌜ (length (now cells) ≡ 40) × (c .end ≤ 1280) × (c .held ≤ c .end) × (c .held ≤ 991) × (c .words ≤ 32) × (six < 64)
+        × (c .held + 6 < 32 + 30 * c .words) ⌝ }
     ensures { λ r. ⌜ (r ≡ stepTo (now (cells .entry)) c six) × (now (cells .exit) ≡ stepCells (now (cells .entry)) c six) ⌝ }
 {
     let held = c.held + 6;
@@ -115,8 +116,10 @@ fn five_of(c: Candidate, bytes: &[u8], at: usize) -> Five
 
 // Five times six bits more, of which the first four bring no word to its end, and the hunt goes on.
 fn burst(cells: &mut [u32; 40], c: Candidate, a: u32, b: u32, d: u32, e: u32, f: u32) -> Candidate
-    requires { ⌜ (length (now cells) ≡ 40) × (c .end ≤ 1192) × (c .held ≤ c .end) × (c .held ≤ 991) × (c .words ≤ 32) × (c .held + 24 < 32 + 30 * c .words) × (a < 64) × (b < 64) × (d < 64) × (e < 64) × (f < 64) ⌝ }
-    ensures { λ r. ⌜ (r ≡ manyTo (now (cells .entry)) c (a ∷ b ∷ d ∷ e ∷ f ∷ [])) × (now (cells .exit) ≡ manyCells (now (cells .entry)) c (a ∷ b ∷ d ∷ e ∷ f ∷ [])) ⌝ }
+    requires { ⌜ (length (now cells) ≡ 40) × (c .end ≤ 1192) × (c .held ≤ c .end) × (c .held ≤ 991) × (c .words ≤ 32)
+        × (c .held + 24 < 32 + 30 * c .words) × (a < 64) × (b < 64) × (d < 64) × (e < 64) × (f < 64) ⌝ }
+    ensures { λ r. ⌜ (r ≡ manyTo (now (cells .entry)) c (a ∷ b ∷ d ∷ e ∷ f ∷ []))
+        × (now (cells .exit) ≡ manyCells (now (cells .entry)) c (a ∷ b ∷ d ∷ e ∷ f ∷ [])) ⌝ }
 {
     let words = c.words;
     let held = c.held + 30;
@@ -137,8 +140,10 @@ fn burst(cells: &mut [u32; 40], c: Candidate, a: u32, b: u32, d: u32, e: u32, f:
 
 // Bytes fed until a frame waits or none is left.
 pub(crate) fn run(cells: &mut [u32; 40], from: Candidate, bytes: &[u8]) -> Ran
-    requires { ⌜ (length (now cells) ≡ 40) × (from .end ≤ 1280) × (from .held ≤ from .end) × (from .held ≤ 991) × (from .words ≤ 32) × (from .waits ≡ false) × (knownBits (from .words) ≤ from .held) ⌝ }
-    ensures { λ r. ⌜ record { cells = now (cells .exit); candidate = r .candidate; used = r .used; passed = r .passed } ≡ runTo (now (cells .entry)) from (now (bytes .entry)) ⌝ }
+    requires { ⌜ (length (now cells) ≡ 40) × (from .end ≤ 1280) × (from .held ≤ from .end) × (from .held ≤ 991) × (from .words ≤ 32)
+        × (from .waits ≡ false) × (knownBits (from .words) ≤ from .held) ⌝ }
+    ensures { λ r. ⌜ record { cells = now (cells .exit); candidate = r .candidate; used = r .used; passed = r .passed }
+        ≡ runTo (now (cells .entry)) from (now (bytes .entry)) ⌝ }
 {
     let mut c = from;
     let mut passed: usize = 0;

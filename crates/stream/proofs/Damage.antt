@@ -69,7 +69,8 @@ first-damaged n g g′ l m d = search (suc n) 0 (omega arith) (λ j h. absurd (n
         go : (t : Bool) → eqb (number (wordAt k g′)) (number (wordAt k g)) ≡ t
             → (((j : ℕ) → j < suc k → wordAt j g′ ≡ wordAt j g) → (k : ℕ) × (k < suc n) × FirstDamaged k g g′) → (k : ℕ) × (k < suc n) × FirstDamaged k g g′
         go true t next =
-            next (λ j h. below-more (λ i. wordAt i g′ ≡ wordAt i g) k f (number-inj (wordAt k g′) (wordAt k g) (long k (omega (arith, suc-add left k))) (eqb-true _ _ t)) j (omega arith))
+            next (λ j h. below-more (λ i. wordAt i g′ ≡ wordAt i g) k f
+            (number-inj (wordAt k g′) (wordAt k g) (long k (omega (arith, suc-add left k))) (eqb-true _ _ t)) j (omega arith))
         go false t next = (k, omega (arith, suc-add left k), record { before = f; here = λ q. eqb-false _ _ t (ap number q) })
 
 -- ---- ruled out

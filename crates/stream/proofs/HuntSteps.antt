@@ -7,7 +7,7 @@ use native.Mathlib.Nat.{suc-add, add-suc}
 use native.Mathlib.Omega.{arith}
 use lib.Dec.{leb}
 use lib.ListN.{length, drop}
-use borrow.Author.Tests.{le-leb, lt-leb, leb-true, leb-false}
+use borrow.Author.Tests.{le-leb, lt-leb, leb-false}
 use Rattle.stream.specs.Standing.{wordAt, right, size}
 use Rattle.stream.specs.Verdict.{Verdict, out, standing, undecided, judged, verdictFrom, Hunted, huntBy, hunt}
 use Rattle.stream.proofs.Words.{unlike, n-lt}
@@ -32,7 +32,8 @@ module _ (e : Bool) (k : ℕ) (low : k ≤ 32) where
       rw (verdict-step k (b ∷ d) low, le-leb (32 + 30 * k) (length (b ∷ d)) c, r, lt-leb (size (b ∷ d)) (suc k) t)
 
   -- wordAt k is right, and is the last
-  pub hunt-whole : (d : List Bool) → 32 + 30 * k ≤ length d → right k (wordAt k d) ≡ true → size d ≤ suc k → hunt e k d ≡ record { rest = d; words = 0; found = true }
+  pub hunt-whole : (d : List Bool) → 32 + 30 * k ≤ length d → right k (wordAt k d) ≡ true → size d ≤ suc k
+      → hunt e k d ≡ record { rest = d; words = 0; found = true }
   unfolding hunt
   hunt-whole [] c r t = absurd (omega arith)
   hunt-whole (b ∷ d) c r t =

@@ -36,10 +36,16 @@ in-time zero p (suc q) (b ∷ d) l s t =
     sought : Placed
     sought = placed (suc p + q) (drop q d)
 
-    go : (v : Verdict) → Judged (b ∷ d) v → Dec (past ≤ q) → (past ≤ q → FoundOrCovered sought (decided past (suc p) d)) → FoundOrCovered sought (decided 0 (suc p) d)
+    go : (v : Verdict) → Judged (b ∷ d) v → Dec (past ≤ q) → (past ≤ q → FoundOrCovered sought (decided past (suc p) d))
+        → FoundOrCovered sought (decided 0 (suc p) d)
         → FoundOrCovered sought (decidedBy v (placed p (b ∷ d) ∷ decided past (suc p) d) (decided 0 (suc p) d))
     go v (is-out r) x f g = g
     go v (is-standing u) (yes x) f g = later sought (placed p (b ∷ d)) (decided past (suc p) d) (f x)
     go v (is-standing u) (no x) f g =
-        inr (record { by = placed p (b ∷ d); there = List·Memᴰ·head refl; before = omega (arith, suc-add p q); beyond = omega (arith, x, suc-add p q, frame-n (b ∷ d)) })
+        inr (record {
+          by = placed p (b ∷ d);
+          there = List·Memᴰ·head refl;
+          before = omega (arith, suc-add p q);
+          beyond = omega (arith, x, suc-add p q, frame-n (b ∷ d));
+        })
     go v (is-undecided k u h m) x f g = absurd (omega (arith, t, suc-add q 992))

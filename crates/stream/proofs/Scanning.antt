@@ -52,7 +52,8 @@ only (suc n) p (b ∷ d) h m = shift p b d h (only n (suc p) d h m)
 only zero p (b ∷ d) h m = go (stands (b ∷ d)) refl m (only (30 * size (b ∷ d) - 1) (suc p) d h) (only 0 (suc p) d h)
   where
     go : (t : Bool) → stands (b ∷ d) ≡ t → List·Memᴰ h (cond t (placed p (b ∷ d) ∷ scan (30 * size (b ∷ d) - 1) (suc p) d) (scan 0 (suc p) d))
-        → (List·Memᴰ h (scan (30 * size (b ∷ d) - 1) (suc p) d) → StandsIn (suc p) d h) → (List·Memᴰ h (scan 0 (suc p) d) → StandsIn (suc p) d h) → StandsIn p (b ∷ d) h
+        → (List·Memᴰ h (scan (30 * size (b ∷ d) - 1) (suc p) d) → StandsIn (suc p) d h) → (List·Memᴰ h (scan 0 (suc p) d) → StandsIn (suc p) d h)
+        → StandsIn p (b ∷ d) h
     go false e m f g = shift p b d h (g m)
     go true e m f g = which (List·Memᴰ·cases-cons m)
       where
@@ -86,7 +87,12 @@ complete zero p (suc q) (b ∷ d) l s =
     go false x f g = g
     go true (yes x) f g = later sought (placed p (b ∷ d)) (scan past (suc p) d) (f x)
     go true (no x) f g =
-        inr (record { by = placed p (b ∷ d); there = List·Memᴰ·head refl; before = omega (arith, suc-add p q); beyond = omega (arith, x, suc-add p q, frame-n (b ∷ d)) })
+        inr (record {
+          by = placed p (b ∷ d);
+          there = List·Memᴰ·head refl;
+          before = omega (arith, suc-add p q);
+          beyond = omega (arith, x, suc-add p q, frame-n (b ∷ d));
+        })
 
 -- EACH ONCE: the frames found follow one another and share no bit
 apart-from : (p q : ℕ) (l : List Placed) → q ≤ p → Apart p l → Apart q l

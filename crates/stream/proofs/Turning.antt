@@ -77,7 +77,12 @@ stands-back d s = rw (turned-twice d) at (stands-turned (map not d) s)
 pub frame-turned : (d : List Bool) → Stands d → frameAt (map not d) ≡ frameAt d
 unfolding frameAt
 frame-turned d s =
-    rw (n-turned d (stands-long d s), data-same 0 d (omega (arith, s .taken)), data-same 1 d (omega (arith, s .taken)), dataFrom-turned (nAt d) 2 d (omega (arith, s .taken)))
+    rw (
+      n-turned d (stands-long d s),
+      data-same 0 d (omega (arith, s .taken)),
+      data-same 1 d (omega (arith, s .taken)),
+      dataFrom-turned (nAt d) 2 d (omega (arith, s .taken)),
+    )
 
 placed-turned : (p : ℕ) (d : List Bool) → Stands d → placed p (map not d) ≡ placed p d
 unfolding placed

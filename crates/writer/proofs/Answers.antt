@@ -8,7 +8,7 @@ use lib.ListN.{length, take, getD}
 use lib.Seq.{sets}
 use borrow.Author.Tests.{ltb-false}
 use Rattle.answer.specs.Order.{NoneApplies}
-use Rattle.answer.proofs.OrderLaws.{first-at, order-answers, order-refuses, order-told, order-keeps}
+use Rattle.answer.proofs.OrderLaws.{first-at, order-answers, order-refuses, order-told}
 use Rattle.bits.specs.Bits.{number}
 use Rattle.frame.specs.Header.{firstWord, secondWord}
 use Rattle.frame.specs.Frames.{wordsOf, Below}
@@ -43,11 +43,6 @@ module _ (f : Frame) (c : Carried) (l : List ℕ) where
 
   pub write-none : {k : ℕ} {c′ : Carried} → writtenBy f c l ≡ Done k c′ → NoneApplies (writeChecks f c l)
   write-none e = order-told Refused (Done (lineLength f) (carriedOn (bitsAfter c f))) _ (λ n r. refused-apart r) (writeChecks f c l) e .0
-
-  pub write-keeps : {n : ℕ} → writtenBy f c l ≡ Refused n → writtenTo f c l ≡ l
-  write-keeps e =
-      order-keeps Refused (Done (lineLength f) (carriedOn (bitsAfter c f))) (writeChecks f c l) l (over (bytesFor (lineLength f) (bitsAfter c f)) l)
-      (λ r. refused-apart (sym r)) e
 
 -- ---- from the words that the code puts
 

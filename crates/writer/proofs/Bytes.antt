@@ -44,7 +44,11 @@ bytes-append (suc m) n bs cs l =
 highest : (n k w : ℕ) → bytesFor (suc n) (bits (6 + k) w) ≡ byteOf (bits 6 (w / 2 ^ k)) ∷ bytesFor n (bits k w)
 unfolding bytesFor
 highest n k w =
-    rw (bits-split 6 k w, take-at (bits 6 (w / 2 ^ k)) (bits k w) 6 (length-bits 6 (w / 2 ^ k)), drop-at (bits 6 (w / 2 ^ k)) (bits k w) 6 (length-bits 6 (w / 2 ^ k)))
+    rw (
+      bits-split 6 k w,
+      take-at (bits 6 (w / 2 ^ k)) (bits k w) 6 (length-bits 6 (w / 2 ^ k)),
+      drop-at (bits 6 (w / 2 ^ k)) (bits k w) 6 (length-bits 6 (w / 2 ^ k)),
+    )
 
 -- a word's five bytes
 word-bytes : (w : ℕ) → bytesFor 5 (bits 30 w)

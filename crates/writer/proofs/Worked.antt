@@ -10,7 +10,8 @@ use Rattle.writer.specs.Sending.{sentFrom, bytesFor}
 use Rattle.writer.specs.Worked.{WorkedStream}
 
 pub worked-bytes : WorkedStream
-unfolding bits number byteOf turnedBy parity sent factors codeOf firstWord secondWord wordsOf stateOutside numbersOutside headerOutside outside sentFrom bytesFor
+unfolding bits number byteOf turnedBy parity sent factors codeOf firstWord secondWord wordsOf stateOutside numbersOutside headerOutside outside
+    sentFrom bytesFor
 worked-bytes = record {
   opened-to = refl;
   opened-short = refl;

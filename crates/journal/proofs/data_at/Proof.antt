@@ -33,7 +33,8 @@ loop-again c =
     let v = l .loop in
     let from = drop (a .at) (now (a .bytes)) in
     let word : c .word-at .result ≡ wordIn (take 3 (drop (3 * v .i) from)) =
-    c .word-at .ensures ∙ ap (λ r. wordIn (take 3 r)) (ap (λ j. drop j (now (a .bytes))) (v .inv .1 .1) ∙ sym (drop-drop (3 * v .i) (a .at) (now (a .bytes)))) in (
+    c .word-at .ensures ∙ ap (λ r. wordIn (take 3 r))
+    (ap (λ j. drop j (now (a .bytes))) (v .inv .1 .1) ∙ sym (drop-drop (3 * v .i) (a .at) (now (a .bytes)))) in (
       ap₂ (λ ws w. set ws (v .i) w) (v .inv .0) word ∙ word-filled 3 31 (v .i) from (omega arith),
       (omega arith, omega arith),
     )

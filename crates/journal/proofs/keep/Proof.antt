@@ -47,12 +47,15 @@ add-length c = omega (arith, few (c .before .before .before .before .before))
 
 returns-3 : tie.Need-returns-3
 returns-3 c =
-    let g = c .before .before .before .before .before .before in
+    let asked = c .before .before .before .before in
+    let g = asked .before .before in
     keep-short (entry g .args .frame) (now (entry g .args .buffer)) (within g) (c .if1 .taken)
 
 put-record-requires : tie.Need-put-record-requires
 put-record-requires c κs =
-    let g = c .before .before .before .before .before .before .before .before .before in
+    let room = c .before .before .before in
+    let asked = room .before .before .before .before in
+    let g = asked .before .before in
     (full (entry g), few g, search needs)
 
 returns-4 : tie.Need-returns-4

@@ -27,8 +27,9 @@ put-word-requires c κs = (omega arith, omega arith)
 
 loop-again : tie.Need-loop-again Inv-loop μ-loop
 loop-again c =
-    let e = c .before .before .put-word .ensures in
-    let l = c .before .before .before .before .before .before in
+    let put = c .before .before in
+    let e = put .put-word .ensures in
+    let l = put .before .before .before .before in
     let a = l .before .before .args in
     let v = l .loop in (
       v .inv .0 ∙ store-word 3 (v .buffer) (now (a .words)) (v .next) (v .i) (a .n) (omega arith) (omega arith)

@@ -8,9 +8,11 @@ use Rattle.journal.proofs.put_record.Tie as tie
 
 returns : tie.Need-returns
 returns c =
-    let w = c .before .before .before .before .before .before in
-    let s = w .before .before .before .before .before .before .before .before in
-    let a = s .before .before .before .args in
+    let words = c .before .before in
+    let second = words .before .before .before .before in
+    let first = second .before .before .before .before in
+    let start = first .before .before .before .before in
+    let a = start .before .before .before .args in
     cc (store-record (now (a .buffer)) 0x32 (a .n) (a .first) (a .second) (take (a .n) (now (a .words))))
 
 pub put-record-spec : {M : Type 1} → statement M

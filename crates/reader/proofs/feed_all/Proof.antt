@@ -11,22 +11,34 @@ use Rattle.reader.proofs.feed_all.Tie as tie
 len : (c : tie.Start) → length (c .args .reader .cells) ≡ 40
 len c = search needs
 
+-- ---- the place where readiness is tested, and the start
+
+abbrev start : tie.After-readiness → tie.Start
+start c = c .before .before .before
+
+-- ---- the needs
+
 returns : tie.Need-returns
 returns c =
-    let a = c .before .before .before .before .before .before .args in
-    all-refused (a .reader) (now (a .bytes)) (c .before .before .before .readiness .result) (c .before .before .before .readiness .ensures) _ (c .before .ready .given .1)
+    let asked = c .before .before .before in
+    let a = start asked .args in
+    all-refused (a .reader) (now (a .bytes)) (asked .readiness .result) (asked .readiness .ensures) _ (c .before .ready .given .1)
 
 run-requires : tie.Need-run-requires
 run-requires c κs =
-    let r = c .before .before .before .before .before .before .args .reader in
-    let f = free r (c .before .before .before .readiness .result) (c .before .before .before .readiness .ensures) (c .before .enum-told .given .1) in
+    let told = c .before in
+    let asked = told .before .before in
+    let r = start asked .args .reader in
+    let f = free r (asked .readiness .result) (asked .readiness .ensures) (told .enum-told .given .1) in
     let a = to-accepted (r .candidate) (f .fine) in
-    (len (c .before .before .before .before .before .before), a .top, a .low, room-free (r .candidate) a (f .none), a .few, f .none, a .known)
+    (len (start asked), a .top, a .low, room-free (r .candidate) a (f .none), a .few, f .none, a .known)
 
 returns-2 : tie.Need-returns-2
 returns-2 c =
-    let a = c .before .before .before .before .before .before .before .before .args in
-    all-done (a .reader) (now (a .bytes)) (c .before .before .before .before .before .readiness .result) (c .before .before .before .before .before .readiness .ensures) (c .before .before .before .enum-told .given .1) _ (c .before .run .ensures)
+    let told = c .before .before .before in
+    let asked = told .before .before in
+    let a = start asked .args in
+    all-done (a .reader) (now (a .bytes)) (asked .readiness .result) (asked .readiness .ensures) (told .enum-told .given .1) _ (c .before .run .ensures)
 
 pub feed-all-spec : {M : Type 1} → statement M
 feed-all-spec =

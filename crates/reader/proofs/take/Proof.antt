@@ -11,7 +11,6 @@ use Rattle.stream.proofs.Words.{n-lt}
 use Rattle.reader.specs.Reading.{bitsOf, candidateBits, past}
 use Rattle.reader.specs.Taking.{thereIn}
 use Rattle.reader.specs.declared.Reader.{Reader}
-use Rattle.reader.specs.declared.taking.There.{There}
 use Rattle.reader.proofs.Accepted.{Accepted, to-accepted}
 use Rattle.reader.proofs.Buffer.{length-held}
 use Rattle.reader.proofs.TakeLaws.{take-past, take-flag, take-nothing, n-there, come-there, take-done}
@@ -105,14 +104,16 @@ hunt-requires c κs =
 
 moved-requires : tie.Need-moved-requires
 moved-requires c κs =
-    let found = c .before .before .before .before .before .before in
+    let hunted = c .before in
+    let found = hunted .before .before .before .before .before in
     let looked = found .before .before in
     let a = counts (set looked) in
     (omega (arith, c .hunt .ensures .1), omega (arith, a .top, a .low))
 
 returns-4 : tie.Need-returns-4
 returns-4 c =
-    let found = c .before .before .before .before .before .before .before in
+    let hunted = c .before .before in
+    let found = hunted .before .before .before .before .before in
     let looked = found .before .before in
     take-done (r (set looked)) (fine (set looked)) (flag (set looked)) (looked .standing .result) (here looked) (not-false _ (found .if3 .left))
     (c .before .hunt .result) (c .before .hunt .ensures .0) (c .moved .result) (c .moved .ensures)

@@ -9,13 +9,15 @@ use Rattle.writer.proofs.put_frame.Tie as tie
 
 put-words-requires : tie.Need-put-words-requires
 put-words-requires c κs =
-    let s = c .before .before .before .before .before .before .before .before .before .before in
-    let p = s .pre .1 .1 .1 in
+    let second = c .before .before .before in
+    let first = second .before .before .before .before in
+    let p = first .before .before .before .pre .1 .1 .1 in
     (p .1 .0, (p .1 .1 .0, (p .0, (search needs, search needs))))
 
 returns : tie.Need-returns
 returns c =
-    let second = c .before .before .before .before .before .before in
+    let lent = c .before .before .before in
+    let second = lent .before .before .before in
     let first = second .before .before .before .before in
     let a = first .before .before .before .args in
     let put = put-frame _ _ _ _ (take (a .n) (a .words .now)) (first .put-word .ensures) (second .put-word2 .ensures) (c .before .before .put-words .ensures) in

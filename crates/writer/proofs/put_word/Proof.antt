@@ -6,14 +6,19 @@ use borrow.Author.Needs.{needs}
 use Rattle.writer.proofs.put_word.Statement.{statement}
 use Rattle.writer.proofs.put_word.Tie as tie
 
+-- the start, from where the word is made
+abbrev start : tie.After-word → tie.Start
+start c = c .before .before .before .before
+
 returns : tie.Need-returns
 returns c =
     let s = c .before .before .before .before in
-    absurd (never-refused (s .args .carried) (s .args .«data») _ (s .pre .0) (s .pre .1 .0) (sym (c .before .before .word-of .ensures) ∙ c .enum-told .given .1))
+    let refused = sym (c .before .before .word-of .ensures) ∙ c .enum-told .given .1 in
+    absurd (never-refused (s .args .carried) (s .args .«data») _ (s .pre .0) (s .pre .1 .0) refused)
 
 returns-2 : tie.Need-returns-2
 returns-2 c =
-    let s = c .before .before .before .before .before .before .before .before .before in
+    let s = start (c .before .before .before .before .before) in
     let a = s .args in
     let told = word-answers (a .carried) (a .«data») (s .pre .0) (s .pre .1 .0) in
     (cc, cc (bytes-word (a .carried) (a .«data»)))

@@ -24,9 +24,10 @@ put-word-requires c κs =
 
 loop-again : tie.Need-loop-again Inv-loop μ-loop
 loop-again c =
-    let l = c .before .before .before .before .before .before in
+    let put = c .before .before in
+    let l = put .before .before .before .before in
     let s = l .before .before in
-    let called = c .before .before .put-word .ensures in
+    let called = put .put-word .ensures in
     put-turn _ _ _ _ _ _ _ _ (l .loop .inv) (search needs) (omega (arith, s .pre)) (called .0) (called .1)
 
 returns : tie.Need-returns Inv-loop μ-loop

@@ -15,19 +15,28 @@ use Rattle.writer.proofs.Answers.{write-refuses, header-refused, told-b
 use Rattle.writer.proofs.write.Statement.{statement}
 use Rattle.writer.proofs.write.Tie as tie
 
--- ---- the places: the start, after the carried bits, after the widths, after the clock, before the words are put
+-- ---- the places: the start, after the carried bits, the words of the header, after the widths, after the clock, with room, before the words are put
 
 abbrev start : tie.Else2 → tie.Start
 start c = c .before .before .before .before .before
 
+abbrev pair : tie.After-first → tie.Else2
+pair c = c .before .before .before .before
+
+abbrev header : tie.After-enum-told2 → tie.After-first
+header c = c .before .before .before .before
+
 abbrev bits : tie.After-enum-told2 → tie.Else2
-bits c = c .before .before .before .before .before .before .before .before
+bits c = pair (header c)
 
 abbrev widths : tie.After-enum-told4 → tie.After-enum-told2
 widths c = c .before .before .before
 
+abbrev room : tie.After-put-frame-arg → tie.Else3
+room c = c .before .before .before .before .before
+
 abbrev clock : tie.After-put-frame-arg → tie.After-enum-told4
-clock c = c .before .before .before .before .before .before
+clock c = room c .before
 
 -- ---- what is known there
 
@@ -74,7 +83,7 @@ returns-3 c =
 returns-4 : tie.Need-returns-4
 returns-4 c =
     let told = c .before .before in
-    let b = told .before .before .before .before .before .before in
+    let b = pair (told .before .before) in
     let a = start b .args in
     write-refuses (a .frame) (a .carried) (a .buffer .now) 2 (omega arith) (two-bits b)
     (told-outside _ (sym (c .enum-told3 .given .1) ∙ told .frame-widths .ensures))
@@ -96,7 +105,7 @@ returns-6 c =
 put-frame-requires : tie.Need-put-frame-requires
 put-frame-requires c κs =
     let w = widths (clock c) in
-    let told = w .before .before .before .before in
+    let told = header w in
     let below = told-below _ (inside w) _ _ (sym (told .first .given .1) ∙ told .before .before .header-words .ensures) in (
       omega (arith, bits w .before .before .if1, bits w .if2),
       (below .0, (below .1 .0, (n-within _ (inside w), (full c, (words-below _ (inside w), search needs))))),
@@ -104,11 +113,11 @@ put-frame-requires c κs =
 
 returns-7 : tie.Need-returns-7
 returns-7 c =
-    let room = c .before .before .before .before .before .before .before .before in
-    let told = widths (room .before) .before .before .before .before in
-    let t = in-time (room .before) in
+    let lent = c .before .before .before in
+    let told = header (widths (clock lent)) in
+    let t = in-time (clock lent) in
     let put = c .before .before .put-frame .ensures in
-    write-done _ _ _ (t .0, (t .1 .0, (t .1 .1 .0, (t .1 .1 .1 .0, (le-ltb _ _ (room .if3 .left), tt))))) (full (c .before .before .before)) _ _
+    write-done _ _ _ (t .0, (t .1 .0, (t .1 .1 .0, (t .1 .1 .1 .0, (le-ltb _ _ (room lent .if3 .left), tt))))) (full lent) _ _
     (sym (told .first .given .1) ∙ told .before .before .header-words .ensures) (put .0, put .1 .0)
 
 pub write-spec : {M : Type 1} → statement M
@@ -116,6 +125,7 @@ write-spec =
     tie.close
     (tie.spec returns returns-2 (λ c κs. search needs) (λ c. search needs) (λ c. search needs) returns-3
     (λ c κs. search needs) (λ c. search needs) (λ c. search needs) returns-4 (λ c κs. search needs)
-    (λ c. search needs) (λ c. search needs) returns-5 (λ c. omega (arith, n-within _ (inside (widths c)))) (λ c. omega (arith, n-within _ (inside (widths c)))) returns-6 (λ c. search needs)
+    (λ c. search needs) (λ c. search needs) returns-5
+    (λ c. omega (arith, n-within _ (inside (widths c)))) (λ c. omega (arith, n-within _ (inside (widths c)))) returns-6 (λ c. search needs)
     (λ c. search needs) (λ c. search needs) (λ c. search needs) put-frame-requires (λ c. search needs)
     (λ c. search needs) (λ c. search needs) returns-7)

@@ -33,7 +33,8 @@ returns : tie.Need-returns Inv-loop μ-loop
 returns c =
     let l = c .before .loop in
     let none : l .left ≡ 0 = omega arith in
-    sym (l .inv .0 ∙ ap (λ k. sets (l .buffer) (l .next) (bytesOf k (c .before .before .args .word))) none ∙ ap (sets (l .buffer) (l .next)) (bytes-none (c .before .before .args .word)))
+    sym (l .inv .0 ∙ ap (λ k. sets (l .buffer) (l .next) (bytesOf k (c .before .before .args .word))) none
+    ∙ ap (sets (l .buffer) (l .next)) (bytes-none (c .before .before .args .word)))
 
 pub put-word-spec : {M : Type 1} → statement M
 put-word-spec =

@@ -24,8 +24,15 @@ returns-3 c =
     let e = c .before .before in
     simp (sym (e .before .before .is-unmarked .ensures) ∙ e .before .if1 .left, le-ltb _ _ (e .if2 .left), lt-ltb _ _ (c .if3 .taken))
 
-few : (c : tie.Else3) → c .before .before .before .before .before .before .args .size * nByte (now (c .before .before .before .before .before .before .args .bytes)) ≤ 124
-few c = let a = c .before .before .before .before .before .before .args in bytes-few (a .size) (nByte (now (a .bytes))) (search needs) (search needs)
+-- where there are enough bytes for the start, and where n is not over 31
+abbrev enough : tie.Else3 → tie.Else2
+enough c = c .before .before
+
+abbrev start : tie.Else2 → tie.Start
+start c = c .before .before .before .before
+
+few : (c : tie.Else3) → start (enough c) .args .size * nByte (now (start (enough c) .args .bytes)) ≤ 124
+few c = let a = start (enough c) .args in bytes-few (a .size) (nByte (now (a .bytes))) (search needs) (search needs)
 
 mul-if4 : tie.Need-mul-if4
 mul-if4 c = omega (arith, few c)

@@ -3,99 +3,77 @@ use borrow.Author.Needs.{needs}
 use denote.Ref.{now}
 use mathlib.Core.Path.{_≡_, sym, ap, _∙_}
 use mathlib.Core.Bool.{false}
+use mathlib.Core.List.{[], _∷_}
 use Prim.Native.Nat.{_+_}
 use native.Mathlib.Omega.{arith}
 use lib.ListN.{length}
+use Rattle.reader.specs.Hunting.{huntOf}
+use Rattle.reader.specs.Reading.{movedTo, manyCells, manyTo}
+use Rattle.reader.specs.declared.hunt.Halt.{Halt}
 use Rattle.reader.proofs.Bursts.{length-five, many-cells, many-to}
 use Rattle.reader.proofs.Steps.{step-wait}
 use Rattle.reader.proofs.advance.burst.Statement.{statement}
 use Rattle.reader.proofs.advance.burst.Tie as tie
-use Rattle.reader.proofs.advance.burst.Reads as reads
-use Rattle.reader.proofs.advance.burst.Lts as lts
-use Rattle.reader.proofs.advance.moved.Reads as moved-reads
-use Rattle.reader.proofs.cells.put_five.Reads as put-five-reads
-use Rattle.reader.proofs.hunt.hunt.Reads as hunt-reads
-use Rattle.reader.proofs.hunt.seek.Reads as seek-reads
 
--- src/advance.rt:126:16
-add-held : tie.Need-add-held
-add-held c = search needs
+-- ---- once the five are put
 
--- src/advance.rt:127:15
-add-end : tie.Need-add-end
-add-end c = search needs
+module _ (c : tie.After-put-five) where
+  abbrev start : tie.Start
+  start = c .before .before .before .before
 
--- src/advance.rt:128:5
-put-five-requires : tie.Need-put-five-requires
-put-five-requires c κs = search needs
+  long : length (c .put-five .last .0) ≡ 40
+  long =
+      let a = start .args in
+      ap length (c .put-five .ensures) ∙ length-five (now (a .cells)) (a .c .end) (a .a) (a .b) (a .d) (a .e) (a .f) ∙ start .pre .0
 
--- src/advance.rt:129:9
+  cells-are : c .put-five .last .0
+      ≡ manyCells (now (start .args .cells)) (start .args .c) (start .args .a ∷ start .args .b ∷ start .args .d ∷ start .args .e ∷ start .args .f ∷ [])
+  cells-are =
+      let a = start .args in
+      let p = start .pre in
+      c .put-five .ensures ∙ sym (many-cells (now (a .cells)) (a .c) (p .0) (p .1) (p .2) (p .4) (p .5) (a .a) (a .b) (a .d) (a .e) (a .f))
+
+  moved-is : (halt : Halt)
+      → halt ≡ huntOf (c .put-five .last .0) (start .args .c .end + 30) (start .args .c .held + 30) (start .args .c .words) false
+      → movedTo (start .args .c .at) (start .args .c .end + 30) (start .args .c .held + 30) halt
+      ≡ manyTo (now (start .args .cells)) (start .args .c) (start .args .a ∷ start .args .b ∷ start .args .d ∷ start .args .e ∷ start .args .f ∷ [])
+  moved-is halt e =
+      let a = start .args in
+      let p = start .pre in
+      sym (many-to (now (a .cells)) (a .c) (p .0) (p .1) (p .2) (p .4) (p .5) (a .a) (a .b) (a .d) (a .e) (a .f) _ (c .put-five .ensures) halt e)
+
+-- ---- the needs
+
 seek-requires : tie.Need-seek-requires
 seek-requires c κs =
-    let s = c .before .before .before .before .before in
-    let a = s .args in
-    let q = c .before .put-five .ensures in
-    let len = ap length q ∙ length-five (now (a .cells)) (a .c .end) (a .a) (a .b) (a .d) (a .e) (a .f) ∙ s .pre .0 in
-    (len, omega (arith, s .pre .1), omega (arith, s .pre .2))
+    let p = start (c .before) .pre in
+    (long (c .before), omega (arith, p .1), omega (arith, p .2))
 
--- src/advance.rt:130:20
-mul-if1 : tie.Need-mul-if1
-mul-if1 c = search needs
-
--- src/advance.rt:130:15
-add-if1 : tie.Need-add-if1
-add-if1 c = search needs
-
--- src/advance.rt:136:9
-moved-requires : tie.Need-moved-requires
-moved-requires c κs = search needs
-
--- src/advance.rt:136:9
 returns : tie.Need-returns
 returns c =
-    let s = c .before .before .before .before .before .before .before .before in
-    let a = s .args in
-    let q = c .before .before .before .before .put-five .ensures in
-    let len = ap length q ∙ length-five (now (a .cells)) (a .c .end) (a .a) (a .b) (a .d) (a .e) (a .f) ∙ s .pre .0 in
-    let left = c .before .before .seek .result in
-    let halt = c .before .before .seek .ensures .1 false ∙ step-wait (c .before .before .before .before .put-five .last .0) len (a .c .end + 30) (omega (arith, s .pre .1)) left (omega (arith, s .pre .2, c .before .before .seek .ensures .0)) (a .c .words) (s .pre .4) (c .before .if1 .taken) in
-    (c .moved .ensures ∙ sym (many-to (now (a .cells)) (a .c) (s .pre .0) (s .pre .1) (s .pre .2) (s .pre .4) (s .pre .5) (a .a) (a .b) (a .d) (a .e) (a .f) (c .before .before .before .before .put-five .last .0) q _ (sym halt)), q ∙ sym (many-cells (now (a .cells)) (a .c) (s .pre .0) (s .pre .1) (s .pre .2) (s .pre .4) (s .pre .5) (a .a) (a .b) (a .d) (a .e) (a .f)))
+    let sought = c .before .before in
+    let put = sought .before .before in
+    let s = start put in
+    let stays =
+    step-wait (put .put-five .last .0) (long put) (s .args .c .end + 30) (omega (arith, s .pre .1)) (sought .seek .result)
+    (omega (arith, s .pre .2, sought .seek .ensures .0)) (s .args .c .words) (s .pre .4) (c .before .if1 .taken) in
+    (c .moved .ensures ∙ moved-is put _ (sym (sought .seek .ensures .1 false ∙ stays)), cells-are put)
 
--- src/advance.rt:138:9
 hunt-requires : tie.Need-hunt-requires
 hunt-requires c κs =
-    let s = c .before .before .before .before .before .before .before .before in
-    let a = s .args in
-    let q = c .before .before .before .before .put-five .ensures in
-    let len = ap length q ∙ length-five (now (a .cells)) (a .c .end) (a .a) (a .b) (a .d) (a .e) (a .f) ∙ s .pre .0 in
-    (len, omega (arith, s .pre .1), omega (arith, s .pre .2, c .before .before .seek .ensures .0), s .pre .4)
+    let sought = c .before .before in
+    let put = sought .before .before in
+    let p = start put .pre in
+    (long put, omega (arith, p .1), omega (arith, p .2, sought .seek .ensures .0), p .4)
 
--- src/advance.rt:139:5
-moved-requires-2 : tie.Need-moved-requires-2
-moved-requires-2 c κs = search needs
-
--- src/advance.rt:121:1
 returns-2 : tie.Need-returns-2
 returns-2 c =
-    let s = c .before .before .before .before .before .before .before .before .before .before in
-    let a = s .args in
-    let q = c .before .before .before .before .before .before .put-five .ensures in
-    let len = ap length q ∙ length-five (now (a .cells)) (a .c .end) (a .a) (a .b) (a .d) (a .e) (a .f) ∙ s .pre .0 in
-    let halt = c .before .hunt .ensures .0 ∙ sym (c .before .before .before .before .seek .ensures .1 false) in
-    (c .moved2 .ensures ∙ sym (many-to (now (a .cells)) (a .c) (s .pre .0) (s .pre .1) (s .pre .2) (s .pre .4) (s .pre .5) (a .a) (a .b) (a .d) (a .e) (a .f) (c .before .before .before .before .before .before .put-five .last .0) q _ halt), q ∙ sym (many-cells (now (a .cells)) (a .c) (s .pre .0) (s .pre .1) (s .pre .2) (s .pre .4) (s .pre .5) (a .a) (a .b) (a .d) (a .e) (a .f)))
+    let sought = c .before .before .before .before in
+    let put = sought .before .before in
+    (c .moved2 .ensures ∙ moved-is put _ (c .before .hunt .ensures .0 ∙ sym (sought .seek .ensures .1 false)), cells-are put)
 
 pub burst-spec : {M : Type 1} → statement M
 burst-spec =
     tie.close
-    (tie.spec
-    add-held
-    add-end
-    put-five-requires
-    seek-requires
-    mul-if1
-    add-if1
-    moved-requires
-    returns
-    hunt-requires
-    moved-requires-2
-    returns-2)
+    (tie.spec (λ c. search needs) (λ c. search needs) (λ c κs. search needs) seek-requires (λ c. search needs) (λ c. search needs)
+    (λ c κs. search needs) returns hunt-requires (λ c κs. search needs) returns-2)

@@ -1,10 +1,13 @@
 -- `step` meets its contract: the six bits pushed, then the hunt, from where seeking stops. Assumes nothing.
 use denote.Ref.{now}
-use mathlib.Core.Path.{sym, ap, _∙_}
+use mathlib.Core.Path.{_≡_, sym, ap, _∙_}
 use mathlib.Core.Bool.{false}
+use Prim.Native.Nat.{_+_, _≤_}
 use native.Mathlib.Omega.{arith}
 use lib.ListN.{length}
-use Rattle.reader.specs.Reading.{stepCells}
+use Rattle.reader.specs.Hunting.{huntOf}
+use Rattle.reader.specs.Reading.{movedTo, stepCells, stepTo}
+use Rattle.reader.specs.declared.hunt.Halt.{Halt}
 use Rattle.reader.proofs.Pushing.{length-pushed, room-low}
 use Rattle.reader.proofs.Steps.{step-wait}
 use Rattle.reader.proofs.Stepping.{step-law}
@@ -12,35 +15,53 @@ use borrow.Author.Needs.{needs}
 use Rattle.reader.proofs.advance.step.Statement.{statement}
 use Rattle.reader.proofs.advance.step.Tie as tie
 
+-- ---- once the six bits are pushed
+
+module _ (c : tie.After-push) where
+  abbrev start : tie.Start
+  start = c .before .before .before
+
+  long : length (c .push .last .0) ≡ 40
+  long =
+      let a = start .args in
+      let p = start .pre in
+      ap length (c .push .ensures .1) ∙ length-pushed (now (a .cells)) (a .c .end) (a .c .held) (p .0) (p .1) (p .2) (p .3) (a .six)
+
+  ends : (c .push .result ≤ 1280) × (start .args .c .held + 6 ≤ c .push .result)
+  ends =
+      let a = start .args in
+      let p = start .pre in
+      let low = room-low (now (a .cells)) (a .c .end) (a .c .held) (p .0) (p .1) (p .2) (p .3) in
+      (omega (arith, c .push .ensures .0, low .0), omega (arith, c .push .ensures .0, low .1))
+
+  moved-is : (halt : Halt) → halt ≡ huntOf (c .push .last .0) (c .push .result) (start .args .c .held + 6) (start .args .c .words) false
+      → movedTo (start .args .c .at) (c .push .result) (start .args .c .held + 6) halt ≡ stepTo (now (start .args .cells)) (start .args .c) (start .args .six)
+  moved-is halt e =
+      let a = start .args in
+      let q = c .push .ensures in
+      step-law (now (a .cells)) (a .c) (a .six) (c .push .last .0) (c .push .result) halt (q .1) (q .0) e
+
+-- ---- the needs
+
 seek-requires : tie.Need-seek-requires
-seek-requires c κs =
-    let s = c .before .before .before .before in
-    let a = s .args in
-    let q = c .before .push .ensures in
-    let len = ap length (q .1) ∙ length-pushed (now (a .cells)) (a .c .end) (a .c .held) (s .pre .0) (s .pre .1) (s .pre .2) (s .pre .3) (a .six) in
-    let ends = room-low (now (a .cells)) (a .c .end) (a .c .held) (s .pre .0) (s .pre .1) (s .pre .2) (s .pre .3) in
-    (len, omega (arith, q .0, ends .0), omega (arith, q .0, ends .1))
+seek-requires c κs = let pushed = c .before in (long pushed, ends pushed .0, ends pushed .1)
 
 returns : tie.Need-returns
 unfolding stepCells
 returns c =
-    let s = c .before .before .before .before .before .before .before in
-    let a = s .args in
-    let q = c .before .before .before .before .push .ensures in
-    let len = ap length (q .1) ∙ length-pushed (now (a .cells)) (a .c .end) (a .c .held) (s .pre .0) (s .pre .1) (s .pre .2) (s .pre .3) (a .six) in
-    let ends = room-low (now (a .cells)) (a .c .end) (a .c .held) (s .pre .0) (s .pre .1) (s .pre .2) (s .pre .3) in
-    let left = c .before .before .seek .result in
-    let halt = c .before .before .seek .ensures .1 false ∙ step-wait (c .before .before .before .before .push .last .0) len (c .before .before .before .before .push .result) (omega (arith, q .0, ends .0)) left (omega (arith, q .0, ends .1, c .before .before .seek .ensures .0)) (a .c .words) (s .pre .4) (c .before .if1 .taken) in
-    (c .moved .ensures ∙ step-law (now (a .cells)) (a .c) (a .six) (c .before .before .before .before .push .last .0) (c .before .before .before .before .push .result) _ (q .1) (q .0) (sym halt), q .1)
+    let sought = c .before .before in
+    let pushed = sought .before .before in
+    let s = start pushed in
+    let stays =
+    step-wait (pushed .push .last .0) (long pushed) (pushed .push .result) (ends pushed .0) (sought .seek .result)
+    (omega (arith, ends pushed .1, sought .seek .ensures .0)) (s .args .c .words) (s .pre .4) (c .before .if1 .taken) in
+    (c .moved .ensures ∙ moved-is pushed _ (sym (sought .seek .ensures .1 false ∙ stays)), pushed .push .ensures .1)
 
 hunt-requires : tie.Need-hunt-requires
 hunt-requires c κs =
-    let s = c .before .before .before .before .before .before .before in
-    let a = s .args in
-    let q = c .before .before .before .before .push .ensures in
-    let len = ap length (q .1) ∙ length-pushed (now (a .cells)) (a .c .end) (a .c .held) (s .pre .0) (s .pre .1) (s .pre .2) (s .pre .3) (a .six) in
-    let ends = room-low (now (a .cells)) (a .c .end) (a .c .held) (s .pre .0) (s .pre .1) (s .pre .2) (s .pre .3) in
-    (len, omega (arith, q .0, ends .0), omega (arith, q .0, ends .1, c .before .before .seek .ensures .0), s .pre .4)
+    let sought = c .before .before in
+    let pushed = sought .before .before in
+    (long pushed, ends pushed .0, omega (arith, ends pushed .1, sought .seek .ensures .0), start pushed .pre .4)
 
 moved-requires-2 : tie.Need-moved-requires-2
 moved-requires-2 c κs = (omega (arith, c .hunt .ensures .1, c .before .before .before .seek .ensures .0), omega arith)
@@ -48,13 +69,9 @@ moved-requires-2 c κs = (omega (arith, c .hunt .ensures .1, c .before .before .
 returns-2 : tie.Need-returns-2
 unfolding stepCells
 returns-2 c =
-    let s = c .before .before .before .before .before .before .before .before .before in
-    let a = s .args in
-    let q = c .before .before .before .before .before .before .push .ensures in
-    let len = ap length (q .1) ∙ length-pushed (now (a .cells)) (a .c .end) (a .c .held) (s .pre .0) (s .pre .1) (s .pre .2) (s .pre .3) (a .six) in
-    let ends = room-low (now (a .cells)) (a .c .end) (a .c .held) (s .pre .0) (s .pre .1) (s .pre .2) (s .pre .3) in
-    let halt = c .before .hunt .ensures .0 ∙ sym (c .before .before .before .before .seek .ensures .1 false) in
-    (c .moved2 .ensures ∙ step-law (now (a .cells)) (a .c) (a .six) (c .before .before .before .before .before .before .push .last .0) (c .before .before .before .before .before .before .push .result) _ (q .1) (q .0) halt, q .1)
+    let sought = c .before .before .before .before in
+    let pushed = sought .before .before in
+    (c .moved2 .ensures ∙ moved-is pushed _ (c .before .hunt .ensures .0 ∙ sym (sought .seek .ensures .1 false)), pushed .push .ensures .1)
 
 pub step-spec : {M : Type 1} → statement M
 step-spec =

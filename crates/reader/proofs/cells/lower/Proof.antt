@@ -21,8 +21,12 @@ loop-holds c = (omega (arith, c .pre .1), c .pre .0, refl)
 loop-again : tie.Need-loop-again Inv-loop μ-loop
 loop-again c =
     let h = c .before .before .loop in
-    let a = c .before .before .before .args in
-    (omega arith, simp length-set (h .inv .1), down-step (h .cells) (now (a .cells)) (a .k) (h .i) (h .inv .2) (omega (arith, c .before .before .before .pre .0)))
+    let a = c .before .before .before .args in (
+      omega arith,
+      simp length-set (h .inv .1),
+      down-step (h .cells) (now (a .cells)) (a .k) (h .i) (h .inv .2)
+          (omega (arith, c .before .before .before .pre .0)),
+    )
 
 returns : tie.Need-returns Inv-loop μ-loop
 returns c =

@@ -18,8 +18,12 @@ returns c =
 
 put-requires-2 : tie.Need-put-requires-2
 put-requires-2 c κs =
-    let s = c .before .before .before .before in
-    (ap length (c .before .lower .ensures) ∙ length-down (now (s .args .cells)) ((s .args .end - s .args .held) / 32) (s .pre .0) (omega arith), omega arith, s .pre .4)
+    let s = c .before .before .before .before in (
+      ap length (c .before .lower .ensures)
+          ∙ length-down (now (s .args .cells)) ((s .args .end - s .args .held) / 32) (s .pre .0) (omega arith),
+      omega arith,
+      s .pre .4,
+    )
 
 returns-2 : tie.Need-returns-2
 returns-2 c =

@@ -13,7 +13,12 @@ mul-both c = omega (arith, c .as-u64 .ensures, div-le-self (c .as-u64 .result) (
 
 add-both : tie.Need-add-both
 add-both c =
-    omega (arith, c .before .as-u64 .ensures, c .as-u642 .ensures, div-le-self (c .before .as-u64 .result) (2 ^ (32 - c .before .before .before .args .end % 32)))
+    omega (
+      arith,
+      c .before .as-u64 .ensures,
+      c .as-u642 .ensures,
+      div-le-self (c .before .as-u64 .result) (2 ^ (32 - c .before .before .before .args .end % 32)),
+    )
 
 returns : tie.Need-returns
 unfolding putCells

@@ -36,7 +36,8 @@ returns-6 c =
     let room = some .before in
     let low = room .before .before in
     let top = low .before .before in
-    past-known (top .before .before .args .c) (top .if1 .left) (low .if2 .left) _ (room .before .most .ensures) (room .if3 .left) (c .if5 .left) (some .if4 .left)
+    past-known (top .before .before .args .c) (top .if1 .left) (low .if2 .left) _
+    (room .before .most .ensures) (room .if3 .left) (c .if5 .left) (some .if4 .left)
 
 pub past-spec : {M : Type 1} → statement M
 past-spec =

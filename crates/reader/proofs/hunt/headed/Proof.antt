@@ -13,14 +13,16 @@ use Rattle.reader.proofs.hunt.headed.Tie as tie
 
 returns : tie.Need-returns
 returns c =
-    let w = c .before .before .before .args .window in
-    let none = sym (c .before .has-preamble .ensures ∙ ap preambled (bits-data w _ (c .before .before .data-of .ensures))) ∙ not-true _ (c .if1 .taken) in
+    let asked = c .before in
+    let w = asked .before .before .args .window in
+    let none = sym (asked .has-preamble .ensures ∙ ap preambled (bits-data w _ (asked .before .data-of .ensures))) ∙ not-true _ (c .if1 .taken) in
     sym (right-at-first 0 (bits 32 w) refl ∙ ap (λ b. b && passes (bits 32 w)) none)
 
 returns-2 : tie.Need-returns-2
 returns-2 c =
-    let w = c .before .before .before .before .args .window in
-    let there = sym (c .before .before .has-preamble .ensures ∙ ap preambled (bits-data w _ (c .before .before .before .data-of .ensures))) ∙ not-false _ (c .before .if1 .left) in
+    let asked = c .before .before in
+    let w = asked .before .before .args .window in
+    let there = sym (asked .has-preamble .ensures ∙ ap preambled (bits-data w _ (asked .before .data-of .ensures))) ∙ not-false _ (c .before .if1 .left) in
     c .passes .ensures ∙ sym (right-at-first 0 (bits 32 w) refl ∙ ap (λ b. b && passes (bits 32 w)) there)
 
 pub headed-spec : {M : Type 1} → statement M

@@ -1,7 +1,6 @@
 -- `headless` meets its contract: above the highest head that is shown no nine bits are a preamble's. Assumes nothing.
 use borrow.Author.Needs.{needs}
 use mathlib.Core.Path.{refl}
-use native.Mathlib.Omega.{arith}
 use Rattle.reader.proofs.Seeking.{headless-law}
 use Rattle.reader.proofs.hunt.headless.Statement.{statement}
 use Rattle.reader.proofs.hunt.headless.Tie as tie

@@ -30,31 +30,44 @@ Inv-position cells end held words ended left₀ good₀ left good =
 abbrev μ-position : tie.MeasureT-position
 μ-position cells end held words ended left₀ good₀ left good = left
 
+-- ---- the places: a turn of the inner loop, and the start
+
+abbrev turn : tie.After-window Inv-loop μ-loop Inv-position μ-position → tie.At-loop Inv-loop μ-loop Inv-position μ-position
+turn c = c .before .before
+
+abbrev start : tie.At-loop Inv-loop μ-loop Inv-position μ-position → tie.Start Inv-loop μ-loop Inv-position μ-position
+start c = c .before .before .before
+
+-- ---- a word that is wrong
+
 window-requires : tie.Need-window-requires Inv-loop μ-loop Inv-position μ-position
-window-requires c κs =
-    (c .before .before .before .before .pre .0, omega arith)
+window-requires c κs = (start (c .before) .pre .0, omega arith)
 
 seek-requires : tie.Need-seek-requires Inv-loop μ-loop Inv-position μ-position
-seek-requires c κs = (c .before .before .before .before .before .before .before .pre .0, omega arith, omega arith)
+seek-requires c κs = (start (turn (c .before .before)) .pre .0, omega arith, omega arith)
 
 position-less : tie.Need-position-less Inv-loop μ-loop Inv-position μ-position
 position-less c = omega (arith, c .seek .ensures .0)
 
 position-again : tie.Need-position-again Inv-loop μ-loop Inv-position μ-position
 position-again c =
-    let s = c .before .before .before .before .before .before .before .before in
+    let looked = c .before .before .before in
+    let h = turn looked .loop in
+    let s = start (turn looked) in
     let a = s .args in
-    let h = c .before .before .before .before .before .loop in (
+    let wrong = sym (c .before .before .right .ensures) ∙ not-true _ (c .before .if1 .taken) in (
       omega (arith, c .seek .ensures .0),
       omega arith,
-      h .inv .4 ∙ step-out (now (a .cells)) (s .pre .0) (a .end) (s .pre .1) (h .left) (omega arith) (a .ended) (h .good) (c .before .before .before .window .result) (h .inv .3) (c .before .before .before .before .loop-test .taken) (c .before .before .before .window .ensures)
-          (sym (c .before .before .right .ensures) ∙ not-true _ (c .before .if1 .taken))
+      h .inv .4
+          ∙ step-out (now (a .cells)) (s .pre .0) (a .end) (s .pre .1) (h .left) (omega arith) (a .ended) (h .good) (looked .window .result) (h .inv .3)
+          (looked .before .loop-test .taken) (looked .window .ensures) wrong
           ∙ c .seek .ensures .1 (a .ended),
     )
 
+-- ---- a word that is right
+
 window-requires-2 : tie.Need-window-requires-2 Inv-loop μ-loop Inv-position μ-position
-window-requires-2 c κs =
-    (c .before .before .before .before .before .before .before .before .pre .0, omega arith)
+window-requires-2 c κs = (start (turn (c .before .before .before)) .pre .0, omega arith)
 
 add-if3 : tie.Need-add-if3 Inv-loop μ-loop Inv-position μ-position
 add-if3 c =
@@ -62,57 +75,84 @@ add-if3 c =
 
 returns : tie.Need-returns Inv-loop μ-loop Inv-position μ-position
 returns c =
-    let s = c .before .before .before .before .before .before .before .before .before .before .before in
+    let second = c .before .before in
+    let passed = second .before .before in
+    let looked = passed .before .before in
+    let h = turn looked .loop in
+    let s = start (turn looked) in
     let a = s .args in
-    let h = c .before .before .before .before .before .before .before .before .loop in (
-      sym (h .inv .4 ∙ step-whole (now (a .cells)) (s .pre .0) (a .end) (s .pre .1) (h .left) (omega arith) (a .ended) (h .good) (c .before .before .before .before .before .before .window .result) (h .inv .3) (c .before .before .before .before .before .before .before .loop-test .taken) (c .before .before .before .before .before .before .window .ensures)
-          (sym (c .before .before .before .before .before .right .ensures) ∙ not-false _ (c .before .before .before .before .if1 .left))
-          (omega (arith, n-is (now (a .cells)) (s .pre .0) (a .end) (s .pre .1) (h .left) (omega arith) (c .before .before .window2 .result) (c .before .n-in .result) (omega arith) (c .before .before .window2 .ensures) (c .before .n-in .ensures), c .if3 .taken))),
+    let good = sym (passed .before .right .ensures) ∙ not-false _ (passed .if1 .left) in (
+      sym (h .inv .4
+          ∙ step-whole (now (a .cells)) (s .pre .0) (a .end) (s .pre .1) (h .left) (omega arith) (a .ended) (h .good) (looked .window .result) (h .inv .3)
+          (looked .before .loop-test .taken) (looked .window .ensures) good
+          (omega (
+            arith,
+            n-is (now (a .cells)) (s .pre .0) (a .end) (s .pre .1) (h .left) (omega arith) (second .window2 .result)
+                (c .before .n-in .result) (omega arith) (second .window2 .ensures) (c .before .n-in .ensures),
+            c .if3 .taken,
+          ))),
       omega arith,
     )
 
 loop-again : tie.Need-loop-again Inv-loop μ-loop Inv-position μ-position
 loop-again c =
-    let s = c .before .before .before .before .before .before .before .before .before .before .before in
+    let second = c .before .before in
+    let passed = second .before .before in
+    let looked = passed .before .before in
+    let h = turn looked .loop in
+    let s = start (turn looked) in
     let a = s .args in
-    let h = c .before .before .before .before .before .before .before .before .loop in
-    let t = n-is (now (a .cells)) (s .pre .0) (a .end) (s .pre .1) (h .left) (omega arith) (c .before .before .window2 .result) (c .before .n-in .result) (omega arith) (c .before .before .window2 .ensures) (c .before .n-in .ensures) in (
+    let good = sym (passed .before .right .ensures) ∙ not-false _ (passed .if1 .left) in
+    let t =
+    n-is (now (a .cells)) (s .pre .0) (a .end) (s .pre .1) (h .left) (omega arith) (second .window2 .result) (c .before .n-in .result)
+    (omega arith) (second .window2 .ensures) (c .before .n-in .ensures) in (
       h .inv .0,
       h .inv .1,
       h .inv .2,
       omega (arith, size-n-lt (heldBits (now (a .cells)) (a .end) (h .left))),
-      h .inv .4 ∙ step-next (now (a .cells)) (s .pre .0) (a .end) (s .pre .1) (h .left) (omega arith) (a .ended) (h .good) (c .before .before .before .before .before .before .window .result) (h .inv .3) (c .before .before .before .before .before .before .before .loop-test .taken) (c .before .before .before .before .before .before .window .ensures)
-          (sym (c .before .before .before .before .before .right .ensures) ∙ not-false _ (c .before .before .before .before .if1 .left))
-          (omega arith) ∙ ap (λ k. huntOf (now (a .cells)) (a .end) (h .left) k (a .ended)) (sym (add-one (h .good))),
+      h .inv .4
+          ∙ step-next (now (a .cells)) (s .pre .0) (a .end) (s .pre .1) (h .left) (omega arith) (a .ended) (h .good) (looked .window .result) (h .inv .3)
+          (looked .before .loop-test .taken) (looked .window .ensures) good (omega arith)
+          ∙ ap (λ k. huntOf (now (a .cells)) (a .end) (h .left) k (a .ended)) (sym (add-one (h .good))),
     )
 
 loop-again-2 : tie.Need-loop-again-2 Inv-loop μ-loop Inv-position μ-position
 loop-again-2 c =
-    let s = c .before .before .before .before .before .before .before .before in
+    let passed = c .before in
+    let looked = passed .before .before in
+    let h = turn looked .loop in
+    let s = start (turn looked) in
     let a = s .args in
-    let h = c .before .before .before .before .before .loop in (
+    let good = sym (passed .before .right .ensures) ∙ not-false _ (passed .if1 .left) in (
       h .inv .0,
       h .inv .1,
       h .inv .2,
       omega arith,
-      h .inv .4 ∙ step-next (now (a .cells)) (s .pre .0) (a .end) (s .pre .1) (h .left) (omega arith) (a .ended) (h .good) (c .before .before .before .window .result) (h .inv .3) (c .before .before .before .before .loop-test .taken) (c .before .before .before .window .ensures)
-          (sym (c .before .before .right .ensures) ∙ not-false _ (c .before .if1 .left))
-          (omega arith) ∙ ap (λ k. huntOf (now (a .cells)) (a .end) (h .left) k (a .ended)) (sym (add-one (h .good))),
+      h .inv .4
+          ∙ step-next (now (a .cells)) (s .pre .0) (a .end) (s .pre .1) (h .left) (omega arith) (a .ended) (h .good) (looked .window .result) (h .inv .3)
+          (looked .before .loop-test .taken) (looked .window .ensures) good (omega arith)
+          ∙ ap (λ k. huntOf (now (a .cells)) (a .end) (h .left) k (a .ended)) (sym (add-one (h .good))),
     )
+
+-- ---- the next word has not come
 
 returns-2 : tie.Need-returns-2 Inv-loop μ-loop Inv-position μ-position
 returns-2 c =
-    let s = c .before .before .before .before .before in
-    let a = s .args in
     let h = c .before .before .loop in
-    (sym (h .inv .4 ∙ rw (not-true (a .ended) (c .if4 .taken)) (step-wait (now (a .cells)) (s .pre .0) (a .end) (s .pre .1) (h .left) (omega arith) (h .good) (h .inv .3) (c .before .loop-test .left))), omega arith)
+    let s = start (c .before .before) in
+    let a = s .args in
+    let waits = step-wait (now (a .cells)) (s .pre .0) (a .end) (s .pre .1) (h .left) (omega arith) (h .good) (h .inv .3) (c .before .loop-test .left) in
+    (sym (h .inv .4 ∙ rw (not-true (a .ended) (c .if4 .taken)) waits), omega arith)
 
 position-again-2 : tie.Need-position-again-2 Inv-loop μ-loop Inv-position μ-position
 position-again-2 c =
-    let s = c .before .before .before .before .before in
-    let a = s .args in
     let h = c .before .before .loop in
-    (omega arith, omega arith, h .inv .4 ∙ rw (not-false (a .ended) (c .if4 .left)) (step-cut (now (a .cells)) (s .pre .0) (a .end) (s .pre .1) (h .left) (omega arith) (h .good) (h .inv .3) (h .inv .1) (c .before .loop-test .left)))
+    let s = start (c .before .before) in
+    let a = s .args in
+    let cut =
+    step-cut (now (a .cells)) (s .pre .0) (a .end) (s .pre .1) (h .left) (omega arith) (h .good) (h .inv .3) (h .inv .1)
+    (c .before .loop-test .left) in
+    (omega arith, omega arith, h .inv .4 ∙ rw (not-false (a .ended) (c .if4 .left)) cut)
 
 returns-3 : tie.Need-returns-3 Inv-loop μ-loop Inv-position μ-position
 returns-3 c =

@@ -13,9 +13,14 @@ returns-3 c =
     let s = c .before .before .before .before .before in
     let a = s .args in
     let z : a .words ≡ 0 = c .before .before .before .before .if1 .left in
+    let pair = c .before .before .pair in
+    let headless = c .before .headless in
     let p = c .passed .ensures in (
       p .0,
-      λ ended. rw z (seek-past (now (a .cells)) (s .pre .0) (a .end) (s .pre .1) (a .left) (s .pre .2) (c .before .before .pair .result) (c .before .headless .result) (c .before .before .pair .ensures) (c .before .headless .ensures .1) (a .left - c .passed .result) (c .passed .result) (omega (arith, p .0)) (p .1) (omega (arith, p .2)) (omega (arith, p .3)) ended),
+      λ ended. rw z
+          (seek-past (now (a .cells)) (s .pre .0) (a .end) (s .pre .1) (a .left) (s .pre .2) (pair .result) (headless .result) (pair .ensures)
+          (headless .ensures .1) (a .left - c .passed .result) (c .passed .result) (omega (arith, p .0)) (p .1)
+          (omega (arith, p .2)) (omega (arith, p .3)) ended),
     )
 
 pub seek-spec : {M : Type 1} → statement M

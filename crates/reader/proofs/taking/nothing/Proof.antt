@@ -2,7 +2,6 @@
 use borrow.Author.Needs.{needs}
 use mathlib.Core.Path.{ap}
 use mathlib.Core.Bool.{false}
-use Rattle.reader.specs.declared.taking.There.{There}
 use Rattle.reader.proofs.taking.nothing.Statement.{statement}
 use Rattle.reader.proofs.taking.nothing.Tie as tie
 
