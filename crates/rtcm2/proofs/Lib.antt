@@ -2,7 +2,7 @@ pub mod AnswerLaws
 pub mod HeadLaws
 pub mod HealthLaws
 pub mod KeepLaws
-pub mod LineCarried
+pub mod LineStorable
 pub mod LineLaws
 pub mod LineOrders
 pub mod LineTaking

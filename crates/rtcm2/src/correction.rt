@@ -85,7 +85,8 @@ pub extern "C" fn rtcm2_make_corrections(
 ) -> u8
     ensures { λ r. ⌜ r ≡ numberOf (keptTo (madeSaid (headed kind station z sequence health) (now (corrections .entry))) (now (frame .entry))) ⌝ }
     ensures { λ _. ⌜ now (frame .exit) ≡ heldTo (madeSaid (headed kind station z sequence health) (now (corrections .entry))) (now (frame .entry)) ⌝ }
-    ensures { λ _. ⌜ now (length .exit) ≡ left (keptTo (madeSaid (headed kind station z sequence health) (now (corrections .entry))) (now (frame .entry))) (λ k. k) (now (length .entry)) ⌝ }
+    ensures { λ _. ⌜ now (length .exit)
+        ≡ left (keptTo (madeSaid (headed kind station z sequence health) (now (corrections .entry))) (now (frame .entry))) (λ k. k) (now (length .entry)) ⌝ }
 {
     match crate::header::header_of(kind, station, z, sequence, health) {
         Headed::Header(header) => crate::frames::keep_made(

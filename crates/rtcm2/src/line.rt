@@ -56,7 +56,8 @@ pub extern "C" fn rtcm2_feed_all(
     passed: &mut usize,
 ) -> u8
     ensures { λ r. ⌜ r ≡ numberOf (fedAllIn (now (state .entry)) (now (bytes .entry))) ⌝ }
-    ensures { λ _. ⌜ now (state .exit) ≡ left (fedAllIn (now (state .entry)) (now (bytes .entry))) (λ f. statePut (f .reader) (now (state .entry))) (now (state .entry)) ⌝ }
+    ensures { λ _. ⌜ now (state .exit) ≡ left (fedAllIn (now (state .entry)) (now (bytes .entry)))
+        (λ f. statePut (f .reader) (now (state .entry))) (now (state .entry)) ⌝ }
     ensures { λ _. ⌜ now (used .exit) ≡ left (fedAllIn (now (state .entry)) (now (bytes .entry))) (λ f. f .used) (now (used .entry)) ⌝ }
     ensures { λ _. ⌜ now (passed .exit) ≡ left (fedAllIn (now (state .entry)) (now (bytes .entry))) (λ f. f .passed) (now (passed .entry)) ⌝ }
 {
@@ -79,7 +80,8 @@ pub extern "C" fn rtcm2_feed_all(
 #[no_mangle]
 pub extern "C" fn rtcm2_end(state: &mut [u8]) -> u8
     ensures { λ r. ⌜ r ≡ numberOf (endedIn (now (state .entry))) ⌝ }
-    ensures { λ _. ⌜ now (state .exit) ≡ left (endedIn (now (state .entry))) (λ n. startPut (n .reader .candidate) (n .reader .ended) (now (state .entry))) (now (state .entry)) ⌝ }
+    ensures { λ _. ⌜ now (state .exit) ≡ left (endedIn (now (state .entry)))
+        (λ n. startPut (n .reader .candidate) (n .reader .ended) (now (state .entry))) (now (state .entry)) ⌝ }
 {
     if !rtcm2_state::holds_state(state) {
         return 5;
@@ -103,8 +105,10 @@ pub extern "C" fn rtcm2_take(
     at: &mut u32,
 ) -> u8
     ensures { λ r. ⌜ r ≡ numberOf (takenIn (now (state .entry)) (now (frame .entry))) ⌝ }
-    ensures { λ _. ⌜ now (state .exit) ≡ left (takenIn (now (state .entry)) (now (frame .entry))) (λ v. startPut (v .1 .reader .candidate) (v .1 .reader .ended) (now (state .entry))) (now (state .entry)) ⌝ }
-    ensures { λ _. ⌜ now (frame .exit) ≡ left (takenIn (now (state .entry)) (now (frame .entry))) (λ v. heldBy (v .1 .frame) (now (frame .entry))) (now (frame .entry)) ⌝ }
+    ensures { λ _. ⌜ now (state .exit) ≡ left (takenIn (now (state .entry)) (now (frame .entry)))
+        (λ v. startPut (v .1 .reader .candidate) (v .1 .reader .ended) (now (state .entry))) (now (state .entry)) ⌝ }
+    ensures { λ _. ⌜ now (frame .exit) ≡ left (takenIn (now (state .entry)) (now (frame .entry)))
+        (λ v. heldBy (v .1 .frame) (now (frame .entry))) (now (frame .entry)) ⌝ }
     ensures { λ _. ⌜ now (length .exit) ≡ left (takenIn (now (state .entry)) (now (frame .entry))) (λ v. v .0) (now (length .entry)) ⌝ }
     ensures { λ _. ⌜ now (at .exit) ≡ left (takenIn (now (state .entry)) (now (frame .entry))) (λ v. v .1 .at) (now (at .entry)) ⌝ }
 {

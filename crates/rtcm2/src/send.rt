@@ -62,7 +62,8 @@ pub extern "C" fn rtcm2_write(
     ensures { λ _. ⌜ now (d29 .exit) ≡ d29After (frameSaid (now (frame .entry))) (now (d29 .entry)) (now (d30 .entry)) (now (line .entry)) ⌝ }
     ensures { λ _. ⌜ now (d30 .exit) ≡ d30After (frameSaid (now (frame .entry))) (now (d29 .entry)) (now (d30 .entry)) (now (line .entry)) ⌝ }
     ensures { λ _. ⌜ now (line .exit) ≡ lineLent (frameSaid (now (frame .entry))) (now (d29 .entry)) (now (d30 .entry)) (now (line .entry)) ⌝ }
-    ensures { λ _. ⌜ now (length .exit) ≡ countAfter (frameSaid (now (frame .entry))) (now (d29 .entry)) (now (d30 .entry)) (now (line .entry)) (now (length .entry)) ⌝ }
+    ensures { λ _. ⌜ now (length .exit)
+        ≡ countAfter (frameSaid (now (frame .entry))) (now (d29 .entry)) (now (d30 .entry)) (now (line .entry)) (now (length .entry)) ⌝ }
 {
     let recalled = journal::recall(frame);
     let answer = recalled.answer;

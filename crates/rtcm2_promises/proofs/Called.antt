@@ -11,29 +11,29 @@ use Rattle.stream.proofs.Hunting.{MayCome}
 use Rattle.stream.proofs.Scanning.{only}
 use Rattle.reader.specs.Reading.{started, takenBy, saysTaken}
 use Rattle.reader.specs.declared.Reader.{Reader}
-use Rattle.rtcm2_state.proofs.Carried.{CarriedBy, carried-started, carried-fed, carried-fed-all, carried-ended, carried-taken}
+use Rattle.rtcm2_state.proofs.Storable.{StorableReader, storable-started, storable-fed, storable-fed-all, storable-ended, storable-taken}
 use Rattle.promises.specs.Calls.{Call, feeds, feedsAll, ends, takes, took, replyTo, after, bitsGiven, frameGiven, reported}
 use Rattle.promises.proofs.Kept.{Kept, kept-started}
 use Rattle.promises.proofs.Runs.{kept-call}
 
 pub record Called (r : Reader) : Type 0 where
-  pub carried : CarriedBy r
+  pub storable : StorableReader r
   pub bits : List Bool
   pub out : List (ℕ × Frame)
   pub kept : Kept bits out r
 
 pub called-started : Called started
-called-started = record { carried = carried-started; bits = []; out = []; kept = kept-started }
+called-started = record { storable = storable-started; bits = []; out = []; kept = kept-started }
 
-carried-call : (r : Reader) → CarriedBy r → (c : Call) → CarriedBy (after r c)
+storable-call : (r : Reader) → StorableReader r → (c : Call) → StorableReader (after r c)
 unfolding after
-carried-call r k (feeds b) = carried-fed r k b
-carried-call r k (feedsAll bs) = carried-fed-all r k bs
-carried-call r k ends = carried-ended r k
-carried-call r k takes = carried-taken r k
+storable-call r k (feeds b) = storable-fed r k b
+storable-call r k (feedsAll bs) = storable-fed-all r k bs
+storable-call r k ends = storable-ended r k
+storable-call r k takes = storable-taken r k
 
 pub called-call : (r : Reader) → Called r → (c : Call) → Called (after r c)
-called-call r k c = record { carried = carried-call r (k .carried) c; bits = _; out = _; kept = kept-call (k .bits) (k .out) r c (k .kept) }
+called-call r k c = record { storable = storable-call r (k .storable) c; bits = _; out = _; kept = kept-call (k .bits) (k .out) r c (k .kept) }
 
 -- ---- what it hands out
 

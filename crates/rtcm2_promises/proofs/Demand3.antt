@@ -14,7 +14,7 @@ use Rattle.journal.specs.Journal.{keptBy, saysKept}
 use Rattle.record_fields.specs.Coding.{Each}
 use Rattle.rtcm2_state.specs.State.{stateSize, stateIn}
 use Rattle.rtcm2_state.proofs.RoundTrip.{put-read}
-use Rattle.rtcm2_state.proofs.Carried.{carried-fit}
+use Rattle.rtcm2_state.proofs.Storable.{storable-fit}
 use Rattle.rtcm2.specs.Answer.{andThen}
 use Rattle.rtcm2.specs.Line.{readBy, takenIn}
 use Rattle.rtcm2.specs.Orders.{takeOrder}
@@ -101,7 +101,7 @@ module _ (state : List ℕ) (h : stateSize ≤ length state) where
     next-is : (b : ℕ) → stateIn (afterIn bytes (feed b)) ≡ after r (feeds b)
     next-is b =
         ap (λ l. stateIn (afterIn l (feed b))) (is-reader state h cs room .bytes) ∙ ap stateIn (one b .leaves)
-        ∙ put-read (after r (feeds b)) state h (carried-fit (after r (feeds b)) (called-call r called (feeds b) .carried))
+        ∙ put-read (after r (feeds b)) state h (storable-fit (after r (feeds b)) (called-call r called (feeds b) .storable))
 
     never-5 : NeverFive (outcomeIn state cs) (λ b. replyIn bytes (feed b)) (λ b. stateIn (afterIn bytes (feed b)))
     never-5 =

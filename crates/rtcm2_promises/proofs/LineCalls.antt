@@ -9,7 +9,7 @@ use Rattle.reader.specs.Reading.{started}
 use Rattle.reader.specs.declared.Reader.{Reader}
 use Rattle.rtcm2_state.specs.State.{stateSize, stateIn, statePut}
 use Rattle.rtcm2_state.proofs.RoundTrip.{put-read}
-use Rattle.rtcm2_state.proofs.Carried.{carried-fit}
+use Rattle.rtcm2_state.proofs.Storable.{storable-fit}
 use Rattle.rtcm2.specs.Answer.{left}
 use Rattle.rtcm2.proofs.LineLaws.{start-done}
 use Rattle.promises.specs.Calls.{after, bitsGiven, frameGiven, afterAll, replies, bitsTaken, handedOut, Outcome, outcome}
@@ -52,7 +52,7 @@ module _ (state : List ℕ) (h : stateSize ≤ length state) where
     v = same-calls cs started called-started room
 
     held : stateIn (afterAllIn (statePut started state) cs) ≡ afterAll started (asked cs)
-    held = ap stateIn (v .leaves) ∙ put-read (afterAll started (asked cs)) state h (carried-fit (afterAll started (asked cs)) (v .called .carried))
+    held = ap stateIn (v .leaves) ∙ put-read (afterAll started (asked cs)) state h (storable-fit (afterAll started (asked cs)) (v .called .storable))
 
     same-outcome : outcomeIn state cs ≡ outcome (asked cs)
     same-outcome = ap (λ b. came b) begun-is ∙ (λ i. record { replies = v .reply i; bits = v .bits i; out = v .out i; reader = held i })

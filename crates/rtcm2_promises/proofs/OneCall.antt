@@ -24,11 +24,11 @@ use Rattle.reader.specs.declared.Taken.{Taken}
 use Rattle.journal.specs.Journal.{keepOrder, keptBy, heldBy, saysKept}
 use Rattle.journal.specs.declared.Kept.the-variants as kept-as
 use Rattle.rtcm2_state.specs.State.{stateSize, startPut, statePut}
-use Rattle.rtcm2_state.proofs.Carried.{carried-fed, carried-fed-all}
+use Rattle.rtcm2_state.proofs.Storable.{storable-fed, storable-fed-all}
 use Rattle.rtcm2.specs.Answer.{left, andThen}
 use Rattle.rtcm2.specs.Frames.{frameSaid}
 use Rattle.rtcm2.specs.Line.{doneBy, fedIn, fedAllIn, endedIn, takenIn}
-use Rattle.rtcm2.proofs.LineCarried.{call-carried, left-carried, ended-left, taken-left}
+use Rattle.rtcm2.proofs.LineStorable.{call-storable, left-storable, ended-left, taken-left}
 use Rattle.promises.specs.ChangesNeither.{Keeps}
 use Rattle.promises.specs.Calls.{replied, used, took, replyTo, after}
 use Rattle.promises.proofs.CarriesItsNumber.{carries-its-number}
@@ -55,42 +55,42 @@ module _ (r : Reader) (k : Called r) (state : List ℕ) (h : stateSize ≤ lengt
   same-feed b = record {
     reply = ap replied (number-told (x .answer) x is (carries-its-number .feed r b) (λ s. tt) ∙ no-value (x .answer));
     leaves = left-told (x .answer) x is (λ (n : Next). statePut (n .reader) held) held (statePut (x .reader) state)
-        (left-carried r (k .carried) state h (x .reader) (carried-fed r (k .carried) b)) (same-bytes (changes-neither .feed r b));
+        (left-storable r (k .storable) state h (x .reader) (storable-fed r (k .storable) b)) (same-bytes (changes-neither .feed r b));
   }
     where
       x : Next
       x = fedBy r b
 
       is : fedIn held b ≡ doneBy (fedBy r b .answer) (fedBy r b)
-      is = call-carried r (k .carried) state h (λ (n : Next). n .answer) (λ q. fedBy q b)
+      is = call-storable r (k .storable) state h (λ (n : Next). n .answer) (λ q. fedBy q b)
 
   same-all : (bs : List ℕ) (u p : ℕ) → Same r state (feed-all bs u p)
   unfolding replyIn afterIn replyTo after fedAllIn
   same-all bs u p = record {
     reply = ap used (number-told (x .answer) x is (carries-its-number .feed-all r bs) (λ s. (left s (λ f. f .used) u, left s (λ f. f .passed) p)));
     leaves = left-told (x .answer) x is (λ (f : FedAll). statePut (f .reader) held) held (statePut (x .reader) state)
-        (left-carried r (k .carried) state h (x .reader) (carried-fed-all r (k .carried) bs)) (same-bytes (changes-neither .feed-all r bs));
+        (left-storable r (k .storable) state h (x .reader) (storable-fed-all r (k .storable) bs)) (same-bytes (changes-neither .feed-all r bs));
   }
     where
       x : FedAll
       x = fedAllBy r bs
 
       is : fedAllIn held bs ≡ doneBy (fedAllBy r bs .answer) (fedAllBy r bs)
-      is = call-carried r (k .carried) state h (λ (f : FedAll). f .answer) (λ q. fedAllBy q bs)
+      is = call-storable r (k .storable) state h (λ (f : FedAll). f .answer) (λ q. fedAllBy q bs)
 
   same-end : Same r state line-end
   unfolding replyIn afterIn replyTo after endedIn
   same-end = record {
     reply = ap replied (number-told (x .answer) x is (carries-its-number .reader-end r) (λ s. tt) ∙ no-value (x .answer));
     leaves = left-told (x .answer) x is (λ (n : Next). startPut (n .reader .candidate) (n .reader .ended) held) held (statePut (x .reader) state)
-        (ended-left r (k .carried) state h) (same-bytes (changes-neither .reader-end r));
+        (ended-left r (k .storable) state h) (same-bytes (changes-neither .reader-end r));
   }
     where
       x : Next
       x = endedBy r
 
       is : endedIn held ≡ doneBy (endedBy r .answer) (endedBy r)
-      is = call-carried r (k .carried) state h (λ (n : Next). n .answer) endedBy
+      is = call-storable r (k .storable) state h (λ (n : Next). n .answer) endedBy
 
   -- taking, into bytes with room for the longest record: keeping adds no refusal, and the record recalled is the frame
   module _ (lent : List ℕ) (long : 102 ≤ length lent) where
@@ -132,7 +132,7 @@ module _ (r : Reader) (k : Called r) (state : List ℕ) (h : stateSize ≤ lengt
           ∙ ap took (read (x .answer) refl);
       leaves = left-told (x .answer) (size, x) (is (x .answer) refl)
           (λ (v : ℕ × Taken). startPut (v .1 .reader .candidate) (v .1 .reader .ended) held) held (statePut (x .reader) state)
-          (taken-left r (k .carried) state h) (same-bytes (changes-neither .reader-take r));
+          (taken-left r (k .storable) state h) (same-bytes (changes-neither .reader-take r));
     }
       where
         x : Taken
@@ -147,7 +147,7 @@ module _ (r : Reader) (k : Called r) (state : List ℕ) (h : stateSize ≤ lengt
 
         is : (a : Answer) → takenBy r .answer ≡ a → takenIn held lent ≡ doneBy {A = ℕ × Taken} a (size, takenBy r)
         is a e =
-            ap (λ s. andThen s keep) (call-carried r (k .carried) state h (λ (v : Taken). v .answer) takenBy ∙ ap (λ b. doneBy b (takenBy r)) e) ∙ by a e
+            ap (λ s. andThen s keep) (call-storable r (k .storable) state h (λ (v : Taken). v .answer) takenBy ∙ ap (λ b. doneBy b (takenBy r)) e) ∙ by a e
 
         read : (a : Answer) → takenBy r .answer ≡ a
             → andThen (carrying (heldBy f lent, (size, takenBy r .at)) (saysAnswer a)) saysRecord ≡ carrying (takenBy r .at, f) (saysAnswer a)

@@ -39,7 +39,8 @@ afterRecord numbers = 14 ∷ 15 ∷ 16 ∷ 15 ∷ 16 ∷ 16 ∷ numbers
 abbrev pub afterHeader : List ℕ → List ℕ
 afterHeader numbers = 5 ∷ 5 ∷ 6 ∷ 7 ∷ numbers
 
--- every exported function but the one that answers a constant, and those that put a state or an entry in bytes. The order of `stops` is empty: it never refuses.
+-- every exported function but the one that answers a constant, and those that put a state or an entry in bytes. The order of
+-- `stops` is empty: it never refuses.
 pub record LibraryNumbers : Type 0 where
   -- reading the line
   pub start : (state : List ℕ) → Ordered (13 ∷ []) (in-order.startedOrder state) (startedIn state)

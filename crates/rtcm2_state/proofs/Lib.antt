@@ -2,4 +2,4 @@ pub mod NumberLaws
 pub mod StoreLaws
 pub mod StateLaws
 pub mod RoundTrip
-pub mod Carried
+pub mod Storable

@@ -3,7 +3,7 @@
 use mathlib.Core.Path.{_≡_, refl, sym, ap, ap₂, subst, _∙_}
 use mathlib.Core.Bool.{Bool, true, false, _&&_, not, and-eq-true-iff}
 use mathlib.Core.List.{List, [], _∷_, _++_}
-use Prim.Native.Nat.{ℕ, zero, suc, _+_, _*_, _^_, _≤_, _<_}
+use Prim.Native.Nat.{ℕ, zero, suc, _*_, _^_, _≤_, _<_}
 use native.Mathlib.Omega.{arith}
 use lib.Dec.{ltb, eqb}
 use lib.ListN.{length, drop, getD, replicate, length-append, length-replicate, take-append-drop}
@@ -143,7 +143,9 @@ module _ (bs : List ℕ) (f : AreBytes bs) (e : holdsState bs ≡ true) where
   below i l = subst (λ n. n < 2 ^ 32) (sym (number-of stateCount i bs l)) (number-four (drop (4 * i) bs) (fit-drop (4 * i) bs f))
 
   counts-read : tooWide (stateIn bs .candidate) ≡ false
-  counts-read = subst (λ r. tooWide (r .candidate) ≡ false) (sym read-is) (unfold readerOf in narrow (readerOf (numbersIn stateCount bs) .candidate) (below 1 (omega arith)) (below 2 (omega arith)) (below 3 (omega arith)))
+  counts-read =
+      subst (λ r. tooWide (r .candidate) ≡ false) (sym read-is)
+      (unfold readerOf in narrow (readerOf (numbersIn stateCount bs) .candidate) (below 1 (omega arith)) (below 2 (omega arith)) (below 3 (omega arith)))
 
   pub read-put : statePut (stateIn bs) bs ≡ bs
   read-put =

@@ -81,7 +81,8 @@ store-both (m ∷ ms) ns l i =
 
 -- seven numbers, stored one after the other from the start on
 pub store-seven : (l : List ℕ) (a b c d e f g : ℕ)
-    → sets (sets (sets (sets (sets (sets (sets l 0 (lowBytes 4 a)) 4 (lowBytes 4 b)) 8 (lowBytes 4 c)) 12 (lowBytes 4 d)) 16 (lowBytes 4 e)) 20 (lowBytes 4 f)) 24 (lowBytes 4 g)
+    → sets (sets (sets (sets (sets (sets (sets l
+    0 (lowBytes 4 a)) 4 (lowBytes 4 b)) 8 (lowBytes 4 c)) 12 (lowBytes 4 d)) 16 (lowBytes 4 e)) 20 (lowBytes 4 f)) 24 (lowBytes 4 g)
     ≡ sets l 0 (numbersWritten (a ∷ b ∷ c ∷ d ∷ e ∷ f ∷ g ∷ []))
 unfolding lowBytes numbersWritten
 store-seven l a b c d e f g = refl

@@ -28,7 +28,8 @@ returns-2 c =
 returns-3 : tie.Need-returns-3
 returns-3 c =
     let cells = c .before .before in
-    let put = cells .before .before .before .before .before .before in
+    let start = cells .before .before .before in
+    let put = start .before .before .before in
     let long = put .before .before in
     let fits = long .before in
     let s = fits .before .before .before .before in

@@ -43,5 +43,6 @@ state-in-spec =
     (tie.spec (λ c κs. search needs) (λ c κs. search needs) returns (λ c κs. omega (arith, long c))
     (λ c κs. omega (arith, long (c .before))) (λ c κs. omega (arith, long (c .before .before)))
     (λ c κs. omega (arith, long (c .before .before .before))) (λ c κs. omega (arith, long (c .before .before .before .before)))
-    (λ c κs. omega (arith, long (c .before .before .before .before .before))) (λ c κs. long (c .before .before .before .before .before .before))
+    (λ c κs. omega (arith, long (c .before .before .before .before .before)))
+    (λ c κs. let ended = c .before in long (ended .before .before .before .before .before))
     (λ c κs. search needs) (λ c κs. search needs) (λ c κs. search needs) returns-2)

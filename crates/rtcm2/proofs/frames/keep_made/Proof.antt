@@ -9,8 +9,9 @@ use Rattle.rtcm2.proofs.frames.keep_made.Tie as tie
 returns : tie.Need-returns
 returns c =
     let k = c .before .before in
-    let a = k .before .before .before .before .before .before .args in
-    keeps-as (now (a .frame)) (now (a .length)) (says-made (a .made) (sym (k .before .before .before .enum-told .given .1)))
+    let made = k .before .before .before in
+    let a = made .before .before .before .args in
+    keeps-as (now (a .frame)) (now (a .length)) (says-made (a .made) (sym (made .enum-told .given .1)))
     (k .keep-frame .ensures)
 
 returns-2 : tie.Need-returns-2

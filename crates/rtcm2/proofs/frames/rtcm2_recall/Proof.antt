@@ -27,7 +27,8 @@ coded c = recalled-coded (now (recalled c .before .before .args .frame)) (told c
 
 cast-n : tie.Need-cast-n
 cast-n c =
-    let t = c .before .before .before .before .before .before in
+    let coded = c .before .before .before .before in
+    let t = coded .before .before in
     omega (arith, recalled-few (now (recalled t .before .before .args .frame)) (told t))
 
 returns : tie.Need-returns

@@ -26,24 +26,30 @@ returns c =
       ),
     )
 
--- past the first test a state is held
-held : (c : tie.Else1) → holdsState (now (c .before .before .before .before .before .args .state)) ≡ true
+-- the start, and where a state is held: past the first test
+abbrev start : tie.Else1 → tie.Start
+start c = c .before .before .before .before .before
+
+abbrev past : tie.After-feed-all → tie.Else1
+past c = c .before .before .before
+
+held : (c : tie.Else1) → holdsState (now (start c .args .state)) ≡ true
 held c = sym (c .before .holds-state .ensures) ∙ not-false _ (c .if1 .left)
 
 -- what the reader's call left
 called : (c : tie.After-feed-all)
     → c .feed-all .result
-    ≡ fedAllBy (stateIn (now (c .before .before .before .before .before .before .before .before .args .state))) (now (c .before .before .before .before .before .before .before .before .args .bytes))
+    ≡ fedAllBy (stateIn (now (start (past c) .args .state))) (now (start (past c) .args .bytes))
 called c =
-    let a = c .before .before .before .before .before .before .before .before .args in
+    let a = start (past c) .args in
     c .feed-all .ensures ∙ ap (λ r. fedAllBy r (now (a .bytes))) (c .before .state-in .ensures)
 
 returns-2 : tie.Need-returns-2
 unfolding fedAllIn
 returns-2 c =
     let f = c .before .before .before in
-    let h = f .before .before .before in
-    let a = h .before .before .before .before .before .args in
+    let h = past f in
+    let a = start h .args in
     let state = now (a .state) in
     let e = read-refused (λ (n : FedAll). n .answer) (λ r. fedAllBy r (now (a .bytes))) state (held h) (called f) (c .before .answer .given .1) in (
       number-refused e,
@@ -59,8 +65,8 @@ returns-3 c =
     let p = c .before .before in
     let t = p .before .before .before in
     let f = t .before .before in
-    let h = f .before .before .before in
-    let a = h .before .before .before .before .before .args in
+    let h = past f in
+    let a = start h .args in
     let state = now (a .state) in
     let e = read-done (λ (n : FedAll). n .answer) (λ r. fedAllBy r (now (a .bytes))) state (held h) (called f) (t .enum-told .given .1) in (
       number-answered e,

@@ -49,21 +49,27 @@ returns c =
       ),
     )
 
--- past the first test a state is held
-held : (c : tie.Else1) → holdsState (now (c .before .before .before .before .before .args .state)) ≡ true
+-- the start, and where a state is held: past the first test
+abbrev start : tie.Else1 → tie.Start
+start c = c .before .before .before .before .before
+
+abbrev past : tie.After-take → tie.Else1
+past c = c .before .before .before
+
+held : (c : tie.Else1) → holdsState (now (start c .args .state)) ≡ true
 held c = sym (c .before .holds-state .ensures) ∙ not-false _ (c .if1 .left)
 
 -- what the reader's call left
 called : (c : tie.After-take)
     → c .take .result
-    ≡ takenBy (stateIn (now (c .before .before .before .before .before .before .before .before .args .state)))
+    ≡ takenBy (stateIn (now (start (past c) .args .state)))
 called c = c .take .ensures ∙ ap takenBy (c .before .state-in .ensures)
 
 returns-2 : tie.Need-returns-2
 returns-2 c =
     let f = c .before .before .before in
-    let h = f .before .before .before in
-    let a = h .before .before .before .before .before .args in
+    let h = past f in
+    let a = start h .args in
     let state = now (a .state) in
     let frame = now (a .frame) in
     let e = take-refused state frame (read-refused (λ (t : Taken). t .answer) takenBy state (held h) (called f) (c .before .answer .given .1)) in (
@@ -79,19 +85,19 @@ returns-2 c =
 
 -- past the second a frame is taken
 taken : (c : tie.After-enum-told)
-    → readBy (λ (t : Taken). t .answer) takenBy (now (c .before .before .before .before .before .before .before .before .before .before .args .state))
+    → readBy (λ (t : Taken). t .answer) takenBy (now (start (past (c .before .before)) .args .state))
     ≡ answers (c .before .before .take .result)
 taken c =
     let f = c .before .before in
-    let h = f .before .before .before in
-    read-done (λ (t : Taken). t .answer) takenBy (now (h .before .before .before .before .before .args .state)) (held h) (called f) (c .enum-told .given .1)
+    let h = past f in
+    read-done (λ (t : Taken). t .answer) takenBy (now (start h .args .state)) (held h) (called f) (c .enum-told .given .1)
 
 returns-3 : tie.Need-returns-3
 returns-3 c =
     let k = c .before .before .before .before .before in
     let t = k .before .before .before in
     let f = t .before .before in
-    let a = f .before .before .before .before .before .before .before .before .args in
+    let a = start (past f) .args in
     let state = now (a .state) in
     let frame = now (a .frame) in
     let u = sym (k .keep .ensures .0) ∙ c .before .n .given .1 in
@@ -113,7 +119,7 @@ returns-4 c =
     let k = z .before .before .before .before in
     let t = k .before .before .before in
     let f = t .before .before in
-    let a = f .before .before .before .before .before .before .before .before .args in
+    let a = start (past f) .args in
     let state = now (a .state) in
     let frame = now (a .frame) in
     let e = take-done state frame (taken t) (sym (k .keep .ensures .0) ∙ z .size .given .1) in (

@@ -16,7 +16,8 @@ returns c =
     let v = c .before .exact .given .0 .0 in
     let s = c .before .before .before .before in
     let a = s .args in
-    let e = ap saysDistance (sym (c .before .exact .given .1) ∙ c .before .before .before .prc-mm .ensures ∙ ap (prcMm (a .scale)) (toZ-ofZ w16 (a .prc) (s .fits .prc))) in
+    let e = ap saysDistance
+    (sym (c .before .exact .given .1) ∙ c .before .before .before .prc-mm .ensures ∙ ap (prcMm (a .scale)) (toZ-ofZ w16 (a .prc) (s .fits .prc))) in
     let exact : toZ w32 (ofZ w32 v) ≡ v = search needs in
     (number-as e, (left-as stopFlag (now (a .stop)) e, exact ∙ left-as exactOr0 (now (a .mm)) e))
 
@@ -31,7 +32,8 @@ returns-3 : tie.Need-returns-3
 returns-3 c =
     let s = c .before .before .before .before in
     let a = s .args in
-    let e = ap saysDistance (sym (c .before .number .given .1) ∙ c .before .before .before .prc-mm .ensures ∙ ap (prcMm (a .scale)) (toZ-ofZ w16 (a .prc) (s .fits .prc))) in
+    let e = ap saysDistance
+    (sym (c .before .number .given .1) ∙ c .before .before .before .prc-mm .ensures ∙ ap (prcMm (a .scale)) (toZ-ofZ w16 (a .prc) (s .fits .prc))) in
     two-left stopFlag exactOr0 (now (a .stop)) (now (a .mm)) e
 
 pub rtcm2-prc-mm-spec : {M : Type 1} → statement M

@@ -28,31 +28,38 @@ returns c =
     let e = over (a .health) (a .udre) (c .if1 .taken) in
     two-left limitFlag limitOr0 (now (a .limited)) (now (a .mm)) e
 
+-- the start, where the limit was asked for
+abbrev start : tie.After-udre-limit → tie.Start
+start c = c .before .before .before
+
 -- the state is the health's
 stated : (c : tie.After-state-of) → c .state-of .result ≡ stateOf (c .before .before .args .health)
 stated c = state-told (c .before .if1 .left) (c .state-of .ensures)
 
-said : (c : tie.After-udre-limit) {l : Limit} → c .udre-limit .result ≡ l → saysLimit l ≡ limitSaid (c .before .before .before .args .health) (c .before .before .before .args .udre)
+said : (c : tie.After-udre-limit) {l : Limit} → c .udre-limit .result ≡ l → saysLimit l ≡ limitSaid (start c .args .health) (start c .args .udre)
 said c e =
-    let a = c .before .before .before .args in
+    let a = start c .args in
     within (a .health) (a .udre) (c .before .before .if1 .left) (stated (c .before)) (sym e ∙ c .udre-limit .ensures)
 
 returns-2 : tie.Need-returns-2
 returns-2 c =
-    let a = c .before .before .before .before .before .before .args in
-    let e = said (c .before .before .before) (c .before .limit .given .1) in
+    let asked = c .before .before .before in
+    let a = start asked .args in
+    let e = said asked (c .before .limit .given .1) in
     two-left limitFlag limitOr0 (now (a .limited)) (now (a .mm)) e
 
 returns-3 : tie.Need-returns-3
 returns-3 c =
-    let a = c .before .before .before .before .before .args in
-    let e = said (c .before .before) (c .enum-told .given .1) in
+    let asked = c .before .before in
+    let a = start asked .args in
+    let e = said asked (c .enum-told .given .1) in
     two-left limitFlag limitOr0 (now (a .limited)) (now (a .mm)) e
 
 returns-4 : tie.Need-returns-4
 returns-4 c =
-    let a = c .before .before .before .before .before .before .args in
-    let e = said (c .before .before .before) (c .before .number .given .1) in
+    let asked = c .before .before .before in
+    let a = start asked .args in
+    let e = said asked (c .before .number .given .1) in
     two-left limitFlag limitOr0 (now (a .limited)) (now (a .mm)) e
 
 pub rtcm2-udre-limit-mm-spec : {M : Type 1} → statement M

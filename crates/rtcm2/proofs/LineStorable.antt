@@ -15,7 +15,7 @@ use Rattle.reader.specs.declared.Next.{Next}
 use Rattle.reader.specs.declared.Taken.{Taken}
 use Rattle.rtcm2_state.specs.State.{stateSize, startPut, statePut}
 use Rattle.rtcm2_state.proofs.RoundTrip.{put-held, put-read, put-again, start-put}
-use Rattle.rtcm2_state.proofs.Carried.{CarriedBy, carried-narrow, carried-fit, carried-ended, carried-taken, order-holds}
+use Rattle.rtcm2_state.proofs.Storable.{StorableReader, storable-narrow, storable-fit, storable-ended, storable-taken, order-holds}
 use Rattle.rtcm2.specs.Line.{doneBy, readBy}
 use Rattle.rtcm2.proofs.LineLaws.{read-by}
 
@@ -39,19 +39,19 @@ module _ (r : Reader) where
         reader = record { cells = r .cells; candidate = takeTo (r .cells) (r .candidate) (r .ended); ended = r .ended };
       }) (λ n. refl) (λ none. refl)
 
-module _ (r : Reader) (k : CarriedBy r) (state : List ℕ) (h : stateSize ≤ length state) where
+module _ (r : Reader) (k : StorableReader r) (state : List ℕ) (h : stateSize ≤ length state) where
   -- every call: feed, feed all, end and take are this at their own answer and call
-  pub call-carried : {A : Type 0} (answer : A → Answer) (call : Reader → A) → readBy answer call (statePut r state) ≡ doneBy (answer (call r)) (call r)
-  call-carried answer call =
-      read-by answer call (statePut r state) (put-held r state h (carried-fit r k)) {x = call r} (ap call (sym (put-read r state h (carried-fit r k))))
+  pub call-storable : {A : Type 0} (answer : A → Answer) (call : Reader → A) → readBy answer call (statePut r state) ≡ doneBy (answer (call r)) (call r)
+  call-storable answer call =
+      read-by answer call (statePut r state) (put-held r state h (storable-fit r k)) {x = call r} (ap call (sym (put-read r state h (storable-fit r k))))
 
   -- the bytes after feeding that left `next`
-  pub left-carried : (next : Reader) → CarriedBy next → statePut next (statePut r state) ≡ statePut next state
-  left-carried next n = put-again r state h (carried-fit r k) next (carried-narrow next n)
+  pub left-storable : (next : Reader) → StorableReader next → statePut next (statePut r state) ≡ statePut next state
+  left-storable next n = put-again r state h (storable-fit r k) next (storable-narrow next n)
 
   -- the bytes after ending and after taking: only their start is put
   pub ended-left : startPut (endedBy r .reader .candidate) (endedBy r .reader .ended) (statePut r state) ≡ statePut (endedBy r .reader) state
-  ended-left = start-put r state h (carried-fit r k) (endedBy r .reader) (carried-narrow (endedBy r .reader) (carried-ended r k)) (ended-cells r)
+  ended-left = start-put r state h (storable-fit r k) (endedBy r .reader) (storable-narrow (endedBy r .reader) (storable-ended r k)) (ended-cells r)
 
   pub taken-left : startPut (takenBy r .reader .candidate) (takenBy r .reader .ended) (statePut r state) ≡ statePut (takenBy r .reader) state
-  taken-left = start-put r state h (carried-fit r k) (takenBy r .reader) (carried-narrow (takenBy r .reader) (carried-taken r k)) (taken-cells r)
+  taken-left = start-put r state h (storable-fit r k) (takenBy r .reader) (storable-narrow (takenBy r .reader) (storable-taken r k)) (taken-cells r)

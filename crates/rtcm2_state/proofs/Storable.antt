@@ -78,7 +78,9 @@ small-room cells end held s = go (leb end 1216)
   where
     go : (t : Bool) → Small (cond t cells (drop ((end - held) / 32) cells ++ drop (40 - (end - held) / 32) cells))
     go true = s
-    go false = small-append (drop ((end - held) / 32) cells) (drop (40 - (end - held) / 32) cells) (small-drop ((end - held) / 32) cells s) (small-drop (40 - (end - held) / 32) cells s)
+    go false =
+        small-append (drop ((end - held) / 32) cells) (drop (40 - (end - held) / 32) cells) (small-drop ((end - held) / 32) cells s)
+        (small-drop (40 - (end - held) / 32) cells s)
 
 small-put : (cells : List ℕ) (end x : ℕ) → Small cells → Small (putCells cells end x)
 unfolding putCells
@@ -100,16 +102,16 @@ small-step : (cells : List ℕ) (c : Candidate) (x : ℕ) → Small cells → Sm
 unfolding stepCells pushedCells
 small-step cells c x s = small-put (roomCells cells (c .end) (c .held)) (roomEnd (c .end) (c .held)) x (small-room cells (c .end) (c .held) s)
 
--- ---- carried: forty cells of 32 bits, counts that are not past, a position of 32 bits
+-- ---- storable: forty cells of 32 bits, counts that are not past, a position of 32 bits
 
-pub record Carried (cells : List ℕ) (c : Candidate) : Type 0 where
+pub record Storable (cells : List ℕ) (c : Candidate) : Type 0 where
   pub count : length cells ≡ 40
   pub small : Small cells
   pub fine : Accepted c
   pub place : c .at < 2 ^ 32
 
-abbrev pub CarriedBy : Reader → Type 0
-CarriedBy r = Carried (r .cells) (r .candidate)
+abbrev pub StorableReader : Reader → Type 0
+StorableReader r = Storable (r .cells) (r .candidate)
 
 fit-small : (n : ℕ) (xs : List ℕ) → length xs ≡ n → Small xs → Fit (replicate n 32) xs
 fit-small zero [] e s = tt
@@ -122,15 +124,15 @@ small-val true = omega arith
 small-val false = omega arith
 
 -- its counts fit in four bytes
-pub carried-narrow : (r : Reader) → CarriedBy r → tooWide (r .candidate) ≡ false
-carried-narrow r k =
+pub storable-narrow : (r : Reader) → StorableReader r → tooWide (r .candidate) ≡ false
+storable-narrow r k =
     let a = k .fine in
     narrow (r .candidate) (omega (arith, a .top)) (omega (arith, a .top, a .low)) (omega (arith, a .few))
 
 -- every number fits in 32 bits
-pub carried-fit : (r : Reader) → CarriedBy r → Fit (replicate stateCount 32) (stateNumbers r)
+pub storable-fit : (r : Reader) → StorableReader r → Fit (replicate stateCount 32) (stateNumbers r)
 unfolding stateNumbers
-carried-fit r k =
+storable-fit r k =
     let a = k .fine in (
       omega arith,
       (
@@ -144,12 +146,13 @@ carried-fit r k =
 
 -- ---- a fresh reader, and each step
 
-pub carried-started : CarriedBy started
+pub storable-started : StorableReader started
 unfolding started
-carried-started = record {
+storable-started = record {
   count = length-replicate {A = ℕ} 40 0;
   small = small-zeros 40;
-  fine = accept-free (record { end = 0; held = 0; words = 0; at = 2; waits = false }) refl (omega arith) (omega arith) (omega arith) (omega arith) (omega arith);
+  fine =
+      accept-free (record { end = 0; held = 0; words = 0; at = 2; waits = false }) refl (omega arith) (omega arith) (omega arith) (omega arith) (omega arith);
   place = omega arith;
 }
 
@@ -157,40 +160,41 @@ moved-place : (at end held : ℕ) (s : Halt) → movedTo at end held s .at < 2 ^
 unfolding movedTo
 moved-place at end held s = omega arith
 
-module _ (cells : List ℕ) (c : Candidate) (k : Carried cells c) where
-  carried-step : c .waits ≡ false → (x : ℕ) → Carried (stepCells cells c x) (stepTo cells c x)
-  carried-step w x = record {
+module _ (cells : List ℕ) (c : Candidate) (k : Storable cells c) where
+  storable-step : c .waits ≡ false → (x : ℕ) → Storable (stepCells cells c x) (stepTo cells c x)
+  storable-step w x = record {
     count = length-step cells (k .count) c (k .fine) w x;
     small = small-step cells c x (k .small);
     fine = accepted-step cells (k .count) c (k .fine) w x;
     place = unfold stepTo in moved-place _ _ _ _;
   }
 
-  carried-end : Carried cells (endTo cells c)
-  carried-end = record {
+  storable-end : Storable cells (endTo cells c)
+  storable-end = record {
     count = k .count;
     small = k .small;
     fine = accepted-end cells (k .count) c (k .fine);
     place = unfold endTo in moved-place _ _ _ _;
   }
 
-  carried-take : (ended : Bool) → Carried cells (takeTo cells c ended)
-  carried-take ended = record {
+  storable-take : (ended : Bool) → Storable cells (takeTo cells c ended)
+  storable-take ended = record {
     count = k .count;
     small = k .small;
     fine = accepted-take cells (k .count) c (k .fine) ended;
     place = unfold takeTo in moved-place _ _ _ _;
   }
 
-abbrev CarriedTo : Run → Type 0
-CarriedTo x = Carried (x .cells) (x .candidate)
+abbrev StorableRun : Run → Type 0
+StorableRun x = Storable (x .cells) (x .candidate)
 
-carried-run : (cells : List ℕ) (c : Candidate) (bs : List ℕ) → Carried cells c → CarriedTo (runTo cells c bs)
+storable-run : (cells : List ℕ) (c : Candidate) (bs : List ℕ) → Storable cells c → StorableRun (runTo cells c bs)
 unfolding runTo
-carried-run cells c [] k = k
-carried-run cells c (b ∷ bs) k =
-    go (c .waits) refl (isData b) (λ w. carried-run (stepCells cells c (number (six b))) (stepTo cells c (number (six b))) bs (carried-step cells c k w (number (six b))))
-    (carried-run cells c bs k)
+storable-run cells c [] k = k
+storable-run cells c (b ∷ bs) k =
+    go (c .waits) refl (isData b)
+    (λ w. storable-run (stepCells cells c (number (six b))) (stepTo cells c (number (six b))) bs (storable-step cells c k w (number (six b))))
+    (storable-run cells c bs k)
   where
     on : Run
     on = runTo (stepCells cells c (number (six b))) (stepTo cells c (number (six b))) bs
@@ -198,8 +202,8 @@ carried-run cells c (b ∷ bs) k =
     over : Run
     over = runTo cells c bs
 
-    go : (w : Bool) → c .waits ≡ w → (d : Bool) → (c .waits ≡ false → CarriedTo on) → CarriedTo over
-        → CarriedTo (cond w (record { cells = cells; candidate = c; used = 0; passed = 0 })
+    go : (w : Bool) → c .waits ≡ w → (d : Bool) → (c .waits ≡ false → StorableRun on) → StorableRun over
+        → StorableRun (cond w (record { cells = cells; candidate = c; used = 0; passed = 0 })
         (cond d (record { cells = on .cells; candidate = on .candidate; used = 1 + on .used; passed = 0 + on .passed })
         (record { cells = over .cells; candidate = over .candidate; used = 1 + over .used; passed = 1 + over .passed })))
     go true e d f g = k
@@ -217,33 +221,33 @@ order-holds P cs refuse answer h k = go (first-or-none cs)
     go (inl none) = subst P (sym (order-answers refuse answer cs none)) (k none)
     go (inr (n, first)) = subst P (sym (order-refuses refuse answer cs n first)) (h n)
 
-module _ (r : Reader) (k : CarriedBy r) where
-  pub carried-fed : (b : ℕ) → CarriedBy (fedBy r b .reader)
+module _ (r : Reader) (k : StorableReader r) where
+  pub storable-fed : (b : ℕ) → StorableReader (fedBy r b .reader)
   unfolding fedBy steppedBy
-  carried-fed b =
-      order-holds (λ (x : Next). CarriedBy (x .reader)) (busy r ++ ((not (isData b), 1) ∷ [])) (λ n. record { answer = Refused n; reader = r })
-      (record { answer = Done; reader = steppedBy r b }) (λ n. k) (λ none. carried-step (r .cells) (r .candidate) k (none .1 .1 .0) (number (six b)))
+  storable-fed b =
+      order-holds (λ (x : Next). StorableReader (x .reader)) (busy r ++ ((not (isData b), 1) ∷ [])) (λ n. record { answer = Refused n; reader = r })
+      (record { answer = Done; reader = steppedBy r b }) (λ n. k) (λ none. storable-step (r .cells) (r .candidate) k (none .1 .1 .0) (number (six b)))
 
-  pub carried-fed-all : (bs : List ℕ) → CarriedBy (fedAllBy r bs .reader)
+  pub storable-fed-all : (bs : List ℕ) → StorableReader (fedAllBy r bs .reader)
   unfolding fedAllBy
-  carried-fed-all bs =
-      order-holds (λ (x : FedAll). CarriedBy (x .reader)) (busy r) (λ n. record { answer = Refused n; used = 0; passed = 0; reader = r })
-      (ranBy r (runTo (r .cells) (r .candidate) bs)) (λ n. k) (λ none. carried-run (r .cells) (r .candidate) bs k)
+  storable-fed-all bs =
+      order-holds (λ (x : FedAll). StorableReader (x .reader)) (busy r) (λ n. record { answer = Refused n; used = 0; passed = 0; reader = r })
+      (ranBy r (runTo (r .cells) (r .candidate) bs)) (λ n. k) (λ none. storable-run (r .cells) (r .candidate) bs k)
 
-  pub carried-ended : CarriedBy (endedBy r .reader)
+  pub storable-ended : StorableReader (endedBy r .reader)
   unfolding endedBy
-  carried-ended =
-      order-holds (λ (x : Next). CarriedBy (x .reader)) (busy r) (λ n. record { answer = Refused n; reader = r })
+  storable-ended =
+      order-holds (λ (x : Next). StorableReader (x .reader)) (busy r) (λ n. record { answer = Refused n; reader = r })
       (record { answer = Done; reader = record { cells = r .cells; candidate = endTo (r .cells) (r .candidate); ended = true } }) (λ n. k)
-      (λ none. carried-end (r .cells) (r .candidate) k)
+      (λ none. storable-end (r .cells) (r .candidate) k)
 
-  pub carried-taken : CarriedBy (takenBy r .reader)
+  pub storable-taken : StorableReader (takenBy r .reader)
   unfolding takenBy
-  carried-taken =
-      order-holds (λ (x : Taken). CarriedBy (x .reader)) ((past r, 5) ∷ (not (frameWaits r), 4) ∷ [])
+  storable-taken =
+      order-holds (λ (x : Taken). StorableReader (x .reader)) ((past r, 5) ∷ (not (frameWaits r), 4) ∷ [])
       (λ n. record { answer = Refused n; at = 0; frame = blank; reader = r }) (record {
         answer = Done;
         at = r .candidate .at;
         frame = frameAt (bitsOf r);
         reader = record { cells = r .cells; candidate = takeTo (r .cells) (r .candidate) (r .ended); ended = r .ended };
-      }) (λ n. k) (λ none. carried-take (r .cells) (r .candidate) k (r .ended))
+      }) (λ n. k) (λ none. storable-take (r .cells) (r .candidate) k (r .ended))
