@@ -85,7 +85,8 @@ entry-numbered l = go (eqb (layoutNumber l) (layoutNumber layout.Text))
     go false = refl
 
 pub carries-its-number : CarriesItsNumber
-unfolding fedBy fedAllBy endedBy takenBy countCorrections correctionAt makeCorrections countHealths healthAt makeHealths readPosition makePosition readNull makeNull readText makeText refusedMade doneMade pieceBy finishBy
+unfolding fedBy fedAllBy endedBy takenBy countCorrections correctionAt makeCorrections countHealths healthAt makeHealths readPosition makePosition
+    readNull makeNull readText makeText refusedMade doneMade pieceBy finishBy
 carries-its-number = record {
   feed = λ r b. told (λ (x : Next). saysAnswer (x .answer)) (λ n. record { answer = Refused n; reader = r }) _ tt refl refl refl;
   feed-all = λ r bs. told (λ (x : FedAll). saysAnswer (x .answer)) (λ n. record { answer = Refused n; used = 0; passed = 0; reader = r }) _ tt refl refl refl;

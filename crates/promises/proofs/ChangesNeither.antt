@@ -117,7 +117,9 @@ first-bytes bytes buffer k e h = record {
 first-stored : (out text : List ℕ) → length text ≤ length out → OnlyFirst (length text) (sets out 0 text) out
 first-stored out text h = record {
   long = length-sets out 0 text;
-  rest = ap (drop (length text)) (sets-eq text out 0 fits) ∙ drop-at text (drop (0 + length text) out) (length text) refl ∙ ap (λ k. drop k out) (zero-add (length text));
+  rest =
+      ap (drop (length text)) (sets-eq text out 0 fits) ∙ drop-at text (drop (0 + length text) out) (length text) refl
+      ∙ ap (λ k. drop k out) (zero-add (length text));
 }
   where
     fits : 0 + length text ≤ length out
@@ -156,7 +158,8 @@ only-its-bytes = record {
   read-text = λ f buffer.
       owns saysCount count.Refused (count.Of (lengthIn f)) _ (carries-its-number .read-text f buffer) refl (λ v. v) buffer
       (textIn f ++ drop (lengthIn f) buffer)
-      (λ none. first-bytes (textIn f) buffer (lengthIn f) (length-characters (lengthIn f) (frameBits f)) (ltb-false (length buffer) (lengthIn f) (none .1 .1 .1 .1 .1 .0)));
+      (λ none. first-bytes (textIn f) buffer (lengthIn f) (length-characters (lengthIn f) (frameBits f))
+      (ltb-false (length buffer) (lengthIn f) (none .1 .1 .1 .1 .1 .0)));
   list-piece = λ l bs out.
       listing-owns l (linesOf (length out / lineRoom) l bs) out (carries-its-number .list-piece l bs (length out))
       (λ none. omega (arith, lines-le (length out / lineRoom) l bs));

@@ -51,7 +51,8 @@ use Rattle.journal.proofs.KeepLaws.{length-record}
 use Rattle.journal.proofs.RoundTrip.{recall-record, keep-recalled}
 use Rattle.writer.specs.OneFrame.{WritesBack}
 use Rattle.writer.proofs.Wrote.{writes-back}
-use Rattle.promises.specs.Demand2.{Remade, ofCorrections, ofHealths, ofPosition, ofNull, ofText, WhatIsRead, ReadsBackEqual, MadeAnew, ItsOwnBits, Demand2}
+use Rattle.promises.specs.Demand2.{Remade, ofCorrections, ofHealths, ofPosition, ofNull, ofText}
+use Rattle.promises.specs.Demand2.{WhatIsRead, ReadsBackEqual, MadeAnew, ItsOwnBits, Demand2}
 use Rattle.promises.proofs.CarriesItsNumber.{carries-its-number, says-inj, none-told}
 use Rattle.promises.proofs.ThoseOfRtcm.{count-told, gps-parity-rule, frames-of-rtcm, records-of-rtcm}
 use Rattle.promises.proofs.ReadsBack.{corrections-back, healths-back, position-back, null-back, text-back, what-can-be-sent}
@@ -146,7 +147,8 @@ reads-back-equal = record {
 
 -- what a maker makes has a Z count below 6000: its first checks are those of the header
 in-time : (asked : Layout) (f : Frame) (rest : Made)
-    → cond (headerOutside (f .header)) (refusedMade 5) (cond (otherLayout asked (f .header .kind)) (refusedMade 6) (cond (late (f .header .z)) (refusedMade 7) rest))
+    → cond (headerOutside (f .header)) (refusedMade 5)
+    (cond (otherLayout asked (f .header .kind)) (refusedMade 6) (cond (late (f .header .z)) (refusedMade 7) rest))
     ≡ doneMade f → late (f .header .z) ≡ false
 in-time asked f rest = go (headerOutside (f .header)) (otherLayout asked (f .header .kind)) (late (f .header .z))
   where
@@ -159,11 +161,16 @@ in-time asked f rest = go (headerOutside (f .header)) (otherLayout asked (f .hea
 -- every record made anew is the frame that was read, and its Z count can be sent
 again : (f : Frame) (m : Made) → length (f .words) ≡ 31 → Remade f m → (m ≡ doneMade f) × (late (f .header .z) ≡ false)
 unfolding makeCorrections makeHealths makePosition makeNull makeText
-again f m full (ofCorrections es c d l n e s q) = let made = corrections-read-made f es c d full l (count-told (countCorrections f) c n) (λ i h. correction-told (correctionAt f i) (getD es i d) (e i h)) s in (q ∙ made, in-time layout.Correction f _ made)
-again f m full (ofHealths es c d l n e q) = let made = healths-read-made f es c d full l (count-told (countHealths f) c n) (λ i h. health-told (healthAt f i) (getD es i d) (e i h)) in (q ∙ made, in-time layout.Health f _ made)
+again f m full (ofCorrections es c d l n e s q) =
+    let made = corrections-read-made f es c d full l (count-told (countCorrections f) c n)
+    (λ i h. correction-told (correctionAt f i) (getD es i d) (e i h)) s in (q ∙ made, in-time layout.Correction f _ made)
+again f m full (ofHealths es c d l n e q) =
+    let made = healths-read-made f es c d full l (count-told (countHealths f) c n)
+    (λ i h. health-told (healthAt f i) (getD es i d) (e i h)) in (q ∙ made, in-time layout.Health f _ made)
 again f m full (ofPosition p e q) = let made = position-read-made f p full (position-told (readPosition f) p e) in (q ∙ made, in-time layout.Position f _ made)
 again f m full (ofNull e q) = let made = null-read-made f full (null-told (readNull f) e) in (q ∙ made, in-time layout.Null f _ made)
-again f m full (ofText buffer c e q) = let made = text-read-made f buffer c full (count-told (readText f buffer) c e) in (q ∙ made, in-time layout.Text f _ made)
+again f m full (ofText buffer c e q) =
+    let made = text-read-made f buffer c full (count-told (readText f buffer) c e) in (q ∙ made, in-time layout.Text f _ made)
 
 pub made-anew : MadeAnew
 made-anew f m full r = unfold doneMade in ap saysMade (again f m full r .0)

@@ -18,7 +18,7 @@ use Rattle.stream.specs.Places.{StandsIn, FoundOrCovered, Apart}
 use Rattle.stream.proofs.Verdicts.{verdict-undecided}
 use Rattle.stream.proofs.Scanning.{only, complete, apart}
 use Rattle.stream.proofs.Data.{frame-within}
-use Rattle.stream.proofs.Prefix.{decided-undecided, decided-begins}
+use Rattle.stream.proofs.Prefix.{decided-undecided}
 use Rattle.stream.proofs.InTime as stream
 use Rattle.stream.proofs.Hunting.{MayCome, Idle}
 use Rattle.stream.proofs.Damage.{damaged-nowhere}
@@ -28,7 +28,8 @@ use Rattle.reader.specs.declared.Answer.the-variants.{Done}
 use Rattle.reader.specs.declared.Next.{Next}
 use Rattle.reader.specs.declared.FedAll.{FedAll}
 use Rattle.reader.specs.declared.Taken.{Taken}
-use Rattle.promises.specs.Calls.{Call, feeds, feedsAll, ends, takes, Reply, replied, used, took, answerOf, replyTo, after, bitsGiven, afterAll, replies, bitsTaken, handedOut, outcome, reported, takesAll, served}
+use Rattle.promises.specs.Calls.{Call, feeds, feedsAll, ends, takes, Reply, replied, used, took, answerOf, replyTo}
+use Rattle.promises.specs.Calls.{after, bitsGiven, afterAll, replies, bitsTaken, handedOut, outcome, reported, takesAll, served}
 use Rattle.promises.specs.Demand3.{found, OnlyFrames, AsSoonAs, NothingLost, HandedOut, OneByOne, NeverFive, DamageBeginsNothing}
 use Rattle.promises.proofs.Kept.{Kept, kept-started}
 use Rattle.promises.proofs.Runs.{given, fed-by, all-by, ended-by, taken-by, never-past, kept-call, kept}
@@ -58,10 +59,13 @@ module _ (cs : List Call) where
   unfolding found
   found-is =
       ap (λ l. take (length (handedOut started cs)) l) scanned
-      ∙ take-at (k .hits) (scan 0 (2 + k .gone) (bitsOf (afterAll started cs))) (length (handedOut started cs)) (sym (ap length (k .given) ∙ length-map (k .hits) reported))
+      ∙ take-at (k .hits) (scan 0 (2 + k .gone) (bitsOf (afterAll started cs))) (length (handedOut started cs))
+      (sym (ap length (k .given) ∙ length-map (k .hits) reported))
 
   stood : (h : Placed) → List·Memᴰ h (found (outcome cs)) → StandsIn 2 (bitsTaken started cs) h
-  stood h m = only 0 2 (bitsTaken started cs) h (subst (List·Memᴰ h) (sym scanned) (Memᴰ·append-left (scan 0 (2 + k .gone) (bitsOf (afterAll started cs))) (subst (List·Memᴰ h) found-is m)))
+  stood h m =
+      only 0 2 (bitsTaken started cs) h
+      (subst (List·Memᴰ h) (sym scanned) (Memᴰ·append-left (scan 0 (2 + k .gone) (bitsOf (afterAll started cs))) (subst (List·Memᴰ h) found-is m)))
 
   -- "Only frames by the definition are ever handed out"
   pub only-frames : OnlyFrames (outcome cs)
@@ -79,7 +83,9 @@ module _ (cs : List Call) where
     held = k .stage .split;
     rest = λ x. k .stage .scanned x (subst (λ t. MayCome t x) (sym e) tt) ∙ ap₂ (λ a b. a ++ scan 0 (2 + k .gone) (b ++ x)) (sym found-is) (k .stage .split);
     waits = λ w. subst Stands (k .stage .split) (k .found w);
-    hunts = λ w. subst (Idle false (afterAll started cs .candidate .words)) (k .stage .split) (subst (λ t. Idle t (afterAll started cs .candidate .words) (bitsOf (afterAll started cs))) e (k .idle w));
+    hunts =
+        λ w. subst (Idle false (afterAll started cs .candidate .words)) (k .stage .split)
+        (subst (λ t. Idle t (afterAll started cs .candidate .words) (bitsOf (afterAll started cs))) e (k .idle w));
   }
 
   -- "nothing lost"
@@ -127,7 +133,14 @@ module _ (cs : List Call) where
   then-bits = bits-append cs takesAll started ∙ ap (λ l. bitsTaken started cs ++ l) (takes-no-bit 16 (afterAll started cs)) ∙ append-nil (bitsTaken started cs)
 
   pub handed-out : HandedOut (outcome cs) (outcome (cs ++ takesAll))
-  handed-out = record { none = then-none; bits = then-bits; out = only-frames (cs ++ takesAll) .given; in-time = λ q s t. go q s (afterAll started cs .ended) refl t; once = only-frames (cs ++ takesAll) .once }
+  handed-out =
+      record {
+        none = then-none;
+        bits = then-bits;
+        out = only-frames (cs ++ takesAll) .given;
+        in-time = λ q s t. go q s (afterAll started cs .ended) refl t;
+        once = only-frames (cs ++ takesAll) .once;
+      }
     where
       s₀ : List Bool
       s₀ = bitsTaken started cs
@@ -163,11 +176,14 @@ module _ (bs : List ℕ) where
   last-ended = ap (λ (t : Reader). t .ended) last-is ∙ takes-ended 16 (after (afterAll started (served bs)) ends) ∙ (unfold after in over)
     where
       over : endedBy (afterAll started (served bs)) .reader .ended ≡ true
-      over = ap (λ (f : Next). f .reader .ended) (ended-by (afterAll started (served bs)) false false false (never-past _ _ _ (kept (served bs))) (v .goes) (v .none))
+      over =
+          ap (λ (f : Next). f .reader .ended)
+          (ended-by (afterAll started (served bs)) false false false (never-past _ _ _ (kept (served bs))) (v .goes) (v .none))
 
   last-none : afterAll started all .candidate .waits ≡ false
   unfolding last r
-  last-none = ap (λ (t : Reader). t .candidate .waits) last-is ∙ none-waits _ _ (after (afterAll started (served bs)) ends) (kept-call _ _ _ ends (kept (served bs)))
+  last-none =
+      ap (λ (t : Reader). t .candidate .waits) last-is ∙ none-waits _ _ (after (afterAll started (served bs)) ends) (kept-call _ _ _ ends (kept (served bs)))
 
   last-bits : bitsTaken started all ≡ lineBits bs
   unfolding r
@@ -224,7 +240,8 @@ answer-not-5 r p takes e = go (frameWaits r) refl
     go false ey = refused-other 4 (sym (ap A (taken-by r false false p ey)) ∙ e) (λ q. omega arith)
     go true ey = done-other (sym (ap A (taken-by r false true p ey) ∙ (unfold given in refl)) ∙ e)
 
-reply-not-5 : (cs : List Call) (s : List Bool) (out : List (ℕ × Frame)) (r : Reader) → Kept s out r → (y : Reply) → List·Memᴰ y (replies r cs) → answerOf y ≡ refuses 5 → ⊥
+reply-not-5 : (cs : List Call) (s : List Bool) (out : List (ℕ × Frame)) (r : Reader) → Kept s out r → (y : Reply) → List·Memᴰ y (replies r cs)
+    → answerOf y ≡ refuses 5 → ⊥
 unfolding replies
 reply-not-5 [] s out r q y m e = List·Memᴰ·not-nil m
 reply-not-5 (c ∷ cs) s out r q y m e = go (List·Memᴰ·cases-cons m) (λ x. reply-not-5 cs _ _ (after r c) (kept-call s out r c q) y x e)

@@ -17,7 +17,8 @@ use Rattle.stream.specs.Standing.{stands, frameAt}
 use Rattle.stream.proofs.Words.{both-right}
 use Rattle.stream.proofs.Stand.{test-stands}
 use Rattle.reader.specs.Cells.{roomEnd}
-use Rattle.reader.specs.Reading.{candidateBits, bitsOf, past, frameWaits, movedTo, stepCells, stepTo, steppedBy, fedBy, Run, runTo, fedAllBy, endTo, takeTo, saysAnswer, saysNext, saysFedAll, saysTaken}
+use Rattle.reader.specs.Reading.{candidateBits, bitsOf, past, frameWaits, movedTo, stepCells, stepTo, steppedBy, fedBy}
+use Rattle.reader.specs.Reading.{Run, runTo, fedAllBy, endTo, takeTo, saysAnswer, saysNext, saysFedAll, saysTaken}
 use Rattle.reader.specs.declared.Candidate.{Candidate}
 use Rattle.reader.specs.declared.Reader.{Reader}
 use Rattle.reader.specs.declared.Answer.the-variants.{Done, Refused}
@@ -44,7 +45,8 @@ record RunFeeds (cells : List ℕ) (c : Candidate) (bs : List ℕ) (x : Run) : T
 
 -- one byte more was fed while no frame waited
 free-first : (r : Reader) (b : ℕ) (bs : List ℕ) (next : Reader) → fedBy r b .reader ≡ next → r .candidate .waits ≡ false
-    → (u : ℕ) → ((k : ℕ) → k < u → feedEach next (take k bs) .candidate .waits ≡ false) → (k : ℕ) → k < 1 + u → feedEach r (take k (b ∷ bs)) .candidate .waits ≡ false
+    → (u : ℕ) → ((k : ℕ) → k < u → feedEach next (take k bs) .candidate .waits ≡ false) → (k : ℕ) → k < 1 + u
+    → feedEach r (take k (b ∷ bs)) .candidate .waits ≡ false
 unfolding feedEach
 free-first r b bs next e w u later zero h = w
 free-first r b bs next e w u later (suc k) h = ap (λ (t : Reader). feedEach t (take k bs) .candidate .waits) e ∙ later k (omega arith)
@@ -53,7 +55,8 @@ free-first r b bs next e w u later (suc k) h = ap (λ (t : Reader). feedEach t (
 step-held : (cells : List ℕ) → length cells ≡ 40 → (c : Candidate) → Accepted c → c .waits ≡ false → (x : ℕ) → stepTo cells c x .held ≤ c .held + 6
 unfolding stepTo movedTo
 step-held cells l c a w x =
-    left-le (stepCells cells c x) (length-step cells l c a w x) (roomEnd (c .end) (c .held) + 6) (c .held + 6) (step-top cells l c a w x) (step-low cells l c a w x) (c .words) false
+    left-le (stepCells cells c x) (length-step cells l c a w x) (roomEnd (c .end) (c .held) + 6) (c .held + 6) (step-top cells l c a w x)
+    (step-low cells l c a w x) (c .words) false
 
 module _ (b : ℕ) (bs : List ℕ) (u : ℕ) where
   feed-first : (r : Reader) → feedEach r (take (1 + u) (b ∷ bs)) ≡ feedEach (fedBy r b .reader) (take u bs)
@@ -65,10 +68,13 @@ module _ (b : ℕ) (bs : List ℕ) (u : ℕ) where
   count-first z e = ap (λ n. without (take n (b ∷ bs))) (one-add u) ∙ ap (λ t. cond t 0 1 + without (take u bs)) e
 
 run-feeds : (bs : List ℕ) (cells : List ℕ) → length cells ≡ 40 → (c : Candidate) → Accepted c → RunFeeds cells c bs (runTo cells c bs)
-run-feeds [] cells l c a = unfold runTo feedEach without in record { reader = refl; passed = refl; all = inl refl; accepted = a; held = omega arith; free = λ k h. absurd (omega arith) }
+run-feeds [] cells l c a =
+    unfold runTo feedEach without in
+    record { reader = refl; passed = refl; all = inl refl; accepted = a; held = omega arith; free = λ k h. absurd (omega arith) }
 run-feeds (b ∷ bs) cells l c a =
     go (c .waits) refl (isData b) refl
-    (λ w. run-feeds bs (stepCells cells c (number (six b))) (length-step cells l c a w (number (six b))) (stepTo cells c (number (six b))) (accepted-step cells l c a w (number (six b))))
+    (λ w. run-feeds bs (stepCells cells c (number (six b))) (length-step cells l c a w (number (six b))) (stepTo cells c (number (six b)))
+    (accepted-step cells l c a w (number (six b))))
     (run-feeds bs cells l c a)
   where
     x : Run
@@ -88,17 +94,29 @@ run-feeds (b ∷ bs) cells l c a =
     go : (y : Bool) → c .waits ≡ y → (z : Bool) → isData b ≡ z
         → (c .waits ≡ false → RunFeeds (stepCells cells c (number (six b))) (stepTo cells c (number (six b))) bs x)
         → RunFeeds cells c bs (runTo cells c bs) → RunFeeds cells c (b ∷ bs) (runTo cells c (b ∷ bs))
-    go true w z d on over = subst (RunFeeds cells c (b ∷ bs)) (sym (run-waits cells c (b ∷ bs) w)) (unfold feedEach without in record { reader = refl; passed = refl; all = inr w; accepted = a; held = omega arith; free = λ k h. absurd (omega arith) })
+    go true w z d on over =
+        subst (RunFeeds cells c (b ∷ bs)) (sym (run-waits cells c (b ∷ bs) w))
+        (unfold feedEach without in record {
+          reader = refl;
+          passed = refl;
+          all = inr w;
+          accepted = a;
+          held = omega arith;
+          free = λ k h. absurd (omega arith);
+        })
     go false w true d on over = subst (RunFeeds cells c (b ∷ bs)) (sym (run-on cells c b bs w d)) (record {
       reader = on w .reader ∙ sym (feed-first b bs (x .used) (going cells c) ∙ ap (λ r. feedEach r (take (x .used) bs)) (fed-on d w));
       passed = ap (λ n. 0 + n) (on w .passed) ∙ sym (count-first b bs (x .used) true d);
       all = one (x .used) (x .candidate .waits) (on w .all);
       accepted = on w .accepted;
       held = omega (arith, on w .held, step-held cells l c a w (number (six b)));
-      free = free-first (going cells c) b bs (going (stepCells cells c (number (six b))) (stepTo cells c (number (six b)))) (fed-on d w) w (x .used) (on w .free);
+      free =
+          free-first (going cells c) b bs (going (stepCells cells c (number (six b))) (stepTo cells c (number (six b)))) (fed-on d w) w (x .used) (on w .free);
     })
     go false w false d on over = subst (RunFeeds cells c (b ∷ bs)) (sym (run-over cells c b bs w d)) (record {
-      reader = over .reader ∙ sym (feed-first b bs (runTo cells c bs .used) (going cells c) ∙ ap (λ r. feedEach r (take (runTo cells c bs .used) bs)) (fed false d w));
+      reader =
+          over .reader ∙ sym (feed-first b bs (runTo cells c bs .used) (going cells c)
+          ∙ ap (λ r. feedEach r (take (runTo cells c bs .used) bs)) (fed false d w));
       passed = ap (λ n. 1 + n) (over .passed) ∙ sym (count-first b bs (runTo cells c bs .used) false d);
       all = one (runTo cells c bs .used) (runTo cells c bs .candidate .waits) (over .all);
       accepted = over .accepted;
@@ -136,9 +154,12 @@ fed-parts r bs l = go (past r) refl (r .ended) refl (r .candidate .waits) refl
     x = runTo (r .cells) (r .candidate) bs
 
     go : (p : Bool) → past r ≡ p → (e : Bool) → r .ended ≡ e → (y : Bool) → r .candidate .waits ≡ y → FedParts r bs (fedAllBy r bs)
-    go true ep e ex y ey = subst (FedParts r bs) (sym (all-by r true e y ep ex ey bs)) (none 5 (λ b. ap saysNext (fed-by r true e y ep ex ey b (isData b) refl)))
-    go false ep true ex y ey = subst (FedParts r bs) (sym (all-by r false true y ep ex ey bs)) (none 3 (λ b. ap saysNext (fed-by r false true y ep ex ey b (isData b) refl)))
-    go false ep false ex true ey = subst (FedParts r bs) (sym (all-by r false false true ep ex ey bs)) (none 2 (λ b. ap saysNext (fed-by r false false true ep ex ey b (isData b) refl)))
+    go true ep e ex y ey =
+        subst (FedParts r bs) (sym (all-by r true e y ep ex ey bs)) (none 5 (λ b. ap saysNext (fed-by r true e y ep ex ey b (isData b) refl)))
+    go false ep true ex y ey =
+        subst (FedParts r bs) (sym (all-by r false true y ep ex ey bs)) (none 3 (λ b. ap saysNext (fed-by r false true y ep ex ey b (isData b) refl)))
+    go false ep false ex true ey =
+        subst (FedParts r bs) (sym (all-by r false false true ep ex ey bs)) (none 2 (λ b. ap saysNext (fed-by r false false true ep ex ey b (isData b) refl)))
     go false ep false ex false ey =
         let f = run-feeds bs (r .cells) l (r .candidate) (to-accepted (r .candidate) ep) in
         subst (FedParts r bs) (sym (all-by r false false false ep ex ey bs)) (record {
@@ -164,7 +185,8 @@ feed-all-is-feed r bs l = record {
     q : FedParts r bs (fedAllBy r bs)
     q = fed-parts r bs l
 
-    says : (u p : ℕ) → saysFedAll (fedAllBy r bs) ≡ answers (u, p) → (fedAllBy r bs .answer ≡ Done) × (_≡_ {A = ℕ × ℕ} (fedAllBy r bs .used, fedAllBy r bs .passed) (u, p))
+    says : (u p : ℕ) → saysFedAll (fedAllBy r bs) ≡ answers (u, p)
+        → (fedAllBy r bs .answer ≡ Done) × (_≡_ {A = ℕ × ℕ} (fedAllBy r bs .used, fedAllBy r bs .passed) (u, p))
     says u p e = says-done (fedAllBy r bs .used, fedAllBy r bs .passed) (u, p) (fedAllBy r bs .answer) e
 
     used-is : (u p : ℕ) → saysFedAll (fedAllBy r bs) ≡ answers (u, p) → fedAllBy r bs .used ≡ u
@@ -190,7 +212,8 @@ next-is-accepted r l p (feeds b) = go (r .ended) refl (r .candidate .waits) refl
     go false ex false ey false ez = unfold after in subst P (sym (fed-by r false false false p ex ey b false ez)) p
     go false ex false ey true ez =
         unfold after in subst P (sym (fed-by r false false false p ex ey b true ez))
-        (unfold steppedBy in from-accepted (stepTo (r .cells) (r .candidate) (number (six b))) (accepted-step (r .cells) l (r .candidate) a ey (number (six b))))
+        (unfold steppedBy in from-accepted (stepTo (r .cells) (r .candidate) (number (six b)))
+        (accepted-step (r .cells) l (r .candidate) a ey (number (six b))))
 next-is-accepted r l p (feedsAll bs) = go (r .ended) refl (r .candidate .waits) refl
   where
     P : FedAll → Type 0
@@ -222,7 +245,8 @@ next-is-accepted r l p takes = go (frameWaits r) refl
     go false ey = unfold after in subst P (sym (taken-by r false false p ey)) p
     go true ey =
         unfold after in subst P (sym (taken-by r false true p ey))
-        (unfold given in from-accepted (takeTo (r .cells) (r .candidate) (r .ended)) (accepted-take (r .cells) l (r .candidate) (to-accepted (r .candidate) p) (r .ended)))
+        (unfold given in from-accepted (takeTo (r .cells) (r .candidate) (r .ended))
+        (accepted-take (r .cells) l (r .candidate) (to-accepted (r .candidate) p) (r .ended)))
 
 -- ---- WHAT TAKING HANDS OUT stands in the bits held, whatever the state claims
 

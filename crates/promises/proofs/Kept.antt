@@ -69,7 +69,8 @@ further at held n left gone more h m e =
 
 -- ---- THE HUNT GOES ON from word k of the position that the n bits before bit `end` start two bits before
 
-module _ (s : List Bool) (out : List (ℕ × Frame)) (hits : List Placed) (given : out ≡ map reported hits) (ended : Bool) (cells : List ℕ) (len : length cells ≡ 40)
+module _ (s : List Bool) (out : List (ℕ × Frame)) (hits : List Placed) (given : out ≡ map reported hits) (ended : Bool) (cells : List ℕ)
+    (len : length cells ≡ 40)
     (end n : ℕ) (top : end ≤ 1280) (low : n ≤ end) (room : n ≤ 997) (k : ℕ) (gone : ℕ) (g : Stage s hits ended gone (heldBits cells end n))
     (p : RightSoFar k (heldBits cells end n)) (few : k ≤ 32) (at held : ℕ) (less : n ≤ held) (place : (at + (held - n)) % 2 ^ 32 ≡ (2 + gone) % 2 ^ 32) where
   h : Hunts ended (heldBits cells end n) (hunt ended k (heldBits cells end n))
@@ -82,7 +83,9 @@ module _ (s : List Bool) (out : List (ℕ × Frame)) (hits : List Placed) (given
   unfolding movedTo candidateBits huntOf haltOf
   settled = record {
     len = len;
-    accepted = accepted-halt cells len end n top low k ended at held room few (omega (arith, so-far-known k (heldBits cells end n) p, length-held cells end n len top low));
+    accepted =
+        accepted-halt cells len end n top low k ended at held room few
+        (omega (arith, so-far-known k (heldBits cells end n) p, length-held cells end n len top low));
     hits = hits;
     given = given;
     gone = gone + h .gone;
@@ -107,7 +110,13 @@ kept-started = record {
   hits = [];
   given = refl;
   gone = 0;
-  stage = record { split = none; long = ap (λ l. 0 + length l) none; scanned = λ e m. ap (λ l. scan 0 2 (l ++ e)) (sym none); decides = λ x e. ap (λ l. decided 0 2 (l ++ e)) (sym none) };
+  stage =
+      record {
+        split = none;
+        long = ap (λ l. 0 + length l) none;
+        scanned = λ e m. ap (λ l. scan 0 2 (l ++ e)) (sym none);
+        decides = λ x e. ap (λ l. decided 0 2 (l ++ e)) (sym none);
+      };
   at = refl;
   found = λ w. unlike false w refl;
   idle = λ w. subst (Idle false 0) (sym none) (none-so-far [], omega arith);
@@ -206,19 +215,31 @@ module _ (s : List Bool) (out : List (ℕ × Frame)) (r : Reader) (k : Kept s ou
 
   cut : heldBits (r .cells) (r .candidate .end) (r .candidate .held - m) ≡ drop m (bitsOf r)
   unfolding candidateBits
-  cut = sym (ap (λ n. drop n (bitsOf r)) (sym back) ∙ held-part (r .cells) (r .candidate .end) (r .candidate .held) (r .candidate .held - m) (omega arith) (k .accepted .low))
+  cut =
+      sym (ap (λ n. drop n (bitsOf r)) (sym back)
+      ∙ held-part (r .cells) (r .candidate .end) (r .candidate .held) (r .candidate .held - m) (omega arith) (k .accepted .low))
 
   rest-scan : (e : List Bool) → scan 0 (2 + k .gone) (bitsOf r ++ e) ≡ hit ∷ scan 0 (2 + (k .gone + m)) (drop m (bitsOf r) ++ e)
   unfolding m hit
   rest-scan e =
       scan-hit (2 + k .gone) (bitsOf r ++ e) (stands-append (bitsOf r) e stood)
-      ∙ rw (placed-append (2 + k .gone) (bitsOf r) e stood, n-append (bitsOf r) e (stands-long (bitsOf r) stood), drop-append-le m (bitsOf r) e within, add-assoc 2 (k .gone) m)
+      ∙ rw (
+        placed-append (2 + k .gone) (bitsOf r) e stood,
+        n-append (bitsOf r) e (stands-long (bitsOf r) stood),
+        drop-append-le m (bitsOf r) e within,
+        add-assoc 2 (k .gone) m,
+      )
 
   rest-decided : (e : List Bool) → decided 0 (2 + k .gone) (bitsOf r ++ e) ≡ hit ∷ decided 0 (2 + (k .gone + m)) (drop m (bitsOf r) ++ e)
   unfolding m hit
   rest-decided e =
       decided-hit (2 + k .gone) (bitsOf r ++ e) (stands-append (bitsOf r) e stood)
-      ∙ rw (placed-append (2 + k .gone) (bitsOf r) e stood, n-append (bitsOf r) e (stands-long (bitsOf r) stood), drop-append-le m (bitsOf r) e within, add-assoc 2 (k .gone) m)
+      ∙ rw (
+        placed-append (2 + k .gone) (bitsOf r) e stood,
+        n-append (bitsOf r) e (stands-long (bitsOf r) stood),
+        drop-append-le m (bitsOf r) e within,
+        add-assoc 2 (k .gone) m,
+      )
 
   one-more : (rest all : List Placed) → all ≡ hit ∷ rest → k .hits ++ all ≡ (k .hits ++ (hit ∷ [])) ++ rest
   one-more rest all e = ap (λ l. k .hits ++ l) e ∙ sym (append-assoc (k .hits) (hit ∷ []) rest)

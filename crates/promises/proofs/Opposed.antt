@@ -35,7 +35,8 @@ same-halt : (h : Hunted) → haltOf (turnedHunt h) ≡ haltOf h
 unfolding haltOf turnedHunt
 same-halt h = ap (λ n. record { left = n; words = h .words; found = h .found }) (length-map (h .rest) not)
 
-module _ (cells cells′ : List ℕ) (len : length cells ≡ 40) (len′ : length cells′ ≡ 40) (end end′ n : ℕ) (top : end ≤ 1280) (top′ : end′ ≤ 1280) (low : n ≤ end) (low′ : n ≤ end′)
+module _ (cells cells′ : List ℕ) (len : length cells ≡ 40) (len′ : length cells′ ≡ 40) (end end′ n : ℕ) (top : end ≤ 1280) (top′ : end′ ≤ 1280)
+    (low : n ≤ end) (low′ : n ≤ end′)
     (k : ℕ) (e : Bool) (is : heldBits cells′ end′ n ≡ map not (heldBits cells end n)) where
   halt : huntOf cells′ end′ n k e ≡ huntOf cells end n k e
   unfolding huntOf
@@ -61,12 +62,14 @@ module _ (cells : List ℕ) (len : length cells ≡ 40) (c : Candidate) (a : Acc
     (cells′ : List ℕ) (len′ : length cells′ ≡ 40) (c′ : Candidate) (a′ : Accepted c′) (o : Opposed cells c cells′ c′) where
   -- six bits more, turned over against each other
   pub step-opposed : c .waits ≡ false → (b d : ℕ) → six d ≡ map not (six b)
-      → Opposed (stepCells cells c (number (six b))) (stepTo cells c (number (six b))) (stepCells cells′ c′ (number (six d))) (stepTo cells′ c′ (number (six d)))
+      → Opposed (stepCells cells c (number (six b))) (stepTo cells c (number (six b)))
+      (stepCells cells′ c′ (number (six d))) (stepTo cells′ c′ (number (six d)))
   step-opposed w b d t =
       subst (Opposed (stepCells cells c x) (stepTo cells c x) (stepCells cells′ c′ x′)) (sym step-is)
       (unfold stepTo in stopped-opposed (stepCells cells c x) (stepCells cells′ c′ x′) (length-step cells len c a w x) (length-step cells′ len′ c′ a′ w′ x′)
       (roomEnd (c .end) (c .held) + 6) (roomEnd (c′ .end) (c′ .held) + 6) (c .held + 6) (step-top cells len c a w x) (step-top cells′ len′ c′ a′ w′ x′)
-      (step-low cells len c a w x) (subst (λ h. h + 6 ≤ roomEnd (c′ .end) (c′ .held) + 6) (o .held) (step-low cells′ len′ c′ a′ w′ x′)) (c .words) false bits-are (c .at) (c .held + 6))
+      (step-low cells len c a w x) (subst (λ h. h + 6 ≤ roomEnd (c′ .end) (c′ .held) + 6) (o .held) (step-low cells′ len′ c′ a′ w′ x′))
+      (c .words) false bits-are (c .at) (c .held + 6))
     where
       x : ℕ
       x = number (six b)
@@ -77,10 +80,15 @@ module _ (cells : List ℕ) (len : length cells ≡ 40) (c : Candidate) (a : Acc
       w′ : c′ .waits ≡ false
       w′ = o .waits ∙ w
 
-      step-is : stepTo cells′ c′ x′ ≡ movedTo (c .at) (roomEnd (c′ .end) (c′ .held) + 6) (c .held + 6) (huntOf (stepCells cells′ c′ x′) (roomEnd (c′ .end) (c′ .held) + 6) (c .held + 6) (c .words) false)
-      step-is = unfold stepTo in (λ i. movedTo (o .at i) (roomEnd (c′ .end) (c′ .held) + 6) (o .held i + 6) (huntOf (stepCells cells′ c′ x′) (roomEnd (c′ .end) (c′ .held) + 6) (o .held i + 6) (o .words i) false))
+      step-is : stepTo cells′ c′ x′
+          ≡ movedTo (c .at) (roomEnd (c′ .end) (c′ .held) + 6) (c .held + 6)
+          (huntOf (stepCells cells′ c′ x′) (roomEnd (c′ .end) (c′ .held) + 6) (c .held + 6) (c .words) false)
+      step-is =
+          unfold stepTo in (λ i. movedTo (o .at i) (roomEnd (c′ .end) (c′ .held) + 6) (o .held i + 6)
+          (huntOf (stepCells cells′ c′ x′) (roomEnd (c′ .end) (c′ .held) + 6) (o .held i + 6) (o .words i) false))
 
-      bits-are : heldBits (stepCells cells′ c′ x′) (roomEnd (c′ .end) (c′ .held) + 6) (c .held + 6) ≡ map not (heldBits (stepCells cells c x) (roomEnd (c .end) (c .held) + 6) (c .held + 6))
+      bits-are : heldBits (stepCells cells′ c′ x′) (roomEnd (c′ .end) (c′ .held) + 6) (c .held + 6)
+          ≡ map not (heldBits (stepCells cells c x) (roomEnd (c .end) (c .held) + 6) (c .held + 6))
       bits-are =
           ap (λ h. heldBits (stepCells cells′ c′ x′) (roomEnd (c′ .end) (c′ .held) + 6) (h + 6)) (sym (o .held))
           ∙ step-bits cells′ len′ c′ a′ w′ x′ (six-lt d)
@@ -91,7 +99,8 @@ module _ (cells : List ℕ) (len : length cells ≡ 40) (c : Candidate) (a : Acc
   pub end-opposed : Opposed cells (endTo cells c) cells′ (endTo cells′ c′)
   end-opposed =
       subst (Opposed cells (endTo cells c) cells′) (sym end-is)
-      (unfold endTo in stopped-opposed cells cells′ len len′ (c .end) (c′ .end) (c .held) (a .top) (a′ .top) (a .low) (subst (λ h. h ≤ c′ .end) (o .held) (a′ .low)) (c .words) true bits-are (c .at) (c .held))
+      (unfold endTo in stopped-opposed cells cells′ len len′ (c .end) (c′ .end) (c .held) (a .top) (a′ .top) (a .low)
+      (subst (λ h. h ≤ c′ .end) (o .held) (a′ .low)) (c .words) true bits-are (c .at) (c .held))
     where
       end-is : endTo cells′ c′ ≡ movedTo (c .at) (c′ .end) (c .held) (huntOf cells′ (c′ .end) (c .held) (c .words) true)
       end-is = unfold endTo in (λ i. movedTo (o .at i) (c′ .end) (o .held i) (huntOf cells′ (c′ .end) (o .held i) (o .words i) true))
@@ -102,7 +111,8 @@ module _ (cells : List ℕ) (len : length cells ≡ 40) (c : Candidate) (a : Acc
   pub take-opposed : Stands (candidateBits cells c) → (ended : Bool) → Opposed cells (takeTo cells c ended) cells′ (takeTo cells′ c′ ended)
   take-opposed s ended =
       subst (Opposed cells (takeTo cells c ended) cells′) (sym take-is)
-      (unfold takeTo in stopped-opposed cells cells′ len len′ (c .end) (c′ .end) (c .held - m) (a .top) (a′ .top) (omega (arith, a .low)) (omega (arith, a′ .low, o .held)) 0 ended bits-are (c .at) (c .held))
+      (unfold takeTo in stopped-opposed cells cells′ len len′ (c .end) (c′ .end) (c .held - m) (a .top) (a′ .top) (omega (arith, a .low))
+      (omega (arith, a′ .low, o .held)) 0 ended bits-are (c .at) (c .held))
     where
       m : ℕ
       m = 30 * size (candidateBits cells c)

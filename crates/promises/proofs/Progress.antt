@@ -24,10 +24,11 @@ use Rattle.promises.proofs.Kept.{held-long}
 use Rattle.promises.proofs.Runs.{not-done, says-done, all-by, sound-taken, Sound, kept-sound, never-past}
 use Rattle.promises.proofs.EveryReader.{fed-parts, next-is-accepted}
 use Rattle.listing.specs.Text.{frameLine}
-use Rattle.listing.specs.Listing.{begun, fedOn, handedOn, Lines, lineThen, linesOf, lineRoom, endRoom, refusedListing, listed, pieceBy, finalLines, endOrder, finishBy, saysListed}
-use Rattle.promises.specs.Course.{Piece, courseOf, Answered, NothingLeft, PieceTaken, Roomy, Reached, TextComes}
+use Rattle.listing.specs.Listing.{begun, fedOn, handedOn, Lines, lineThen, linesOf, lineRoom, endRoom}
+use Rattle.listing.specs.Listing.{refusedListing, listed, pieceBy, finalLines, endOrder, finishBy, saysListed}
+use Rattle.promises.specs.Course.{Piece, courseOf, NotRefused, NothingLeft, PieceTaken, Roomy, Reached, TextComes}
 use Rattle.promises.proofs.Telling.{Told, told-none, line-some, none-there, told-fed, told-taken, fed-held, taken-less, lines-go}
-use Rattle.promises.proofs.Pieces.{CourseTells, done-answered, piece-is, piece-tells, course-tells, piece-ended, course-goes}
+use Rattle.promises.proofs.Pieces.{CourseTells, done-not-refused, piece-is, piece-tells, course-tells, piece-ended, course-goes}
 use Rattle.promises.proofs.Whole.{idle-takes, lines-takes, text-is-whole}
 use Rattle.listing.specs.declared.Listing.{Listing}
 use Rattle.listing.specs.declared.Listed.{Listed}
@@ -51,7 +52,8 @@ module _ (l : Listing) (bs : List ℕ) (len : length (l .reader .cells) ≡ 40) 
   all-used : fedAllBy (l .reader) bs .reader .candidate .waits ≡ false → fedAllBy (l .reader) bs .used ≡ length bs
   all-used none = go (l .reader .candidate .waits) refl
     where
-      settle : (fedAllBy (l .reader) bs .used ≡ length bs) ⊎ (fedAllBy (l .reader) bs .reader .candidate .waits ≡ true) → fedAllBy (l .reader) bs .used ≡ length bs
+      settle : (fedAllBy (l .reader) bs .used ≡ length bs) ⊎ (fedAllBy (l .reader) bs .reader .candidate .waits ≡ true)
+          → fedAllBy (l .reader) bs .used ≡ length bs
       settle (inl e) = e
       settle (inr w) = unlike _ w none
 
@@ -76,17 +78,23 @@ module _ (l : Listing) (bs : List ℕ) (len : length (l .reader .cells) ≡ 40) 
           → (lineThen a (fedOn l bs) line rest .used ≡ length bs) × (past (lineThen a (fedOn l bs) line rest .listing .reader) ≡ false)
           × (lineThen a (fedOn l bs) line rest .listing .reader .ended ≡ false) × (lineThen a (fedOn l bs) line rest .listing .reader .candidate .waits ≡ false)
       go Done ea none =
-          absurd (omega (arith, length-append line (rest .text), line-some (takenBy (fedOn l bs .listing .reader) .at) (takenBy (fedOn l bs .listing .reader) .frame)))
+          absurd (omega (
+            arith,
+            length-append line (rest .text),
+            line-some (takenBy (fedOn l bs .listing .reader) .at) (takenBy (fedOn l bs .listing .reader) .frame),
+          ))
       go (Refused n) ea none =
           let quiet = none-there (fedAllBy (l .reader) bs .reader) fit n ea in
           unfold fedOn in (all-used quiet, accepted, fed-goes, quiet)
 
-finish-answers : (l : Listing) (room : ℕ) → past (l .reader) ≡ false → l .reader .ended ≡ false → l .reader .candidate .waits ≡ false → endRoom ≤ room → finishBy l room .answer ≡ Done
+finish-answers : (l : Listing) (room : ℕ) → past (l .reader) ≡ false → l .reader .ended ≡ false → l .reader .candidate .waits ≡ false → endRoom ≤ room
+    → finishBy l room .answer ≡ Done
 unfolding finishBy
 finish-answers l room p e w h =
     ap (λ (x : Listed). x .answer) (order-answers (refusedListing l) (listed (finalLines l)) (endOrder l room) (p, (e, (w, (le-ltb room endRoom h, tt)))))
 
-idle-piece : (l : Listing) (bs : List ℕ) (room : ℕ) → length (l .reader .cells) ≡ 40 → Sound (fedAllBy (l .reader) bs .reader) → pieceBy l bs room .answer ≡ Done → pieceBy l bs room .written ≡ 0
+idle-piece : (l : Listing) (bs : List ℕ) (room : ℕ) → length (l .reader .cells) ≡ 40 → Sound (fedAllBy (l .reader) bs .reader)
+    → pieceBy l bs room .answer ≡ Done → pieceBy l bs room .written ≡ 0
     → (pieceBy l bs room .used ≡ length bs) × ((n : ℕ) → endRoom ≤ n → finishBy (pieceBy l bs room .listing) n .answer ≡ Done)
 unfolding pieceBy
 idle-piece l bs room len fit = go (past (l .reader)) refl (l .reader .ended) refl (ltb room lineRoom) refl
@@ -95,7 +103,8 @@ idle-piece l bs room len fit = go (past (l .reader)) refl (l .reader .ended) ref
         → inOrder ((p, 5) ∷ (e, 3) ∷ (s, 13) ∷ []) (refusedListing l) (listed (linesOf (room / lineRoom) l bs)) .answer ≡ Done
         → inOrder ((p, 5) ∷ (e, 3) ∷ (s, 13) ∷ []) (refusedListing l) (listed (linesOf (room / lineRoom) l bs)) .written ≡ 0
         → (inOrder ((p, 5) ∷ (e, 3) ∷ (s, 13) ∷ []) (refusedListing l) (listed (linesOf (room / lineRoom) l bs)) .used ≡ length bs)
-        × ((n : ℕ) → endRoom ≤ n → finishBy (inOrder ((p, 5) ∷ (e, 3) ∷ (s, 13) ∷ []) (refusedListing l) (listed (linesOf (room / lineRoom) l bs)) .listing) n .answer ≡ Done)
+        × ((n : ℕ) → endRoom ≤ n
+        → finishBy (inOrder ((p, 5) ∷ (e, 3) ∷ (s, 13) ∷ []) (refusedListing l) (listed (linesOf (room / lineRoom) l bs)) .listing) n .answer ≡ Done)
     go true ep e ee s es d w = not-done 5 d
     go false ep true ee s es d w = not-done 3 d
     go false ep false ee true es d w = not-done 13 d
@@ -112,7 +121,8 @@ lines-less : (k : ℕ) → 0 < k → (l : Listing) (bs used : List ℕ) (out : L
 unfolding linesOf
 lines-less zero h l bs used out t g some = absurd (omega arith)
 lines-less (suc k) h l bs used out t g some =
-    go (takenBy (fedOn l bs .listing .reader) .answer) refl (λ e. lines-go k _ (drop (fedOn l bs .used) bs) _ _ (told-taken _ _ _ (told-fed used out l t bs) e) .1)
+    go (takenBy (fedOn l bs .listing .reader) .answer) refl
+    (λ e. lines-go k _ (drop (fedOn l bs .used) bs) _ _ (told-taken _ _ _ (told-fed used out l t bs) e) .1)
   where
     fine : past (l .reader) ≡ false
     fine = never-past _ _ _ (t .kept)
@@ -126,7 +136,8 @@ lines-less (suc k) h l bs used out t g some =
     rest : Lines
     rest = linesOf k next (drop (fedOn l bs .used) bs)
 
-    byte : (l .reader .candidate .waits ≡ true) ⊎ (1 ≤ length bs) → fedAllBy (l .reader) bs .reader .candidate .waits ≡ false → 1 ≤ fedAllBy (l .reader) bs .used
+    byte : (l .reader .candidate .waits ≡ true) ⊎ (1 ≤ length bs) → fedAllBy (l .reader) bs .reader .candidate .waits ≡ false
+        → 1 ≤ fedAllBy (l .reader) bs .used
     byte (inl w) none = unlike _ w (sym (ap (λ (f : FedAll). f .reader .candidate .waits) (all-by (l .reader) false false true fine g w bs)) ∙ none)
     byte (inr b) none = omega (arith, all-used l bs (t .kept .len) fine g none)
 
@@ -147,7 +158,8 @@ empty-or : (bs : List ℕ) → (bs ≡ []) ⊎ (1 ≤ length bs)
 empty-or [] = inl refl
 empty-or (b ∷ bs) = inr (omega arith)
 
-module _ (used : List ℕ) (out : List (ℕ × Frame)) (l : Listing) (t : Told used out l) (goes : l .reader .ended ≡ false) (p : Piece) (room : lineRoom ≤ length (p .1)) (bs : List ℕ) where
+module _ (used : List ℕ) (out : List (ℕ × Frame)) (l : Listing) (t : Told used out l) (goes : l .reader .ended ≡ false) (p : Piece)
+    (room : lineRoom ≤ length (p .1)) (bs : List ℕ) where
   fine : past (l .reader) ≡ false
   fine = never-past _ _ _ (t .kept)
 
@@ -188,7 +200,9 @@ module _ (used : List ℕ) (out : List (ℕ × Frame)) (l : Listing) (t : Told u
     ap (drop (r .used)) (o .0) ∙ drop-nil (r .used),
     ap (λ (y : Listed). y .listing .reader .candidate .waits) step-is
         ∙ ap (λ b. linesOf k l b .listing .reader .candidate .waits) (ap (take (p .0)) (o .0) ∙ take-nil (p .0))
-        ∙ ap (λ (y : Reader). y .candidate .waits) (lines-takes k l ∙ idle-takes k (l .reader) (ap (λ (y : Taken). y .reader) (sound-taken (l .reader) (kept-sound _ _ _ (t .kept)) false (o .1)))) ∙ o .1,
+        ∙ ap (λ (y : Reader). y .candidate .waits)
+        (lines-takes k l ∙ idle-takes k (l .reader)
+        (ap (λ (y : Taken). y .reader) (sound-taken (l .reader) (kept-sound _ _ _ (t .kept)) false (o .1)))) ∙ o .1,
   )
 
 goes-on : (ps : List Piece) (l : Listing) (bs used : List ℕ) (out : List (ℕ × Frame)) → Told used out l → l .reader .ended ≡ false → Roomy ps
@@ -205,7 +219,8 @@ goes-on [] l bs used out t g f (inl h) = (none (empty-or bs), quiet (l .reader .
     quiet false ew = refl
     quiet true ew = absurd (omega (arith, t .kept .found ew .taken, held-long (l .reader) (t .kept .len) (t .kept .accepted)))
 goes-on (p ∷ ps) l bs used out t g f h =
-    goes-on ps _ (drop (pieceBy l (take (p .0) bs) (length (p .1)) .used) bs) _ _ (piece-tells used out l t (take (p .0) bs) (p .1) .is) (step-goes used out l t g p (f .1) bs) (f .2) (next h)
+    goes-on ps _ (drop (pieceBy l (take (p .0) bs) (length (p .1)) .used) bs) _ _ (piece-tells used out l t (take (p .0) bs) (p .1) .is)
+    (step-goes used out l t g p (f .1) bs) (f .2) (next h)
   where
     r : Listed
     r = pieceBy l (take (p .0) bs) (length (p .1))
@@ -229,10 +244,15 @@ module _ (bs : List ℕ) (ps : List Piece) where
   goes-now = course-goes ps begun bs [] [] told-none ∙ (unfold begun started in refl)
 
   pub piece-taken : PieceTaken bs ps
-  piece-taken lent room h = subst (λ (y : Listed). Answered (saysListed y)) (sym (piece-is (courseOf ps begun bs .listing) lent room accepted-now goes-now h)) tt
+  piece-taken lent room h =
+      subst (λ (y : Listed). NotRefused (saysListed y)) (sym (piece-is (courseOf ps begun bs .listing) lent room accepted-now goes-now h)) tt
 
   pub reached : Reached bs ps
-  reached f h = (over .0, λ n e. done-answered _ (finishBy (courseOf ps begun bs .listing) n .answer) (finish-answers (courseOf ps begun bs .listing) n accepted-now goes-now (over .1) e))
+  reached f h = (
+    over .0,
+    λ n e. done-not-refused _ (finishBy (courseOf ps begun bs .listing) n .answer)
+        (finish-answers (courseOf ps begun bs .listing) n accepted-now goes-now (over .1) e),
+  )
     where
       over : Over (courseOf ps begun bs .listing) (courseOf ps begun bs .left)
       over = goes-on ps begun bs [] [] told-none (unfold begun started in refl) f (inl (unfold begun started in omega (arith, h)))
@@ -242,7 +262,7 @@ module _ (bs : List ℕ) (ps : List Piece) where
 
 pub nothing-left : (bs : List ℕ) (ps : List Piece) → NothingLeft bs ps
 nothing-left bs ps lent room u e =
-    (sym (ap (λ (v : ℕ × ℕ). v .0) (says .1)) ∙ q .0, λ n h. done-answered _ (finishBy (pieceBy l lent room .listing) n .answer) (q .1 n h))
+    (sym (ap (λ (v : ℕ × ℕ). v .0) (says .1)) ∙ q .0, λ n h. done-not-refused _ (finishBy (pieceBy l lent room .listing) n .answer) (q .1 n h))
   where
     l : Listing
     l = courseOf ps begun bs .listing

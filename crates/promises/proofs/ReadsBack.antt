@@ -42,7 +42,8 @@ use Rattle.promises.specs.ReadsBack.{CorrectionsBack, HealthsBack, Posit
 
 -- ---- what was made reads back, in the table's terms
 
-pub corrections-back : (h : Header) (es : List Correction) (c : ℕ) (d : Correction) (f : Frame) → corrections.CorrectionsMade h es c d f → CorrectionsBack h es c d f
+pub corrections-back : (h : Header) (es : List Correction) (c : ℕ) (d : Correction) (f : Frame) → corrections.CorrectionsMade h es c d f
+    → CorrectionsBack h es c d f
 unfolding corrections.countCorrections corrections.correctionAt
 corrections-back h es c d f m = record {
   header = m .header;
@@ -134,7 +135,8 @@ what-can-be-sent = record {
       sent-reads-back layout.Correction h
       (makeOrder layout.Correction h ((wrongCount 18 c, 12) ∷ (anyOf corrections.outOfRange (take c es), 10) ∷ []))
       (wordsIn corrections.fill (entryBits corrections.coding (take c es)))
-      (corrections.CorrectionsMade h es c d) (CorrectionsBack h es c d) (corrections-back h es c d) sent (s .header) (sent .reads .header) (sent .reads .inside);
+      (corrections.CorrectionsMade h es c d) (CorrectionsBack h es c d) (corrections-back h es c d) sent
+      (s .header) (sent .reads .header) (sent .reads .inside);
   healths = λ h es c d s.
       let sent = healths-sent h es c d s in
       sent-reads-back layout.Health h
@@ -148,7 +150,8 @@ what-can-be-sent = record {
       (positions.PositionMade h p) (PositionBack h p) (position-back h p) sent (s .header) (sent .reads .header) (sent .reads .inside);
   null = λ h s.
       let sent = null-sent h s in
-      sent-reads-back layout.Null h (makeOrder layout.Null h []) [] (nulls.NullMade h) (NullBack h) (null-back h) sent s (sent .reads .header) (sent .reads .inside);
+      sent-reads-back layout.Null h (makeOrder layout.Null h []) [] (nulls.NullMade h) (NullBack h) (null-back h) sent s
+      (sent .reads .header) (sent .reads .inside);
   text = λ h t s.
       let sent = text-sent h t s in
       sent-reads-back layout.Text h

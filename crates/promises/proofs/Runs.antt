@@ -13,7 +13,8 @@ use Rattle.frame.specs.Frames.{blank}
 use Rattle.frame.specs.declared.Frame.{Frame}
 use Rattle.stream.specs.Standing.{stands, frameAt}
 use Rattle.stream.proofs.Stand.{stands-test}
-use Rattle.reader.specs.Reading.{bitsOf, started, past, frameWaits, stepCells, stepTo, steppedBy, fedBy, Run, runTo, ranBy, fedAllBy, endTo, endedBy, takeTo, takenBy, saysAnswer, carrying, saysNext, saysFedAll, saysTaken}
+use Rattle.reader.specs.Reading.{bitsOf, started, past, frameWaits, stepCells, stepTo, steppedBy, fedBy, Run, runTo, ranBy}
+use Rattle.reader.specs.Reading.{fedAllBy, endTo, endedBy, takeTo, takenBy, saysAnswer, carrying, saysNext, saysFedAll, saysTaken}
 use Rattle.reader.specs.declared.Candidate.{Candidate}
 use Rattle.reader.specs.declared.Reader.{Reader}
 use Rattle.reader.specs.declared.Answer.{Answer}
@@ -23,7 +24,8 @@ use Rattle.reader.specs.declared.FedAll.{FedAll}
 use Rattle.reader.specs.declared.Taken.{Taken}
 use Rattle.reader.proofs.Accepted.{from-accepted}
 use Rattle.reader.proofs.Running.{run-waits, run-on, run-over}
-use Rattle.promises.specs.Calls.{Call, feeds, feedsAll, ends, takes, replied, used, took, replyTo, after, bitsGiven, frameGiven, afterAll, bitsTaken, handedOut}
+use Rattle.promises.specs.Calls.{Call, feeds, feedsAll, ends, takes, replied, used, took}
+use Rattle.promises.specs.Calls.{replyTo, after, bitsGiven, frameGiven, afterAll, bitsTaken, handedOut}
 use Rattle.promises.proofs.Kept.{Kept, kept-started, kept-pushed, kept-ended, kept-taken}
 
 -- ---- what an answer says
@@ -47,19 +49,28 @@ says-refused v n (Refused m) e = ap Refused (let z : m ≡ n = cc in z)
 
 module _ (r : Reader) (p x y : Bool) (ep : past r ≡ p) (ex : r .ended ≡ x) (ey : r .candidate .waits ≡ y) where
   pub fed-by : (b : ℕ) (z : Bool) → isData b ≡ z
-      → fedBy r b ≡ inOrder ((p, 5) ∷ (x, 3) ∷ (y, 2) ∷ (not z, 1) ∷ []) (λ n. record { answer = Refused n; reader = r }) (record { answer = Done; reader = steppedBy r b })
+      → fedBy r b ≡ inOrder ((p, 5) ∷ (x, 3) ∷ (y, 2) ∷ (not z, 1) ∷ []) (λ n. record { answer = Refused n; reader = r })
+      (record { answer = Done; reader = steppedBy r b })
   unfolding fedBy
-  fed-by b z ez = λ i. inOrder ((ep i, 5) ∷ (ex i, 3) ∷ (ey i, 2) ∷ (not (ez i), 1) ∷ []) (λ n. record { answer = Refused n; reader = r }) (record { answer = Done; reader = steppedBy r b })
+  fed-by b z ez =
+      λ i. inOrder ((ep i, 5) ∷ (ex i, 3) ∷ (ey i, 2) ∷ (not (ez i), 1) ∷ []) (λ n. record { answer = Refused n; reader = r })
+      (record { answer = Done; reader = steppedBy r b })
 
   pub all-by : (bs : List ℕ) → fedAllBy r bs
-      ≡ inOrder ((p, 5) ∷ (x, 3) ∷ (y, 2) ∷ []) (λ n. record { answer = Refused n; used = 0; passed = 0; reader = r }) (ranBy r (runTo (r .cells) (r .candidate) bs))
+      ≡ inOrder ((p, 5) ∷ (x, 3) ∷ (y, 2) ∷ []) (λ n. record { answer = Refused n; used = 0; passed = 0; reader = r })
+      (ranBy r (runTo (r .cells) (r .candidate) bs))
   unfolding fedAllBy
-  all-by bs = λ i. inOrder ((ep i, 5) ∷ (ex i, 3) ∷ (ey i, 2) ∷ []) (λ n. record { answer = Refused n; used = 0; passed = 0; reader = r }) (ranBy r (runTo (r .cells) (r .candidate) bs))
+  all-by bs =
+      λ i. inOrder ((ep i, 5) ∷ (ex i, 3) ∷ (ey i, 2) ∷ []) (λ n. record { answer = Refused n; used = 0; passed = 0; reader = r })
+      (ranBy r (runTo (r .cells) (r .candidate) bs))
 
   pub ended-by : endedBy r
-      ≡ inOrder ((p, 5) ∷ (x, 3) ∷ (y, 2) ∷ []) (λ n. record { answer = Refused n; reader = r }) (record { answer = Done; reader = record { cells = r .cells; candidate = endTo (r .cells) (r .candidate); ended = true } })
+      ≡ inOrder ((p, 5) ∷ (x, 3) ∷ (y, 2) ∷ []) (λ n. record { answer = Refused n; reader = r })
+      (record { answer = Done; reader = record { cells = r .cells; candidate = endTo (r .cells) (r .candidate); ended = true } })
   unfolding endedBy
-  ended-by = λ i. inOrder ((ep i, 5) ∷ (ex i, 3) ∷ (ey i, 2) ∷ []) (λ n. record { answer = Refused n; reader = r }) (record { answer = Done; reader = record { cells = r .cells; candidate = endTo (r .cells) (r .candidate); ended = true } })
+  ended-by =
+      λ i. inOrder ((ep i, 5) ∷ (ex i, 3) ∷ (ey i, 2) ∷ []) (λ n. record { answer = Refused n; reader = r })
+      (record { answer = Done; reader = record { cells = r .cells; candidate = endTo (r .cells) (r .candidate); ended = true } })
 
 -- what taking gives
 unfoldable pub given : Reader → Taken
@@ -130,7 +141,8 @@ kept-run (b ∷ bs) s out cells c k = go (c .waits) refl (isData b) refl (λ q. 
         (on (unfold steppedBy in kept-pushed s out (going cells c) b k refl w)))
     go false w false d on over =
         subst P (sym (run-over cells c b bs w d))
-        (subst (λ l. Kept (s ++ l) out (going (runTo cells c bs .cells) (runTo cells c bs .candidate))) (sym (first-bits b bs (runTo cells c bs .used) false d)) over)
+        (subst (λ l. Kept (s ++ l) out (going (runTo cells c bs .cells) (runTo cells c bs .candidate)))
+        (sym (first-bits b bs (runTo cells c bs .used) false d)) over)
 
 -- ---- any call
 
@@ -171,7 +183,8 @@ module _ (s : List Bool) (out : List (ℕ × Frame)) (r : Reader) (k : Kept s ou
       go false ex false ey =
           subst P (sym (all-by r false false false fine ex ey bs))
           (unfold bitsGiven in subst₂ (λ o e. Kept (s ++ lineBits (take (x .used) bs)) o (record { cells = x .cells; candidate = x .candidate; ended = e }))
-          (sym (append-nil out)) (sym ex) (kept-run bs s out (r .cells) (r .candidate) (subst (λ e. Kept s out (record { cells = r .cells; candidate = r .candidate; ended = e })) ex k)))
+          (sym (append-nil out)) (sym ex)
+          (kept-run bs s out (r .cells) (r .candidate) (subst (λ e. Kept s out (record { cells = r .cells; candidate = r .candidate; ended = e })) ex k)))
 
   kept-end : Kept (s ++ []) (out ++ []) (endedBy r .reader)
   kept-end = go (r .ended) refl (r .candidate .waits) refl
@@ -184,7 +197,8 @@ module _ (s : List Bool) (out : List (ℕ × Frame)) (r : Reader) (k : Kept s ou
       go false ex true ey = subst P (sym (ended-by r false false true fine ex ey)) same
       go false ex false ey =
           subst P (sym (ended-by r false false false fine ex ey))
-          (subst₂ (λ a b. Kept a b (record { cells = r .cells; candidate = endTo (r .cells) (r .candidate); ended = true })) (sym (append-nil s)) (sym (append-nil out)) (kept-ended s out r k ex ey))
+          (subst₂ (λ a b. Kept a b (record { cells = r .cells; candidate = endTo (r .cells) (r .candidate); ended = true })) (sym (append-nil s))
+          (sym (append-nil out)) (kept-ended s out r k ex ey))
 
   kept-take : Kept (s ++ []) (out ++ frameGiven (took (saysTaken (takenBy r)))) (takenBy r .reader)
   kept-take = go (r .candidate .waits) refl
@@ -197,7 +211,8 @@ module _ (s : List Bool) (out : List (ℕ × Frame)) (r : Reader) (k : Kept s ou
       go true ey =
           subst P (sym (sound-taken r (kept-sound s out r k) true ey))
           (unfold given frameGiven in subst (λ a. Kept a (out ++ ((r .candidate .at, frameAt (bitsOf r)) ∷ []))
-          (record { cells = r .cells; candidate = takeTo (r .cells) (r .candidate) (r .ended); ended = r .ended })) (sym (append-nil s)) (kept-taken s out r k ey))
+          (record { cells = r .cells; candidate = takeTo (r .cells) (r .candidate) (r .ended); ended = r .ended })) (sym (append-nil s))
+          (kept-taken s out r k ey))
 
 -- the bits of bytes fed are those of the ones used, where it is refused too
 pub all-bits : (r : Reader) (bs : List ℕ) → bitsGiven (feedsAll bs) (replyTo r (feedsAll bs)) ≡ lineBits (take (fedAllBy r bs .used) bs)
@@ -213,14 +228,16 @@ all-bits r bs = go (past r) refl (r .ended) refl (r .candidate .waits) refl
     go false ep false ex true ey = subst P (sym (all-by r false false true ep ex ey bs)) (unfold bitsGiven lineBits in refl)
     go false ep false ex false ey = subst P (sym (all-by r false false false ep ex ey bs)) (unfold bitsGiven in refl)
 
-pub kept-call : (s : List Bool) (out : List (ℕ × Frame)) (r : Reader) (c : Call) → Kept s out r → Kept (s ++ bitsGiven c (replyTo r c)) (out ++ frameGiven (replyTo r c)) (after r c)
+pub kept-call : (s : List Bool) (out : List (ℕ × Frame)) (r : Reader) (c : Call) → Kept s out r
+    → Kept (s ++ bitsGiven c (replyTo r c)) (out ++ frameGiven (replyTo r c)) (after r c)
 kept-call s out r (feeds b) k = unfold replyTo after frameGiven in kept-fed s out r k b
 kept-call s out r (feedsAll bs) k = unfold replyTo after frameGiven in kept-all s out r k bs
 kept-call s out r ends k = unfold replyTo after bitsGiven frameGiven in kept-end s out r k
 kept-call s out r takes k = unfold replyTo after bitsGiven in kept-take s out r k
 
 -- ANY LIST OF CALLS
-pub kept-calls : (cs : List Call) (s : List Bool) (out : List (ℕ × Frame)) (r : Reader) → Kept s out r → Kept (s ++ bitsTaken r cs) (out ++ handedOut r cs) (afterAll r cs)
+pub kept-calls : (cs : List Call) (s : List Bool) (out : List (ℕ × Frame)) (r : Reader) → Kept s out r
+    → Kept (s ++ bitsTaken r cs) (out ++ handedOut r cs) (afterAll r cs)
 unfolding bitsTaken handedOut afterAll
 kept-calls [] s out r k = same s out r k
 kept-calls (c ∷ cs) s out r k =

@@ -41,7 +41,8 @@ pub bits-append : (cs ds : List Call) (r : Reader) → bitsTaken r (cs ++ ds) �
 unfolding afterAll bitsTaken
 bits-append [] ds r = refl
 bits-append (c ∷ cs) ds r =
-    ap (λ l. bitsGiven c (replyTo r c) ++ l) (bits-append cs ds (after r c)) ∙ sym (append-assoc (bitsGiven c (replyTo r c)) (bitsTaken (after r c) cs) (bitsTaken (afterAll (after r c) cs) ds))
+    ap (λ l. bitsGiven c (replyTo r c) ++ l) (bits-append cs ds (after r c))
+    ∙ sym (append-assoc (bitsGiven c (replyTo r c)) (bitsTaken (after r c) cs) (bitsTaken (afterAll (after r c) cs) ds))
 
 -- ---- takings
 
@@ -69,7 +70,8 @@ unfolding after
 idle-take s out r k w = ap (λ (t : Taken). t .reader) (sound-taken r (kept-sound s out r k) false w)
 
 -- a frame has at least 60 bits
-pub fewer : (s : List Bool) (out : List (ℕ × Frame)) (r : Reader) → Kept s out r → r .candidate .waits ≡ true → after r takes .candidate .held + 60 ≤ r .candidate .held
+pub fewer : (s : List Bool) (out : List (ℕ × Frame)) (r : Reader) → Kept s out r → r .candidate .waits ≡ true
+    → after r takes .candidate .held + 60 ≤ r .candidate .held
 fewer s out r k w = subst (λ (t : Reader). t .candidate .held + 60 ≤ r .candidate .held) (sym is) less
   where
     is : after r takes ≡ given r .reader
@@ -81,7 +83,13 @@ fewer s out r k w = subst (λ (t : Reader). t .candidate .held + 60 ≤ r .candi
     less : given r .reader .candidate .held + 60 ≤ r .candidate .held
     less =
         unfold given takeTo movedTo in
-        omega (arith, left-le (r .cells) (k .len) (r .candidate .end) (r .candidate .held - 30 * size (bitsOf r)) (k .accepted .top) (omega (arith, k .accepted .low)) 0 (r .ended), k .found w .taken, held-long r (k .len) (k .accepted))
+        omega (
+          arith,
+          left-le (r .cells) (k .len) (r .candidate .end) (r .candidate .held - 30 * size (bitsOf r)) (k .accepted .top)
+              (omega (arith, k .accepted .low)) 0 (r .ended),
+          k .found w .taken,
+          held-long r (k .len) (k .accepted),
+        )
 
 pub drained : (n : ℕ) (s : List Bool) (out : List (ℕ × Frame)) (r : Reader) → Kept s out r → r .candidate .held < 62 + 60 * n
     → afterAll r (replicate n takes) .candidate .waits ≡ false
@@ -97,7 +105,8 @@ drained (suc n) s out r k h = go (r .candidate .waits) refl (λ l. drained n _ _
     still zero q e w = unfold afterAll in ap (λ (t : Reader). t .candidate .waits) e ∙ w
     still (suc m) q e w = unfold afterAll in still m (after q takes) (ap (λ t. after t takes) e ∙ idle-take s out r k w) w
 
-    go : (y : Bool) → r .candidate .waits ≡ y → (after r takes .candidate .held < 62 + 60 * n → afterAll (after r takes) (replicate n takes) .candidate .waits ≡ false)
+    go : (y : Bool) → r .candidate .waits ≡ y
+        → (after r takes .candidate .held < 62 + 60 * n → afterAll (after r takes) (replicate n takes) .candidate .waits ≡ false)
         → afterAll (after r takes) (replicate n takes) .candidate .waits ≡ false
     go false w next = still n (after r takes) (idle-take s out r k w) w
     go true w next = next (omega (arith, fewer s out r k w))

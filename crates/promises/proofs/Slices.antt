@@ -15,7 +15,6 @@ use Rattle.reader.specs.Reading.{started, fedAllBy}
 use Rattle.reader.specs.declared.Reader.{Reader}
 use Rattle.reader.specs.declared.FedAll.{FedAll}
 use Rattle.listing.specs.Listing.{fedOn}
-use Rattle.listing.specs.declared.Listing.{Listing}
 use Rattle.listing.proofs.LinesLaws.{fed-used}
 use Rattle.promises.specs.Calls.{Call, feedsAll, after, bitsGiven, replyTo, afterAll, bitsTaken, outcome, takesAll, inSlices, unused}
 use Rattle.promises.specs.Demand3.{feedEach, InSlices}
@@ -35,7 +34,8 @@ feed-none : (r : Reader) (bs : List ℕ) → feedEach r (take 0 bs) ≡ r
 unfolding feedEach
 feed-none r bs = refl
 
-module _ (s : List Bool) (out : List (ℕ × Frame)) (r : Reader) (k : Kept s out r) (e : r .ended ≡ false) (w : r .candidate .waits ≡ false) (n : ℕ) (bs : List ℕ) where
+module _ (s : List Bool) (out : List (ℕ × Frame)) (r : Reader) (k : Kept s out r) (e : r .ended ≡ false) (w : r .candidate .waits ≡ false) (n : ℕ)
+    (bs : List ℕ) where
   abbrev slice : List Call
   slice = feedsAll (take n bs) ∷ takesAll
 
@@ -56,11 +56,14 @@ module _ (s : List Bool) (out : List (ℕ × Frame)) (r : Reader) (k : Kept s ou
   -- its bits and those of the bytes that are not used are those of the bytes
   slice-bits : bitsTaken r slice ++ lineBits (drop u bs) ≡ lineBits bs
   slice-bits =
-      ap (λ l. l ++ lineBits (drop u bs)) (first ∙ append-nil (bitsGiven (feedsAll (take n bs)) (replyTo r (feedsAll (take n bs)))) ∙ all-bits r (take n bs) ∙ ap lineBits same)
+      ap (λ l. l ++ lineBits (drop u bs))
+      (first ∙ append-nil (bitsGiven (feedsAll (take n bs)) (replyTo r (feedsAll (take n bs)))) ∙ all-bits r (take n bs) ∙ ap lineBits same)
       ∙ sym (bits-after (take u bs) (drop u bs)) ∙ ap lineBits (take-append-drop u bs)
     where
       first : bitsTaken r slice ≡ bitsGiven (feedsAll (take n bs)) (replyTo r (feedsAll (take n bs))) ++ []
-      first = unfold bitsTaken in ap (λ l. bitsGiven (feedsAll (take n bs)) (replyTo r (feedsAll (take n bs))) ++ l) (takes-no-bit 16 (after r (feedsAll (take n bs))))
+      first =
+          unfold bitsTaken in ap (λ l. bitsGiven (feedsAll (take n bs)) (replyTo r (feedsAll (take n bs))) ++ l)
+          (takes-no-bit 16 (after r (feedsAll (take n bs))))
 
       same : take u (take n bs) ≡ take u bs
       same = sym (take-append-le u (take n bs) (drop n bs) (used-le r (take n bs))) ∙ ap (take u) (take-append-drop n bs)
@@ -91,9 +94,11 @@ some-or [] = inl refl
 some-or (b ∷ bs) = inr (omega arith)
 
 sliced : (ns bs : List ℕ) (s : List Bool) (out : List (ℕ × Frame)) (r : Reader) → Kept s out r → r .ended ≡ false → r .candidate .waits ≡ false → Sliced r ns bs
-sliced [] bs s out r k e w = record { bits = unfold inSlices unused bitsTaken in refl; none = unfold inSlices afterAll in w; all = λ some h. unfold unused in empty bs h }
+sliced [] bs s out r k e w =
+    record { bits = unfold inSlices unused bitsTaken in refl; none = unfold inSlices afterAll in w; all = λ some h. unfold unused in empty bs h }
 sliced (n ∷ ns) bs s out r k e w =
-    later (sliced ns (drop (fedAllBy r (take n bs) .used) bs) _ _ (afterAll r (feedsAll (take n bs) ∷ takesAll)) (kept-calls (feedsAll (take n bs) ∷ takesAll) s out r k)
+    later (sliced ns (drop (fedAllBy r (take n bs) .used) bs) _ _ (afterAll r (feedsAll (take n bs) ∷ takesAll))
+    (kept-calls (feedsAll (take n bs) ∷ takesAll) s out r k)
     (slice-goes s out r k e w n bs) (slice-waits s out r k e w n bs))
   where
     cs : List Call
@@ -117,4 +122,5 @@ sliced (n ∷ ns) bs s out r k e w =
         fewer (inr z) some h = omega (arith, length-drop (fedAllBy r (take n bs) .used) bs, slice-some s out r k e w n bs (some .0) z)
 
 pub in-slices : (ns bs : List ℕ) → InSlices ns bs (unused started ns bs) (outcome (inSlices started ns bs))
-in-slices ns bs = let v = sliced ns bs [] [] started kept-started (unfold started in refl) (unfold started in refl) in record { bits = v .bits; none = v .none; all = v .all }
+in-slices ns bs =
+    let v = sliced ns bs [] [] started kept-started (unfold started in refl) (unfold started in refl) in record { bits = v .bits; none = v .none; all = v .all }

@@ -10,14 +10,14 @@ use Rattle.line.specs.Line.{isData, six, lineBits, without}
 use Rattle.frame.specs.Header.{codeOf}
 use Rattle.frame.specs.declared.Frame.{Frame}
 use Rattle.stream.specs.Standing.{Placed}
-use Rattle.reader.specs.Reading.{past, fedAllBy, takenBy, saysAnswer, carrying, saysTaken}
+use Rattle.reader.specs.Reading.{fedAllBy, takenBy, saysAnswer, carrying, saysTaken}
 use Rattle.reader.specs.declared.Reader.{Reader}
 use Rattle.reader.specs.declared.Taken.{Taken}
 use Rattle.reader.specs.declared.Answer.{Answer}
 use Rattle.reader.specs.declared.Answer.the-variants.{Done, Refused}
 use Rattle.promises.specs.Calls.{feedsAll, takes, took, replyTo, after, bitsGiven, frameGiven, reported}
 use Rattle.promises.proofs.Kept.{Kept, kept-started}
-use Rattle.promises.proofs.Runs.{not-done, given, sound-taken, Sound, kept-sound, never-past, all-bits, kept-call}
+use Rattle.promises.proofs.Runs.{not-done, given, sound-taken, Sound, kept-sound, all-bits, kept-call}
 use Rattle.promises.proofs.Serving.{take-ended, fewer}
 use Rattle.promises.proofs.EveryReader.{fed-parts}
 use Rattle.listing.specs.Text.{decimal, spaced, frameLine, linesIn}
@@ -92,7 +92,9 @@ module _ (used : List ℕ) (out : List (ℕ × Frame)) (l : Listing) (t : Told u
           (unfold after replyTo frameGiven in kept-call (lineBits used) out (l .reader) (feedsAll bs) (t .kept))
 
       more : length used + fedAllBy (l .reader) bs .used ≡ length (used ++ take (fedAllBy (l .reader) bs .used) bs)
-      more = sym (length-append used (take (fedAllBy (l .reader) bs .used) bs) ∙ ap (λ n. length used + n) (length-take-le (fedAllBy (l .reader) bs .used) bs (fed-used l bs)))
+      more =
+          sym (length-append used (take (fedAllBy (l .reader) bs .used) bs)
+          ∙ ap (λ n. length used + n) (length-take-le (fedAllBy (l .reader) bs .used) bs (fed-used l bs)))
 
       lost : without used + fedAllBy (l .reader) bs .passed ≡ without (used ++ take (fedAllBy (l .reader) bs .used) bs)
       lost =
@@ -105,7 +107,9 @@ module _ (used : List ℕ) (out : List (ℕ × Frame)) (l : Listing) (t : Told u
   unfolding handedOn
   told-taken e = record {
     kept = subst₂ (λ s o. Kept s o (takenBy (l .reader) .reader)) (append-nil (lineBits used)) one taken;
-    frames = counted (l .frames) (length out) 1 (t .frames) ∙ ap (λ n. n % 2 ^ 64) (sym (length-append out ((takenBy (l .reader) .at, takenBy (l .reader) .frame) ∷ [])));
+    frames =
+        counted (l .frames) (length out) 1 (t .frames)
+        ∙ ap (λ n. n % 2 ^ 64) (sym (length-append out ((takenBy (l .reader) .at, takenBy (l .reader) .frame) ∷ [])));
     bytes = t .bytes;
     passed = t .passed;
   }
@@ -125,7 +129,8 @@ pub record Tells (used : List ℕ) (out : List (ℕ × Frame)) (bs : List ℕ) (
 
 pub tells : (k : ℕ) (l : Listing) (bs used : List ℕ) (out : List (ℕ × Frame)) → Told used out l → Tells used out bs (linesOf k l bs)
 unfolding linesOf
-tells zero l bs used out t = record { more = []; text = (unfold told in refl); is = subst₂ (λ u o. Told u o l) (sym (append-nil used)) (sym (append-nil out)) t }
+tells zero l bs used out t =
+    record { more = []; text = (unfold told in refl); is = subst₂ (λ u o. Told u o l) (sym (append-nil used)) (sym (append-nil out)) t }
 tells (suc k) l bs used out t =
     go (takenBy (fedOn l bs .listing .reader) .answer) refl
     (λ e. tells k _ (drop (fedOn l bs .used) bs) _ _ (told-taken _ _ _ (told-fed used out l t bs) e))
@@ -140,16 +145,28 @@ tells (suc k) l bs used out t =
     rest = linesOf k (handedOn (fedOn l bs .listing) (takenBy (fedOn l bs .listing .reader) .reader)) (drop (fedOn l bs .used) bs)
 
     go : (a : Answer) → takenBy (fedOn l bs .listing .reader) .answer ≡ a
-        → (takenBy (fedOn l bs .listing .reader) .answer ≡ Done → Tells (used ++ take (fedOn l bs .used) bs) (out ++ ((takenBy (fedOn l bs .listing .reader) .at, takenBy (fedOn l bs .listing .reader) .frame) ∷ [])) (drop (fedOn l bs .used) bs)
+        → (takenBy (fedOn l bs .listing .reader) .answer ≡ Done
+        → Tells (used ++ take (fedOn l bs .used) bs)
+        (out ++ ((takenBy (fedOn l bs .listing .reader) .at, takenBy (fedOn l bs .listing .reader) .frame) ∷ [])) (drop (fedOn l bs .used) bs)
         (linesOf k (handedOn (fedOn l bs .listing) (takenBy (fedOn l bs .listing .reader) .reader)) (drop (fedOn l bs .used) bs)))
         → Tells used out bs (lineThen a (fedOn l bs) (frameLine (takenBy (fedOn l bs .listing .reader) .at) (takenBy (fedOn l bs .listing .reader) .frame))
         (linesOf k (handedOn (fedOn l bs .listing) (takenBy (fedOn l bs .listing .reader) .reader)) (drop (fedOn l bs .used) bs)))
-    go (Refused n) e later = record { more = []; text = (unfold told in refl); is = subst (λ o. Told (used ++ take (fedOn l bs .used) bs) o (fedOn l bs .listing)) (sym (append-nil out)) (told-fed used out l t bs) }
+    go (Refused n) e later =
+        record {
+          more = [];
+          text = (unfold told in refl);
+          is = subst (λ o. Told (used ++ take (fedOn l bs .used) bs) o (fedOn l bs .listing))
+              (sym (append-nil out)) (told-fed used out l t bs);
+        }
     go Done e later = record {
       more = h ∷ later e .more;
-      text = (unfold told in ap (λ r. frameLine (takenBy (fedOn l bs .listing .reader) .at) (takenBy (fedOn l bs .listing .reader) .frame) ++ r) (later e .text));
-      is = (subst₂ (λ u o. Told u o (linesOf k (handedOn (fedOn l bs .listing) (takenBy (fedOn l bs .listing .reader) .reader)) (drop (fedOn l bs .used) bs) .listing))
-          (append-assoc used (take (fedOn l bs .used) bs) (take (rest .used) (drop (fedOn l bs .used) bs)) ∙ ap (λ r. used ++ r) (sym (take-add (fedOn l bs .used) (rest .used) bs)))
+      text =
+          (unfold told in ap (λ r. frameLine (takenBy (fedOn l bs .listing .reader) .at) (takenBy (fedOn l bs .listing .reader) .frame) ++ r) (later e .text));
+      is =
+          (subst₂ (λ u o. Told u o
+          (linesOf k (handedOn (fedOn l bs .listing) (takenBy (fedOn l bs .listing .reader) .reader)) (drop (fedOn l bs .used) bs) .listing))
+          (append-assoc used (take (fedOn l bs .used) bs) (take (rest .used) (drop (fedOn l bs .used) bs))
+          ∙ ap (λ r. used ++ r) (sym (take-add (fedOn l bs .used) (rest .used) bs)))
           (append-snoc out h (later e .more)) (later e .is));
     }
 
@@ -197,7 +214,8 @@ module _ (used : List ℕ) (out : List (ℕ × Frame)) (l : Listing) (t : Told u
 
 -- the input goes on, and each byte used brings six bits at most
 pub lines-go : (k : ℕ) (l : Listing) (bs used : List ℕ) (out : List (ℕ × Frame)) → Told used out l
-    → (linesOf k l bs .listing .reader .ended ≡ l .reader .ended) × (linesOf k l bs .listing .reader .candidate .held ≤ l .reader .candidate .held + 6 * linesOf k l bs .used)
+    → (linesOf k l bs .listing .reader .ended ≡ l .reader .ended)
+    × (linesOf k l bs .listing .reader .candidate .held ≤ l .reader .candidate .held + 6 * linesOf k l bs .used)
 unfolding linesOf
 lines-go zero l bs used out t = (refl, omega arith)
 lines-go (suc k) l bs used out t =
@@ -213,9 +231,14 @@ lines-go (suc k) l bs used out t =
     rest = linesOf k next (drop (fedOn l bs .used) bs)
 
     go : (a : Answer) → takenBy (fedOn l bs .listing .reader) .answer ≡ a
-        → (takenBy (fedOn l bs .listing .reader) .answer ≡ Done → (rest .listing .reader .ended ≡ next .reader .ended) × (rest .listing .reader .candidate .held ≤ next .reader .candidate .held + 6 * rest .used))
+        → (takenBy (fedOn l bs .listing .reader) .answer ≡ Done
+        → (rest .listing .reader .ended ≡ next .reader .ended) × (rest .listing .reader .candidate .held ≤ next .reader .candidate .held + 6 * rest .used))
         → (lineThen a (fedOn l bs) line rest .listing .reader .ended ≡ l .reader .ended)
         × (lineThen a (fedOn l bs) line rest .listing .reader .candidate .held ≤ l .reader .candidate .held + 6 * lineThen a (fedOn l bs) line rest .used)
     go Done e later =
-        unfold handedOn in (later e .0 ∙ take-ended (fedOn l bs .listing .reader) ∙ fed-ended used out l t bs, omega (arith, later e .1, taken-less used out l t bs e, fed-held used out l t bs))
+        unfold handedOn in (
+          later e .0 ∙ take-ended (fedOn l bs .listing .reader)
+              ∙ fed-ended used out l t bs,
+          omega (arith, later e .1, taken-less used out l t bs e, fed-held used out l t bs),
+        )
     go (Refused n) e later = (fed-ended used out l t bs, fed-held used out l t bs)

@@ -2,7 +2,8 @@
 use mathlib.Core.Path.{_≡_, refl, sym, ap, ap₂, subst, _∙_}
 use mathlib.Core.Bool.{Bool, true, false, cond}
 use mathlib.Core.Logic.{_↔_, _⊎_, inl, inr}
-use mathlib.Core.List.{List, [], _∷_, _++_, map, head-eq-of-cons-eq, tail-eq-of-cons-eq, List·Memᴰ, List·Memᴰ·head, List·Memᴰ·tail, List·Memᴰ·not-nil, List·Memᴰ·cases-cons}
+use mathlib.Core.List.{List, [], _∷_, _++_, map, head-eq-of-cons-eq}
+use mathlib.Core.List.{tail-eq-of-cons-eq, List·Memᴰ, List·Memᴰ·head, List·Memᴰ·tail, List·Memᴰ·not-nil, List·Memᴰ·cases-cons}
 use Prim.Native.Nat.{ℕ, zero, suc, _+_, _-_, _*_, _/_, _^_, _≤_, _<_}
 use native.Mathlib.Nat.{not-suc-le-zero}
 use native.Mathlib.Omega.{arith}
@@ -27,11 +28,11 @@ use Rattle.word.proofs.Computes.{word-answers}
 use Rattle.frame.specs.Header.{factors, stateOf, preambled, nOf, headerOf, firstWord, secondWord}
 use Rattle.frame.specs.Widths.{stateOutside, headerOutside, late}
 use Rattle.frame.specs.Answer.{headerWords, saysWords}
-use Rattle.frame.specs.declared.State.{State}
 use Rattle.frame.specs.declared.Header.{Header}
 use Rattle.frame.specs.declared.Frame.{Frame}
 use Rattle.frame.specs.declared.Layout.the-variants as layout
-use Rattle.frame.proofs.HeaderLaws.{length-first, length-second, header-words, n-words, first-preambled, first-header, second-header, header-inside, n-lt, words-answered}
+use Rattle.frame.proofs.HeaderLaws.{length-first, length-second, header-words, n-words, first-preambled}
+use Rattle.frame.proofs.HeaderLaws.{first-header, second-header, header-inside, n-lt, words-answered}
 use Rattle.record_fields.specs.Coding.{frameBits}
 use Rattle.record_fields.proofs.SatelliteLaws.{satellite-back, code-back}
 use Rattle.record_laws.proofs.ListTrips.{CountRead, count-read}
@@ -94,8 +95,10 @@ said c d hc hd =
 
 sent-back : (c d : ℕ) (w : List Bool) → saysSent (wordOf c d) ≡ answers w → (passes (bits 2 c ++ w) ≡ true) × (dataOf (bits 2 c ++ w) ≡ bits 24 d)
 sent-back c d w e =
-    subst (λ l. (passes l ≡ true) × (dataOf l ≡ bits 24 d)) (sym (ap (λ l. bits 2 c ++ l) is ∙ two c (sentAt c d)))
-    (passes-sent (d29* (bits 2 c)) (d30* (bits 2 c)) (bits 24 d) (length-bits 24 d), data-sent (d29* (bits 2 c)) (d30* (bits 2 c)) (bits 24 d) (length-bits 24 d))
+    subst (λ l. (passes l ≡ true) × (dataOf l ≡ bits 24 d)) (sym (ap (λ l. bits 2 c ++ l) is ∙ two c (sentAt c d))) (
+      passes-sent (d29* (bits 2 c)) (d30* (bits 2 c)) (bits 24 d) (length-bits 24 d),
+      data-sent (d29* (bits 2 c)) (d30* (bits 2 c)) (bits 24 d) (length-bits 24 d),
+    )
   where
     is : w ≡ sentAt c d
     is =

@@ -13,7 +13,8 @@ use Rattle.line.proofs.LineLaws.{data-turned, six-turned}
 use Rattle.frame.specs.declared.Frame.{Frame}
 use Rattle.stream.specs.Standing.{frameAt}
 use Rattle.stream.proofs.Turning.{stands-turned, stands-back, frame-turned}
-use Rattle.reader.specs.Reading.{candidateBits, bitsOf, started, past, stepCells, stepTo, steppedBy, fedBy, Run, runTo, spent, fedAllBy, endedBy, takeTo, takenBy, saysNext, saysFedAll, saysTaken}
+use Rattle.reader.specs.Reading.{candidateBits, bitsOf, started, past, stepCells, stepTo, steppedBy, fedBy, Run}
+use Rattle.reader.specs.Reading.{runTo, spent, fedAllBy, endedBy, takeTo, takenBy, saysNext, saysFedAll, saysTaken}
 use Rattle.reader.specs.declared.Candidate.{Candidate}
 use Rattle.reader.specs.declared.Reader.{Reader}
 use Rattle.reader.specs.declared.Next.{Next}
@@ -23,7 +24,8 @@ use Rattle.reader.proofs.Buffer.{held-none}
 use Rattle.reader.proofs.Accepted.{Accepted, length-step, accepted-step}
 use Rattle.reader.proofs.Running.{run-waits, run-on, run-over}
 use Rattle.promises.specs.Calls.{Call, feeds, feedsAll, ends, takes, replied, used, took, replyTo, after, replies}
-use Rattle.promises.specs.Demand3.{OppositeByte, OppositeBytes, no-bytes, byte-and, OppositeCalls, no-calls, fed-and, all-and, end-and, take-and, TurnedIsSame}
+use Rattle.promises.specs.Demand3.{OppositeByte, OppositeBytes, no-bytes, byte-and, OppositeCalls, no-calls}
+use Rattle.promises.specs.Demand3.{fed-and, all-and, end-and, take-and, TurnedIsSame}
 use Rattle.promises.proofs.Kept.{Kept, kept-started}
 use Rattle.promises.proofs.Runs.{given, fed-by, all-by, ended-by, sound-taken, kept-sound, never-past, kept-call}
 use Rattle.promises.proofs.Opposed.{Opposed, step-opposed, end-opposed, take-opposed}
@@ -44,8 +46,10 @@ run-opposed : {bs ds : List ℕ} → OppositeBytes bs ds
 run-opposed no-bytes cells l c a cells′ l′ c′ a′ o = unfold runTo in record { used = refl; passed = refl; opposed = o }
 run-opposed (byte-and {b = b} {c = d} {bs = bs} {cs = ds} t rest) cells l c a cells′ l′ c′ a′ o =
     go (c .waits) refl (isData b) refl
-    (λ w s. run-opposed rest (stepCells cells c (number (six b))) (length-step cells l c a w (number (six b))) (stepTo cells c (number (six b))) (accepted-step cells l c a w (number (six b)))
-    (stepCells cells′ c′ (number (six d))) (length-step cells′ l′ c′ a′ (o .waits ∙ w) (number (six d))) (stepTo cells′ c′ (number (six d))) (accepted-step cells′ l′ c′ a′ (o .waits ∙ w) (number (six d))) s)
+    (λ w s. run-opposed rest (stepCells cells c (number (six b))) (length-step cells l c a w (number (six b))) (stepTo cells c (number (six b)))
+    (accepted-step cells l c a w (number (six b)))
+    (stepCells cells′ c′ (number (six d))) (length-step cells′ l′ c′ a′ (o .waits ∙ w) (number (six d))) (stepTo cells′ c′ (number (six d)))
+    (accepted-step cells′ l′ c′ a′ (o .waits ∙ w) (number (six d))) s)
     (run-opposed rest cells l c a cells′ l′ c′ a′ o)
   where
     on : Run
@@ -55,15 +59,18 @@ run-opposed (byte-and {b = b} {c = d} {bs = bs} {cs = ds} t rest) cells l c a ce
     on′ = runTo (stepCells cells′ c′ (number (six d))) (stepTo cells′ c′ (number (six d))) ds
 
     go : (y : Bool) → c .waits ≡ y → (z : Bool) → isData b ≡ z
-        → (c .waits ≡ false → Opposed (stepCells cells c (number (six b))) (stepTo cells c (number (six b))) (stepCells cells′ c′ (number (six d))) (stepTo cells′ c′ (number (six d))) → SameRun on on′)
+        → (c .waits ≡ false → Opposed (stepCells cells c (number (six b))) (stepTo cells c (number (six b))) (stepCells cells′ c′ (number (six d)))
+        (stepTo cells′ c′ (number (six d))) → SameRun on on′)
         → SameRun (runTo cells c bs) (runTo cells′ c′ ds) → SameRun (runTo cells c (b ∷ bs)) (runTo cells′ c′ (d ∷ ds))
     go true w z e next over =
-        subst₂ SameRun (sym (run-waits cells c (b ∷ bs) w)) (sym (run-waits cells′ c′ (d ∷ ds) (o .waits ∙ w))) (record { used = refl; passed = refl; opposed = o })
+        subst₂ SameRun (sym (run-waits cells c (b ∷ bs) w)) (sym (run-waits cells′ c′ (d ∷ ds) (o .waits ∙ w)))
+        (record { used = refl; passed = refl; opposed = o })
     go false w true e next over =
         subst₂ SameRun (sym (run-on cells c b bs w e)) (sym (run-on cells′ c′ d ds (o .waits ∙ w) (t .both ∙ e)))
         (more 1 0 on on′ (next w (step-opposed cells l c a cells′ l′ c′ a′ o w b d (t .bits e))))
     go false w false e next over =
-        subst₂ SameRun (sym (run-over cells c b bs w e)) (sym (run-over cells′ c′ d ds (o .waits ∙ w) (t .both ∙ e))) (more 1 1 (runTo cells c bs) (runTo cells′ c′ ds) over)
+        subst₂ SameRun (sym (run-over cells c b bs w e)) (sym (run-over cells′ c′ d ds (o .waits ∙ w) (t .both ∙ e)))
+        (more 1 1 (runTo cells c bs) (runTo cells′ c′ ds) over)
 
 -- ---- one call
 
@@ -96,14 +103,24 @@ module _ (s s′ : List Bool) (out out′ : List (ℕ × Frame)) (r r′ : Reade
 
       go : (x : Bool) → r .ended ≡ x → (y : Bool) → r .candidate .waits ≡ y → (z : Bool) → isData b ≡ z → Alike r r′ (feeds b) (feeds d)
       go true ex y ey z ez =
-          alike (subst₂ P (sym (fed-by r false true y p ex ey b z ez)) (sym (fed-by r′ false true y p′ (f .ended ∙ ex) (o .waits ∙ ey) d z (t .both ∙ ez))) (refl, f))
+          alike (subst₂ P (sym (fed-by r false true y p ex ey b z ez))
+          (sym (fed-by r′ false true y p′ (f .ended ∙ ex) (o .waits ∙ ey) d z (t .both ∙ ez))) (refl, f))
       go false ex true ey z ez =
-          alike (subst₂ P (sym (fed-by r false false true p ex ey b z ez)) (sym (fed-by r′ false false true p′ (f .ended ∙ ex) (o .waits ∙ ey) d z (t .both ∙ ez))) (refl, f))
+          alike (subst₂ P (sym (fed-by r false false true p ex ey b z ez))
+          (sym (fed-by r′ false false true p′ (f .ended ∙ ex) (o .waits ∙ ey) d z (t .both ∙ ez))) (refl, f))
       go false ex false ey false ez =
-          alike (subst₂ P (sym (fed-by r false false false p ex ey b false ez)) (sym (fed-by r′ false false false p′ (f .ended ∙ ex) (o .waits ∙ ey) d false (t .both ∙ ez))) (refl, f))
+          alike (subst₂ P (sym (fed-by r false false false p ex ey b false ez))
+          (sym (fed-by r′ false false false p′ (f .ended ∙ ex) (o .waits ∙ ey) d false (t .both ∙ ez))) (refl, f))
       go false ex false ey true ez =
-          alike (subst₂ P (sym (fed-by r false false false p ex ey b true ez)) (sym (fed-by r′ false false false p′ (f .ended ∙ ex) (o .waits ∙ ey) d true (t .both ∙ ez)))
-          (refl, (unfold steppedBy in record { opposed = step-opposed (r .cells) (k .len) (r .candidate) (k .accepted) (r′ .cells) (k′ .len) (r′ .candidate) (k′ .accepted) o ey b d (t .bits ez); ended = f .ended })))
+          alike (subst₂ P (sym (fed-by r false false false p ex ey b true ez))
+          (sym (fed-by r′ false false false p′ (f .ended ∙ ex) (o .waits ∙ ey) d true (t .both ∙ ez))) (
+            refl,
+            (unfold steppedBy in record {
+              opposed = step-opposed (r .cells) (k .len) (r .candidate) (k .accepted) (r′ .cells) (k′ .len)
+                  (r′ .candidate) (k′ .accepted) o ey b d (t .bits ez);
+              ended = f .ended;
+            }),
+          ))
 
   all-alike : (bs ds : List ℕ) → OppositeBytes bs ds → Alike r r′ (feedsAll bs) (feedsAll ds)
   all-alike bs ds t = go (r .ended) refl (r .candidate .waits) refl
@@ -141,8 +158,14 @@ module _ (s s′ : List Bool) (out out′ : List (ℕ × Frame)) (r r′ : Reade
       go false ex true ey =
           alike (subst₂ P (sym (ended-by r false false true p ex ey)) (sym (ended-by r′ false false true p′ (f .ended ∙ ex) (o .waits ∙ ey))) (refl, f))
       go false ex false ey =
-          alike (subst₂ P (sym (ended-by r false false false p ex ey)) (sym (ended-by r′ false false false p′ (f .ended ∙ ex) (o .waits ∙ ey)))
-          (refl, record { opposed = end-opposed (r .cells) (k .len) (r .candidate) (k .accepted) (r′ .cells) (k′ .len) (r′ .candidate) (k′ .accepted) o; ended = refl }))
+          alike (subst₂ P (sym (ended-by r false false false p ex ey)) (sym (ended-by r′ false false false p′ (f .ended ∙ ex) (o .waits ∙ ey))) (
+            refl,
+            record {
+              opposed = end-opposed (r .cells) (k .len) (r .candidate) (k .accepted)
+                  (r′ .cells) (k′ .len) (r′ .candidate) (k′ .accepted) o;
+              ended = refl;
+            },
+          ))
 
   take-alike : Alike r r′ takes takes
   take-alike = go (r .candidate .waits) refl
@@ -154,30 +177,38 @@ module _ (s s′ : List Bool) (out out′ : List (ℕ × Frame)) (r r′ : Reade
       alike q = record { reply = unfold replyTo in q .0; facing = unfold after in q .1 }
 
       go : (y : Bool) → r .candidate .waits ≡ y → Alike r r′ takes takes
-      go false ey = alike (subst₂ P (sym (sound-taken r (kept-sound s out r k) false ey)) (sym (sound-taken r′ (kept-sound s′ out′ r′ k′) false (o .waits ∙ ey))) (refl, f))
+      go false ey =
+          alike (subst₂ P (sym (sound-taken r (kept-sound s out r k) false ey))
+          (sym (sound-taken r′ (kept-sound s′ out′ r′ k′) false (o .waits ∙ ey))) (refl, f))
       go true ey =
           alike (subst₂ P (sym (sound-taken r (kept-sound s out r k) true ey)) (sym (sound-taken r′ (kept-sound s′ out′ r′ k′) true (o .waits ∙ ey)))
           (unfold given in (
             ap₂ (λ a v. took (answers (a, v))) (o .at) (ap frameAt (o .bits) ∙ frame-turned (bitsOf r) (k .found ey)),
             record {
-              opposed = subst (λ e. Opposed (r .cells) (takeTo (r .cells) (r .candidate) (r .ended)) (r′ .cells) (takeTo (r′ .cells) (r′ .candidate) e)) (sym (f .ended))
-                  (take-opposed (r .cells) (k .len) (r .candidate) (k .accepted) (r′ .cells) (k′ .len) (r′ .candidate) (k′ .accepted) o (k .found ey) (r .ended));
+              opposed =
+                  subst (λ e. Opposed (r .cells) (takeTo (r .cells) (r .candidate) (r .ended)) (r′ .cells) (takeTo (r′ .cells) (r′ .candidate) e))
+                  (sym (f .ended))
+                  (take-opposed (r .cells) (k .len) (r .candidate) (k .accepted)
+                  (r′ .cells) (k′ .len) (r′ .candidate) (k′ .accepted) o (k .found ey) (r .ended));
               ended = f .ended;
             },
           )))
 
 -- ---- any calls
 
-calls-alike : {cs ds : List Call} → OppositeCalls cs ds → (s s′ : List Bool) (out out′ : List (ℕ × Frame)) (r r′ : Reader) → Kept s out r → Kept s′ out′ r′ → Facing r r′
+calls-alike : {cs ds : List Call} → OppositeCalls cs ds → (s s′ : List Bool) (out out′ : List (ℕ × Frame)) (r r′ : Reader) → Kept s out r
+    → Kept s′ out′ r′ → Facing r r′
     → replies r′ ds ≡ replies r cs
 unfolding replies
 calls-alike no-calls s s′ out out′ r r′ k k′ f = refl
 calls-alike (fed-and {b = b} {c = d} t rest) s s′ out out′ r r′ k k′ f =
     let a = fed-alike s s′ out out′ r r′ k k′ f b d t in
-    ap₂ _∷_ (a .reply) (calls-alike rest _ _ _ _ (after r (feeds b)) (after r′ (feeds d)) (kept-call s out r (feeds b) k) (kept-call s′ out′ r′ (feeds d) k′) (a .facing))
+    ap₂ _∷_ (a .reply) (calls-alike rest _ _ _ _ (after r (feeds b)) (after r′ (feeds d)) (kept-call s out r (feeds b) k)
+    (kept-call s′ out′ r′ (feeds d) k′) (a .facing))
 calls-alike (all-and {bs = bs} {ds = ds} t rest) s s′ out out′ r r′ k k′ f =
     let a = all-alike s s′ out out′ r r′ k k′ f bs ds t in
-    ap₂ _∷_ (a .reply) (calls-alike rest _ _ _ _ (after r (feedsAll bs)) (after r′ (feedsAll ds)) (kept-call s out r (feedsAll bs) k) (kept-call s′ out′ r′ (feedsAll ds) k′) (a .facing))
+    ap₂ _∷_ (a .reply) (calls-alike rest _ _ _ _ (after r (feedsAll bs)) (after r′ (feedsAll ds)) (kept-call s out r (feedsAll bs) k)
+    (kept-call s′ out′ r′ (feedsAll ds) k′) (a .facing))
 calls-alike (end-and rest) s s′ out out′ r r′ k k′ f =
     let a = end-alike s s′ out out′ r r′ k k′ f in
     ap₂ _∷_ (a .reply) (calls-alike rest _ _ _ _ (after r ends) (after r′ ends) (kept-call s out r ends k) (kept-call s′ out′ r′ ends k′) (a .facing))

@@ -31,7 +31,7 @@ use Rattle.promises.specs.Course.{Piece, Course, courseOf, listedText, T
 use Rattle.listing.specs.declared.Listing.{Listing}
 use Rattle.listing.proofs.Lengths.{final-le, stored-text}
 use Rattle.promises.proofs.Telling.{told, told-after, told-reported, Told, told-none, Tells, tells}
-use Rattle.promises.proofs.Pieces.{answered-done, CourseTells, course-tells}
+use Rattle.promises.proofs.Pieces.{not-refused-done, CourseTells, course-tells}
 
 -- ---- the end
 
@@ -41,9 +41,19 @@ unfolding takenBy
 refused-stays r n e = go (past r) (not (frameWaits r)) e
   where
     go : (p w : Bool) → inOrder {A = Taken} ((p, 5) ∷ (w, 4) ∷ []) (λ m. record { answer = Refused m; at = 0; frame = blank; reader = r })
-        (record { answer = Done; at = r .candidate .at; frame = frameAt (bitsOf r); reader = record { cells = r .cells; candidate = takeTo (r .cells) (r .candidate) (r .ended); ended = r .ended } }) .answer ≡ Refused n
+        (record {
+          answer = Done;
+          at = r .candidate .at;
+          frame = frameAt (bitsOf r);
+          reader = record { cells = r .cells; candidate = takeTo (r .cells) (r .candidate) (r .ended); ended = r .ended };
+        }) .answer ≡ Refused n
         → inOrder {A = Taken} ((p, 5) ∷ (w, 4) ∷ []) (λ m. record { answer = Refused m; at = 0; frame = blank; reader = r })
-        (record { answer = Done; at = r .candidate .at; frame = frameAt (bitsOf r); reader = record { cells = r .cells; candidate = takeTo (r .cells) (r .candidate) (r .ended); ended = r .ended } }) .reader ≡ r
+        (record {
+          answer = Done;
+          at = r .candidate .at;
+          frame = frameAt (bitsOf r);
+          reader = record { cells = r .cells; candidate = takeTo (r .cells) (r .candidate) (r .ended); ended = r .ended };
+        }) .reader ≡ r
     go true w f = refl
     go false true f = refl
     go false false f = absurd (let z : _≡_ {A = ℕ} 0 1 = cc in omega arith)
@@ -62,7 +72,13 @@ fed-none l = go (past (l .reader)) (l .reader .ended) (l .reader .candidate .wai
     r = l .reader
 
     go : (p e w : Bool) → inOrder {A = FedAll} ((p, 5) ∷ (e, 3) ∷ (w, 2) ∷ []) (λ n. record { answer = Refused n; used = 0; passed = 0; reader = l .reader })
-        (record { answer = Done; used = 0; passed = 0; reader = record { cells = l .reader .cells; candidate = l .reader .candidate; ended = l .reader .ended } }) .reader ≡ l .reader
+        (record {
+          answer = Done;
+          used = 0;
+          passed = 0;
+          reader =
+              record { cells = l .reader .cells; candidate = l .reader .candidate; ended = l .reader .ended };
+        }) .reader ≡ l .reader
     go true e w = refl
     go false true w = refl
     go false false true = refl
@@ -84,7 +100,8 @@ lines-takes (suc n) l = go (takenBy q .answer) refl (lines-takes n (handedOn (fe
     rest = linesOf n (handedOn (fedOn l [] .listing) (takenBy (fedOn l [] .listing .reader) .reader)) []
 
     go : (a : Answer) → takenBy (fedOn l [] .listing .reader) .answer ≡ a
-        → linesOf n (handedOn (fedOn l [] .listing) (takenBy (fedOn l [] .listing .reader) .reader)) [] .listing .reader ≡ afterAll (handedOn (fedOn l [] .listing) (takenBy (fedOn l [] .listing .reader) .reader) .reader) (replicate n takes)
+        → linesOf n (handedOn (fedOn l [] .listing) (takenBy (fedOn l [] .listing .reader) .reader)) [] .listing .reader
+        ≡ afterAll (handedOn (fedOn l [] .listing) (takenBy (fedOn l [] .listing .reader) .reader) .reader) (replicate n takes)
         → lineThen a (fedOn l []) (frameLine (takenBy (fedOn l [] .listing .reader) .at) (takenBy (fedOn l [] .listing .reader) .frame))
         (linesOf n (handedOn (fedOn l [] .listing) (takenBy (fedOn l [] .listing .reader) .reader)) (drop (fedOn l [] .used) [])) .listing .reader
         ≡ afterAll (takenBy (l .reader) .reader) (replicate n takes)
@@ -123,7 +140,9 @@ module _ (bs : List ℕ) (out : List (ℕ × Frame)) (l : Listing) (t : Told bs 
 
   told-all : Told bs (out ++ y .more) (x .listing)
   unfolding x
-  told-all = subst (λ u. Told u (out ++ y .more) (linesOf 16 (endedOn l (endedBy (l .reader) .reader)) [] .listing)) (ap (λ r. bs ++ r) (take-nil (linesOf 16 (endedOn l (endedBy (l .reader) .reader)) [] .used)) ∙ append-nil bs) (y .is)
+  told-all =
+      subst (λ u. Told u (out ++ y .more) (linesOf 16 (endedOn l (endedBy (l .reader) .reader)) [] .listing))
+      (ap (λ r. bs ++ r) (take-nil (linesOf 16 (endedOn l (endedBy (l .reader) .reader)) [] .used)) ∙ append-nil bs) (y .is)
 
   module _ (goes : l .reader .ended ≡ false) (none : l .reader .candidate .waits ≡ false) where
     last : Reader
@@ -174,7 +193,8 @@ finish-tells bs out l t buffer done = go (past (l .reader)) (l .reader .ended) r
     go false false ee true ew s es d = not-done 2 d
     go false false ee false ew true es d = not-done 13 d
     go false false ee false ew false es d =
-        ap (λ r. told out ++ r) (stored-text buffer (finalLines l .text) (omega (arith, final-le l, ltb-false (length buffer) endRoom es))) ∙ final-text bs out l t ee ew
+        ap (λ r. told out ++ r) (stored-text buffer (finalLines l .text) (omega (arith, final-le l, ltb-false (length buffer) endRoom es)))
+        ∙ final-text bs out l t ee ew
 
 -- THE TEXT OF THE WHOLE
 pub text-is-whole : (bs : List ℕ) (ps : List Piece) (out : List ℕ) → TextIsWhole bs ps out
@@ -182,7 +202,7 @@ unfolding listedText
 text-is-whole bs ps out left answered =
     ap (λ r. r ++ take (finishBy (c .listing) (length out) .written) (finishText (c .listing) out)) (v .text)
     ∙ finish-tells bs (v .more) (c .listing) (subst (λ u. Told u (v .more) (c .listing)) all (v .is)) out
-    (answered-done _ (finishBy (c .listing) (length out) .answer) answered)
+    (not-refused-done _ (finishBy (c .listing) (length out) .answer) answered)
   where
     c : Course
     c = courseOf ps begun bs

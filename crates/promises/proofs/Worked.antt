@@ -28,23 +28,28 @@ use Rattle.promises.proofs.Demand3.{one-by-one}
 use Rattle.promises.proofs.Progress.{text-comes}
 
 frames-eleven : map reported (framesIn (lineBits elevenBytes)) ≡ elevenFrame ∷ []
-unfolding bits number six lineBits rows places parity dataOf received computed remainderOf passes factors stateOf preambled nOf headerOf framed right nAt dataFrom frameAt placed allRight stands scan reported
+unfolding bits number six lineBits rows places parity dataOf received computed remainderOf passes factors stateOf preambled nOf headerOf framed right
+    nAt dataFrom frameAt placed allRight stands scan reported
 frames-eleven = refl
 
 frames-turned : map reported (framesIn (lineBits turnedBytes)) ≡ elevenFrame ∷ []
-unfolding bits number six lineBits rows places parity dataOf received computed remainderOf passes factors stateOf preambled nOf headerOf framed right nAt dataFrom frameAt placed allRight stands scan reported
+unfolding bits number six lineBits rows places parity dataOf received computed remainderOf passes factors stateOf preambled nOf headerOf framed right
+    nAt dataFrom frameAt placed allRight stands scan reported
 frames-turned = refl
 
 frames-ten : map reported (framesIn (lineBits tenBytes)) ≡ []
-unfolding bits number six lineBits rows places parity dataOf received computed remainderOf passes factors stateOf preambled nOf headerOf framed right nAt dataFrom frameAt placed allRight stands scan reported
+unfolding bits number six lineBits rows places parity dataOf received computed remainderOf passes factors stateOf preambled nOf headerOf framed right
+    nAt dataFrom frameAt placed allRight stands scan reported
 frames-ten = refl
 
 text-eleven : textOf elevenBytes ≡ twoLines
-unfolding bits number six lineBits rows places parity dataOf received computed remainderOf passes factors stateOf codeOf preambled nOf headerOf framed right nAt dataFrom frameAt placed allRight stands scan without lastDigits digitsUpTo decimal spaced lastLine linesIn textOf twoLines
+unfolding bits number six lineBits rows places parity dataOf received computed remainderOf passes factors stateOf codeOf preambled nOf headerOf framed
+    right nAt dataFrom frameAt placed allRight stands scan without lastDigits digitsUpTo decimal spaced lastLine linesIn textOf twoLines
 text-eleven = refl
 
 text-turned : textOf turnedBytes ≡ twoLines
-unfolding bits number six lineBits rows places parity dataOf received computed remainderOf passes factors stateOf codeOf preambled nOf headerOf framed right nAt dataFrom frameAt placed allRight stands scan without lastDigits digitsUpTo decimal spaced lastLine linesIn textOf twoLines
+unfolding bits number six lineBits rows places parity dataOf received computed remainderOf passes factors stateOf codeOf preambled nOf headerOf framed
+    right nAt dataFrom frameAt placed allRight stands scan without lastDigits digitsUpTo decimal spaced lastLine linesIn textOf twoLines
 text-turned = refl
 
 -- a fresh reader is not ended, and no frame waits
@@ -62,7 +67,8 @@ zero-bits : six 0x40 ≡ replicate 6 false
 zero-bits = unfold bits number six in refl
 
 pub worked : WorkedValues
-unfolding factors stateOf signedValue hundredthsOf limits udreValue outside headerOutside numbersOutside stateOutside layoutOf layoutNumber otherLayout misfit countCorrections
+unfolding factors stateOf signedValue hundredthsOf limits udreValue outside headerOutside numbersOutside stateOutside layoutOf layoutNumber
+    otherLayout misfit countCorrections
 worked = record {
   word-1 = unfold bits number rows parity turnedBy sent in refl;
   word-2 = unfold bits number rows parity turnedBy sent in refl;

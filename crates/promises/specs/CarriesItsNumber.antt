@@ -35,7 +35,8 @@ use Rattle.record_texts.specs.Texts as texts
 use Rattle.record_corrections.specs.declared.Correction.{Correction}
 use Rattle.record_healths.specs.declared.SatelliteHealth.{SatelliteHealth}
 use Rattle.record_positions.specs.declared.Position.{Position}
-use Rattle.record_values.specs.Answer.{prcMm, rrcMmS, udreLimit, cn0DbHz, minutesOf, zTenths, saysDistance, saysRate, saysLimit, saysStrength, saysTime, saysSinceHour}
+use Rattle.record_values.specs.Answer.{prcMm, rrcMmS, udreLimit, cn0DbHz, minutesOf, zTenths}
+use Rattle.record_values.specs.Answer.{saysDistance, saysRate, saysLimit, saysStrength, saysTime, saysSinceHour}
 use Rattle.listing.specs.Listing.{pieceOrder, pieceBy, endOrder, finishBy}
 use Rattle.listing.specs.declared.Listing.{Listing}
 

@@ -33,16 +33,16 @@ listedText bs ps out =
     c .text ++ take (finishBy (c .listing) (length out) .written) (finishText (c .listing) out)
 
 -- an answer that is no refusal
-abbrev pub Answered : {A : Type 0} → Says A → Type 0
-Answered (answers v) = Unit {0}
-Answered (refuses n) = ⊥
+abbrev pub NotRefused : {A : Type 0} → Says A → Type 0
+NotRefused (answers v) = Unit {0}
+NotRefused (refuses n) = ⊥
 
 -- the listing of a whole input (RULES 12): in whatever pieces the bytes were listed, once all are used and the end is carried out, what was written
 -- is the text of the whole
 abbrev pub TextIsWhole : List ℕ → List Piece → List ℕ → Type 0
 TextIsWhole bs ps out =
     let c = courseOf ps begun bs in
-    c .left ≡ [] → Answered (saysListed (finishBy (c .listing) (length out))) → listedText bs ps out ≡ textOf bs
+    c .left ≡ [] → NotRefused (saysListed (finishBy (c .listing) (length out))) → listedText bs ps out ≡ textOf bs
 
 -- a caller who goes on until a piece writes nothing has all the bytes lent used, and with room for `endRoom` bytes the end is carried out: of a
 -- listing begun fresh and changed only by pieces
@@ -50,11 +50,11 @@ abbrev pub NothingLeft : List ℕ → List Piece → Type 0
 NothingLeft bs ps = (lent : List ℕ) (room : ℕ) →
     let r = pieceBy (courseOf ps begun bs .listing) lent room in
     (u : ℕ) → saysListed r ≡ answers (u, 0)
-    → (u ≡ length lent) × ((n : ℕ) → endRoom ≤ n → Answered (saysListed (finishBy (r .listing) n)))
+    → (u ≡ length lent) × ((n : ℕ) → endRoom ≤ n → NotRefused (saysListed (finishBy (r .listing) n)))
 
 -- a listing begun fresh and changed only by pieces takes the next one wherever there is room for a line
 abbrev pub PieceTaken : List ℕ → List Piece → Type 0
-PieceTaken bs ps = (lent : List ℕ) (room : ℕ) → lineRoom ≤ room → Answered (saysListed (pieceBy (courseOf ps begun bs .listing) lent room))
+PieceTaken bs ps = (lent : List ℕ) (room : ℕ) → lineRoom ≤ room → NotRefused (saysListed (pieceBy (courseOf ps begun bs .listing) lent room))
 
 -- each piece lends a byte at least, where one is left, and has room for a line
 abbrev pub Roomy : List Piece → Type 0
@@ -66,7 +66,7 @@ Roomy (p ∷ ps) = (1 ≤ p .0) × (lineRoom ≤ length (p .1)) × Roomy ps
 abbrev pub Reached : List ℕ → List Piece → Type 0
 Reached bs ps =
     let c = courseOf ps begun bs in
-    Roomy ps → 7 * length bs ≤ length ps → (c .left ≡ []) × ((n : ℕ) → endRoom ≤ n → Answered (saysListed (finishBy (c .listing) n)))
+    Roomy ps → 7 * length bs ≤ length ps → (c .left ≡ []) × ((n : ℕ) → endRoom ≤ n → NotRefused (saysListed (finishBy (c .listing) n)))
 
 -- so the whole text comes
 abbrev pub TextComes : List ℕ → List Piece → List ℕ → Type 0

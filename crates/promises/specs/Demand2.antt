@@ -18,7 +18,8 @@ use Rattle.record_corrections.specs.declared.Correction.{Correction}
 use Rattle.record_healths.specs.declared.SatelliteHealth.{SatelliteHealth}
 use Rattle.record_positions.specs.declared.Position.{Position}
 use Rattle.record_stages.specs.Stages.{saysCount, saysMade}
-use Rattle.record_corrections.specs.Corrections.{countCorrections, correctionAt, makeCorrections, StandardFill, Typed, saysCorrectionRead, HoldsCorrections, coding as correctionCoding}
+use Rattle.record_corrections.specs.Corrections.{countCorrections, correctionAt, makeCorrections, StandardFill}
+use Rattle.record_corrections.specs.Corrections.{Typed, saysCorrectionRead, HoldsCorrections, coding as correctionCoding}
 use Rattle.record_healths.specs.Healths.{countHealths, healthAt, makeHealths, saysHealthRead, HoldsHealths, coding as healthCoding}
 use Rattle.record_positions.specs.Positions.{readPosition, makePosition, positionIn, saysPositionRead, HoldsPosition}
 use Rattle.record_positions.specs.Positions as positions

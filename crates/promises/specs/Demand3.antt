@@ -16,7 +16,8 @@ use Rattle.stream.specs.Places.{StandsIn, FoundOrCovered, Apart, Damaged}
 use Rattle.record_fields.specs.Coding.{Each}
 use Rattle.reader.specs.Reading.{bitsOf, started, past, fedBy, fedAllBy, takenBy, saysNext, saysFedAll, saysTaken}
 use Rattle.reader.specs.declared.Reader.{Reader}
-use Rattle.promises.specs.Calls.{Call, feeds, feedsAll, ends, takes, Reply, replied, answerOf, replyTo, after, afterAll, replies, Outcome, outcome, reported, takesAll, served, inSlices, unused}
+use Rattle.promises.specs.Calls.{Call, feeds, feedsAll, ends, takes, Reply, replied, answerOf, replyTo, after}
+use Rattle.promises.specs.Calls.{afterAll, replies, Outcome, outcome, reported, takesAll, served, inSlices, unused}
 
 -- Each sentence is of an outcome: of calls on this package's reader here, and of calls of the library in rtcm2_promises.
 

@@ -34,7 +34,8 @@ use Rattle.record_texts.specs.Texts.{readText}
 use Rattle.record_positions.specs.declared.Position.{Position}
 use Rattle.record_fields.specs.Satellites.{satelliteOf, satelliteCode}
 use Rattle.record_values.specs.Values.{Reading, exactly, stop, upTo, noLimit, dbHz, notTracked, stepOf, stopsUse, hundredthsOf}
-use Rattle.record_values.specs.Answer.{prcMm, rrcMmS, udreLimit, cn0DbHz, minutesOf, zTenths, saysDistance, saysRate, saysLimit, saysStrength, saysTime, saysSinceHour}
+use Rattle.record_values.specs.Answer.{prcMm, rrcMmS, udreLimit, cn0DbHz, minutesOf, zTenths}
+use Rattle.record_values.specs.Answer.{saysDistance, saysRate, saysLimit, saysStrength, saysTime, saysSinceHour}
 use Rattle.writer.specs.Answer.{writtenBy, saysWritten}
 use Rattle.writer.specs.OneFrame.{Wrote, itsBits, WritesBack}
 use Rattle.writer.specs.Streams.{AllWritable, streamBytes, StreamWritten}
@@ -85,7 +86,8 @@ pub record SaysExactly (h small large : ℕ) (says : ℕ → ℤ → Says Readin
 
 -- the limit of a UDRE code is so many mm times the factor of the state
 abbrev pub LimitIs : ℕ → ℕ → Type 0
-LimitIs code limit = (s : State) → stateOutside s ≡ false → (mm : ℕ) × ((saysLimit (udreLimit s code) ≡ answers (upTo mm)) × (mm * 100 ≡ limit * hundredthsOf s))
+LimitIs code limit =
+    (s : State) → stateOutside s ≡ false → (mm : ℕ) × ((saysLimit (udreLimit s code) ≡ answers (upTo mm)) × (mm * 100 ≡ limit * hundredthsOf s))
 
 -- ".. and records": what their numbers mean, and how many satellites N words hold
 pub record RecordsOfRtcm : Type 0 where
