@@ -94,7 +94,7 @@ pub record Typed (e : Correction) : Type 0 where
 
 -- made, then read
 abbrev pub CorrectionsMade : Header → List Correction → ℕ → Correction → Frame → Type 0
-CorrectionsMade = MadeReads layout.Correction coding fill read.Refused read.Entry
+CorrectionsMade = MadeReads coding fill countCorrections correctionAt read.Entry
 
 -- IN RANGE: scale 0 or 1, UDRE 0 to 3, satellite 1 to 32; any PRC, RRC and IOD of their types may be sent
 pub record InRange (e : Correction) : Type 0 where

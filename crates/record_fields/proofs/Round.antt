@@ -13,7 +13,7 @@ use Rattle.bits.specs.Rows.{dataBits, cutWords, packedRows, rowsAt, AllFit, fil
 use Rattle.bits.proofs.RowLaws.{length-rows, rows-put, put-rows, fits-rows, length-rows-at, rows-at}
 use Rattle.bits.proofs.WordLaws.{length-data, length-words, length-fill, data-wordsIn}
 use Rattle.frame.specs.Frames.{framed, dataWords}
-use Rattle.frame.specs.Widths.{anyOf, headerOutside, outside}
+use Rattle.frame.specs.Widths.{headerOutside, outside}
 use Rattle.frame.specs.declared.Header.{Header}
 use Rattle.frame.specs.declared.Frame.{Frame}
 use Rattle.frame.proofs.FrameLaws.{data-framed, framed-inside, framed-again, words-below, below-take, length-data as length-data-words}
@@ -25,6 +25,10 @@ pub record Faithful {A : Type 0} (k : Coding A) (Good : A → Type 0) : Type 0 w
   pub meant-codes : (e : A) → Good e → k .meant (k .codes e) ≡ e
   pub fit-codes : (e : A) → Good e → Fit (k .widths) (k .codes e)
   pub codes-meant : (vs : List ℕ) → Fit (k .widths) vs → k .codes (k .meant vs) ≡ vs
+
+-- an entry that has its types and that no range check refuses
+abbrev pub Fine : {A : Type 0} → (A → Type 0) → (A → Bool) → A → Type 0
+Fine Typed out e = Typed e × (out e ≡ false)
 
 pub fill-left : (m : ℕ) → (24 - m % 24) % 24 ≡ 24 * ((m + 23) / 24) - m
 fill-left m = go (m % 24) refl
@@ -171,9 +175,3 @@ module _ {A : Type 0} (k : Coding A) where
               ∙ ap (λ m. m * span (k .widths))
               (length-map (rowsAt (k .widths) c 0 (frameBits f)) (k .meant) ∙ length-rows-at (k .widths) c 0 (frameBits f)))
               ∙ up
-
--- a property that no codes' meaning has, no entry read has
-pub none-read : {A : Type 0} (k : Coding A) (p : A → Bool) → ((vs : List ℕ) → Fit (k .widths) vs → p (k .meant vs) ≡ false)
-    → (rs : List (List ℕ)) → AllFit (k .widths) rs → anyOf p (map (k .meant) rs) ≡ false
-none-read k p each [] f = refl
-none-read k p each (r ∷ rs) f = rw (each r (f .0)) (none-read k p each rs (f .1))

@@ -19,20 +19,6 @@ pub code-back : (n : ℕ) → n < 32 → satelliteCode (satelliteOf n) ≡ n
 code-back zero h = refl
 code-back (suc n) h = rw (ne-eqb (suc n) 0 (λ z. omega arith)) (omega arith)
 
--- a satellite's low five bits are those of its code
-pub satellite-low : (n : ℕ) → satelliteOf n % 32 ≡ n % 32
-satellite-low zero = refl
-satellite-low (suc n) = rw (ne-eqb (suc n) 0 (λ z. omega arith))
-
 -- a code of five bits is its low five bits
 pub low-five : (n : ℕ) → n < 32 → satelliteOf (n % 32) ≡ satelliteOf n
 low-five n h = ap satelliteOf (mod-eq-of-lt h)
-
--- what is read is 1 to 32
-pub satellite-some : (n : ℕ) → n < 32 → 1 ≤ satelliteOf n
-satellite-some zero h = omega arith
-satellite-some (suc n) h = rw (ne-eqb (suc n) 0 (λ z. omega arith)) (omega arith)
-
-pub satellite-few : (n : ℕ) → n < 32 → satelliteOf n ≤ 32
-satellite-few zero h = omega arith
-satellite-few (suc n) h = rw (ne-eqb (suc n) 0 (λ z. omega arith)) (omega arith)

@@ -85,7 +85,7 @@ saysHealthRead (read.Refused n) = refuses n
 
 -- made, then read
 abbrev pub HealthsMade : Header → List SatelliteHealth → ℕ → SatelliteHealth → Frame → Type 0
-HealthsMade = MadeReads layout.Health coding fill read.Refused read.Entry
+HealthsMade = MadeReads coding fill countHealths healthAt read.Entry
 
 -- IN RANGE: every field within its width, satellite 1 to 32
 pub record InRange (e : SatelliteHealth) : Type 0 where

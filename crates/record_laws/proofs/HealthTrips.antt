@@ -1,19 +1,20 @@
 -- Type 5: what the layout owes; what can be sent is made, made then read, read then made; what a frame holds is read. Assumes nothing.
-use mathlib.Core.Path.{_≡_}
+use mathlib.Core.Path.{_≡_, refl}
 use mathlib.Core.Bool.{false}
 use mathlib.Core.List.{List}
 use Prim.Native.Nat.{ℕ, _+_, _*_, _/_, _≤_, _<_}
-use native.Mathlib.Nat.{mod-eq-of-lt}
 use native.Mathlib.Omega.{arith}
 use lib.ListN.{length, take, getD}
+use Rattle.bits.specs.Fields.{Fit}
 use Rattle.frame.specs.declared.Header.{Header}
 use Rattle.frame.specs.declared.Frame.{Frame}
 use Rattle.frame.specs.declared.Layout.the-variants as layout
 use Rattle.record_fields.specs.Coding.{frameWith}
-use Rattle.record_fields.proofs.Round.{Faithful}
-use Rattle.record_fields.proofs.TableRound.{Below, by-tables}
+use Rattle.record_fields.specs.Tables.{row}
+use Rattle.record_fields.proofs.Round.{Faithful, Fine}
+use Rattle.record_fields.proofs.TableRound.{Below, placesFrom, numbersOf, tables-faithful, tables-range}
 use Rattle.record_fields.proofs.TableLaws.{row-fine, row-told}
-use Rattle.record_fields.proofs.SatelliteLaws.{satellite-back, satellite-low, satellite-some, satellite-few}
+use Rattle.record_fields.proofs.SatelliteLaws.{satellite-back}
 use Rattle.record_stages.specs.declared.Count.the-variants as count
 use Rattle.record_stages.specs.Stages.{entriesHeld, doneMade, IsMade}
 use Rattle.record_healths.specs.declared.SatelliteHealth.{SatelliteHealth}
@@ -21,10 +22,6 @@ use Rattle.record_healths.specs.declared.HealthRead.the-variants as read
 use Rattle.record_healths.specs.Healths.{widths, meant, coding, fill, least, most, numbers, outOfRange, countHealths, healthAt, makeHealths, HealthsMade, InRange, SendableHealths, HoldsHealths, ReadsHealths}
 use Rattle.record_laws.proofs.ListTrips.{list-held, made-then-read, read-then-made, each-any, no-fill}
 use Rattle.record_laws.proofs.SentLaws.{list-made, list-told, list-read}
-
--- the types say nothing of an entry that its range does not say
-abbrev pub Good : SatelliteHealth → Type 0
-Good = InRange
 
 -- what refusal 10 says of an entry, both ways
 range-fine : (e : SatelliteHealth) → InRange e → outOfRange e ≡ false
@@ -48,43 +45,21 @@ range-told e o =
       few = r .2 .1;
     }
 
-good : (e : SatelliteHealth) → Unit {0} → outOfRange e ≡ false → Good e
-good e t o = range-told e o
+-- ---- what the tables owe; the types say nothing of an entry
 
--- ---- what the codes owe
+-- the numbers of what is read are those of its codes
+again : (vs : List ℕ) → Below widths vs → numbers (meant vs) ≡ row (numbersOf least widths (placesFrom 0 widths vs))
+again vs at = refl
 
-faithful : Faithful coding Good
+-- the codes of what can be sent mean it
+faithful : Faithful coding (Fine (λ e. Unit {0}) outOfRange)
 faithful =
-    by-tables widths meant numbers Good
-    (λ e g. rw (
-      mod-eq-of-lt (g .reserved),
-      satellite-back (e .satellite) (g .some) (g .few),
-      mod-eq-of-lt (g .link),
-      mod-eq-of-lt (g .health),
-      mod-eq-of-lt (g .cn0),
-      mod-eq-of-lt (g .enable),
-      mod-eq-of-lt (g .new),
-      mod-eq-of-lt (g .loss),
-      mod-eq-of-lt (g .time),
-      mod-eq-of-lt (g .spare),
-    ))
-    (λ vs at. rw (satellite-low (getD vs 1 0)))
+    tables-faithful least widths least most meant numbers (omega arith) again (λ e. Unit {0})
+    (λ e t o. let r = range-told e o in rw (satellite-back (e .satellite) (r .some) (r .few)))
 
 -- what is read is in range
-in-range : (vs : List ℕ) → Below widths vs → outOfRange (meant vs) ≡ false
-in-range vs at = range-fine (meant vs) record {
-  reserved = at 0;
-  link = at 2;
-  health = at 3;
-  cn0 = at 4;
-  enable = at 5;
-  new = at 6;
-  loss = at 7;
-  time = at 8;
-  spare = at 9;
-  some = satellite-some (getD vs 1 0) (at 1);
-  few = satellite-few (getD vs 1 0) (at 1);
-}
+in-range : (vs : List ℕ) → Fit widths vs → outOfRange (meant vs) ≡ false
+in-range vs f = tables-range least widths least most meant numbers (omega arith) again vs f refl
 
 sized : (c : ℕ) → 0 < c → c ≤ 31 → (c * 24 ≤ 744) × (entriesHeld 24 ((c * 24 + 23) / 24) ≡ c)
 sized c l h = (omega arith, omega arith)
@@ -94,10 +69,10 @@ sized c l h = (omega arith, omega arith)
 -- MADE, THEN READ: header, count, every entry, the widths, N
 pub healths-made-read : (h : Header) (es : List SatelliteHealth) (c : ℕ) (d : SatelliteHealth) (f : Frame) → c ≤ length es
     → makeHealths h es c ≡ doneMade f → HealthsMade h es c d f
-unfolding makeHealths
+unfolding makeHealths countHealths healthAt
 healths-made-read h es c d f l =
-    made-then-read layout.Health coding fill 31 outOfRange read.Refused read.Entry (λ e. Unit {0}) Good faithful good sized h es c d f l
-    (each-any (λ e. Unit {0}) (λ e. tt) (take c es))
+    made-then-read layout.Health coding fill 31 outOfRange (λ e. false) read.Refused read.Entry (λ e. Unit {0}) faithful sized (λ e t o. refl)
+    h es c d f l (each-any (λ e. Unit {0}) (λ e. tt) (take c es))
 
 -- READ, THEN MADE: a frame whose count and entries read is made again from them; it has no fill
 pub healths-read-made : (f : Frame) (es : List SatelliteHealth) (c : ℕ) (d : SatelliteHealth) → length (f .words) ≡ 31 → c ≤ length es
@@ -105,8 +80,8 @@ pub healths-read-made : (f : Frame) (es : List SatelliteHealth) (c : ℕ) (d : S
     → makeHealths (f .header) es c ≡ doneMade f
 unfolding makeHealths countHealths healthAt
 healths-read-made f es c d full l n e =
-    read-then-made layout.Health coding fill 31 outOfRange read.Refused read.Entry (λ e. Unit {0}) Good faithful good sized
-    in-range (λ n h. omega arith) apart (λ a b q. cc) f es c d full l n e
+    read-then-made layout.Health coding fill 31 outOfRange (λ e. false) read.Refused read.Entry (λ e. Unit {0}) faithful sized
+    (λ vs f r. in-range vs f) (λ n h. omega arith) apart (λ a b q. cc) f es c d full l n e
     (no-fill layout.Health coding fill f c full n (λ m. omega arith))
   where
     apart : (n : ℕ) (e : SatelliteHealth) → read.Refused n ≡ read.Entry e → ⊥
@@ -133,7 +108,7 @@ healths-told = list-told layout.Health coding fill 31 outOfRange InRange range-t
 -- READ: of a frame that holds c healths the count and every entry are read, not refused
 pub healths-read : (f : Frame) (c : ℕ) → HoldsHealths f c → ReadsHealths f c
 unfolding countHealths healthAt
-healths-read = list-read layout.Health coding 31 read.Refused read.Entry (λ c l h. sized c l h .1)
+healths-read = list-read layout.Health coding 31 (λ e. false) read.Refused read.Entry (λ c l h. sized c l h .1)
 
 -- and a count is read of no other frame
 pub healths-held : (f : Frame) (c : ℕ) → countHealths f ≡ count.Of c → HoldsHealths f c

@@ -20,8 +20,8 @@ use Rattle.frame.proofs.WidthLaws.{both-false}
 use Rattle.frame.proofs.FrameLaws.{n-within}
 use Rattle.record_fields.specs.Coding.{Coding, frameBits, entryIn, frameWith}
 use Rattle.record_stages.specs.declared.Count.the-variants as count
-use Rattle.record_stages.specs.Stages.{wrongCount, otherLayout, entriesHeld, misfit, wrongSize, readOrder, makeOrder, refusedMade, doneMade, HeaderFor, FrameFor}
-use Rattle.record_stages.specs.Lists.{listMade, listCount, listEntry, Sendable, Holding, ListRead}
+use Rattle.record_stages.specs.Stages.{wrongCount, otherLayout, entriesHeld, misfit, wrongSize, readOrder, entryOrder, makeOrder, refusedMade, doneMade, HeaderFor, FrameFor}
+use Rattle.record_stages.specs.Lists.{listMade, listCount, listRanged, heldTo, Sendable, Holding, ListRead}
 use Rattle.record_stages.proofs.ListCode.{count-right, some-few, told-some-few}
 use Rattle.record_stages.proofs.StageLaws.{done-apart}
 
@@ -119,15 +119,17 @@ module _ {A : Type 0} (asked : Layout) (k : Coding A) (pattern most : ℕ) (out 
 
 -- ---- frames that hold a list
 
-module _ {A B : Type 0} (asked : Layout) (k : Coding A) (most : ℕ) (refuse : ℕ → B) (entry : A → B)
+-- a layout without a range for reading has `λ e. false` for it: `listRanged` is then its `listEntry`, and `heldTo` the entry
+module _ {A B : Type 0} (asked : Layout) (k : Coding A) (most : ℕ) (reads : A → Bool) (refuse : ℕ → B) (entry : A → B)
     (held : (c : ℕ) → 0 < c → c ≤ most → entriesHeld (span (k .widths)) ((c * span (k .widths) + 23) / 24) ≡ c) where
-  -- READ: its count and every entry, none refused
-  pub list-read : (f : Frame) (c : ℕ) → Holding asked k most f c → ListRead k (listCount asked k) (listEntry asked k refuse entry) entry f c
+  -- READ: its count, and every entry by its range for reading
+  pub list-read : (f : Frame) (c : ℕ) → Holding asked k most f c
+      → ListRead k (listCount asked k) (listRanged asked k reads refuse entry) (heldTo reads refuse entry) f c
   list-read f c s = record {
     counts = order-answers count.Refused (count.Of (entriesHeld w (f .n))) (readOrder asked f (misfit w (f .n)) [])
         (read-passes asked f (misfit w (f .n)) [] (s .frame) fits tt) ∙ ap count.Of is;
     entries = λ i l.
-        order-answers refuse (entry (entryIn k i (frameBits f))) (readOrder asked f (misfit w (f .n)) ((leb (entriesHeld w (f .n)) i, 9) ∷ []))
+        order-answers refuse (heldTo reads refuse entry (entryIn k i (frameBits f))) (entryOrder asked w f i [])
         (read-passes asked f (misfit w (f .n)) ((leb (entriesHeld w (f .n)) i, 9) ∷ []) (s .frame) fits (ap (λ m. leb m i) is ∙ lt-leb c i l, tt));
   }
     where

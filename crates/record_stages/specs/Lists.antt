@@ -38,13 +38,17 @@ module _ {A : Type 0} (asked : Layout) (k : Coding A) where
       inOrder (makeOrder asked h ((wrongCount most c, 12) ∷ (anyOf out (take c es), 10) ∷ [])) refusedMade
       (doneMade (frameWith pattern k h (take c es)))
 
+-- what is answered for an entry that is there, by its range for reading: 10, or the entry
+abbrev pub heldTo : {A B : Type 0} → (A → Bool) → (ℕ → B) → (A → B) → A → B
+heldTo out refuse entry e = inOrder ((out e, 10) ∷ []) refuse (entry e)
+
 -- A made frame f reads back: its header, its count, every entry; it is within its widths, N is worked out, its fill is standard
-pub record MadeReads {A B : Type 0} (asked : Layout) (k : Coding A) (pattern : ℕ) (refuse : ℕ → B) (entry : A → B)
+pub record MadeReads {A B : Type 0} (k : Coding A) (pattern : ℕ) (counting : Frame → Count) (at : Frame → ℕ → B) (entry : A → B)
     (h : Header) (es : List A) (c : ℕ) (d : A) (f : Frame) : Type 0 where
   pub header : f .header ≡ h
   pub inside : outside f ≡ false
-  pub counts : listCount asked k f ≡ count.Of c
-  pub entries : (i : ℕ) → i < c → listEntry asked k refuse entry f i ≡ entry (getD es i d)
+  pub counts : counting f ≡ count.Of c
+  pub entries : (i : ℕ) → i < c → at f i ≡ entry (getD es i d)
   pub n : f .n ≡ (c * span (k .widths) + 23) / 24
   pub fill : FillAfter pattern (c * span (k .widths)) (frameBits f)
 

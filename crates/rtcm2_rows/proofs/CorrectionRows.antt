@@ -68,5 +68,5 @@ faithful = record { meant-codes = meant-codes; fit-codes = fit-codes; codes-mean
         let at = fit-below (row .widths) vs f in
         let x = getD vs 3 0 in
         let y = getD vs 4 0 in
-        rw (code-signed 15 (x + 256 * y) (whole x y (at 3) (at 4)), low x y (at 3), high x y (at 3) (at 4), code-signed 7 (getD vs 5 0) (at 5), mod-eq-of-lt (at 5))
-        (fit-places (row .widths) vs f)
+        rw (code-signed 15 (x + 256 * y) (whole x y (at 3) (at 4)), low x y (at 3), high x y (at 3) (at 4))
+        (rw (code-signed 7 (getD vs 5 0) (at 5), mod-eq-of-lt (at 5)) (fit-places (row .widths) vs f))
