@@ -16,12 +16,13 @@ use Rattle.reader.specs.declared.Reader.{Reader}
 use Rattle.reader.specs.declared.Next.{Next}
 use Rattle.reader.specs.declared.Answer.{Answer}
 use Rattle.reader.specs.declared.Answer.the-variants.{Done, Refused}
+use Rattle.printing.proofs.StoreLaws.{stored-then}
 use Rattle.listing.specs.Text.{lastLine}
-use Rattle.listing.specs.Listing.{Lines, linesOf, linedBy, lineRoom, readyBy, refusedListing, listed, pieceBy, pieceText, endRoom, endedOn, finalLines, finishBy, finishText}
+use Rattle.listing.specs.Listing.{Lines, linesOf, linedBy, lineRoom, readyBy, refusedListing, listed, pieceBy, pieceText}
+use Rattle.listing.specs.Listing.{endRoom, endedOn, finalLines, finishBy, finishText}
 use Rattle.listing.specs.declared.Listing.{Listing}
 use Rattle.listing.specs.declared.Listed.{Listed}
 use Rattle.listing.specs.declared.Lined.{Lined}
-use Rattle.listing.proofs.StoreLaws.{stored-then}
 
 -- ---- an order in two stages: an answer to the first, then 13
 
@@ -77,7 +78,8 @@ module _ (l : Listing) (bs out : List ℕ) (a : Answer) (is : a ≡ readyBy (l .
 
   pub piece-done : a ≡ Done → lineRoom ≤ length out → (lined : Lined) → lined ≡ linedBy (linesOf (length out / lineRoom) l bs)
       → (out′ : List ℕ) → out′ ≡ sets out 0 (linesOf (length out / lineRoom) l bs .text)
-      → (record { answer = Done; used = lined .used; written = lined .written; listing = lined .listing } ≡ pieceBy l bs (length out)) × (out′ ≡ pieceText l bs out)
+      → (record { answer = Done; used = lined .used; written = lined .written; listing = lined .listing } ≡ pieceBy l bs (length out))
+      × (out′ ≡ pieceText l bs out)
   unfolding pieceBy pieceText lines ready linedBy
   piece-done e h lined k out′ o = (
     ap (λ (x : Lined). record { answer = Done; used = x .used; written = x .written; listing = x .listing }) k
@@ -137,11 +139,15 @@ module _ (l : Listing) (out : List ℕ) (e : Next) (is : e ≡ endedBy (l .reade
 
     stored : out₂ ≡ sets out 0 (final x .text)
     unfolding final x linedBy last
-    stored = o₂ ∙ ap (λ (y : Lined). sets out₁ (y .written) (last y)) k ∙ sym (stored-then out (x .text) (last (linedBy x)) 0 (length (x .text)) out₁ (sym (zero-add (length (x .text)))) o₁)
+    stored =
+        o₂ ∙ ap (λ (y : Lined). sets out₁ (y .written) (last y)) k
+        ∙ sym (stored-then out (x .text) (last (linedBy x)) 0 (length (x .text)) out₁ (sym (zero-add (length (x .text)))) o₁)
 
     pub finish-done : (record { answer = Done; used = 0; written = written; listing = lined .listing } ≡ finishBy l (length out)) × (out₂ ≡ finishText l out)
     unfolding finishBy finishText
     finish-done = (
-      answered ∙ ap listed final-is ∙ sym (stage-done (refusedListing l) (listed (finalLines l)) (busy (l .reader)) (length out) endRoom (e .answer) answer-is f h),
-      stored ∙ ap (λ y. sets out 0 (y .text)) final-is ∙ sym (stage-done (λ m. out) (sets out 0 (finalLines l .text)) (busy (l .reader)) (length out) endRoom (e .answer) answer-is f h),
+      answered ∙ ap listed final-is
+          ∙ sym (stage-done (refusedListing l) (listed (finalLines l)) (busy (l .reader)) (length out) endRoom (e .answer) answer-is f h),
+      stored ∙ ap (λ y. sets out 0 (y .text)) final-is
+          ∙ sym (stage-done (λ m. out) (sets out 0 (finalLines l .text)) (busy (l .reader)) (length out) endRoom (e .answer) answer-is f h),
     )

@@ -9,14 +9,12 @@ use Rattle.frame.specs.declared.Frame.{Frame}
 use Rattle.reader.specs.Reading.{endedBy, takenBy}
 use Rattle.reader.specs.declared.Answer.{Answer}
 use Rattle.reader.specs.declared.Answer.the-variants.{Done, Refused}
-use Rattle.listing.specs.Text.{decimal, newline, afterNumber, spaced, lineNumbers, frameLine, framesLabel, bytesLabel, passedLabel, lastLine}
+use Rattle.printing.specs.Printing.{decimal}
+use Rattle.printing.proofs.DigitLaws.{decimal-le}
+use Rattle.listing.specs.Text.{newline, afterNumber, spaced, lineNumbers, frameLine, framesLabel, bytesLabel, passedLabel, lastLine}
 use Rattle.listing.specs.Listing.{fedOn, handedOn, endedOn, Lines, lineThen, linesOf, lineRoom, endRoom, finalLines}
 use Rattle.listing.specs.declared.Listing.{Listing}
-use Rattle.listing.proofs.TextLaws.{digits-le, length-decimal}
 use Rattle.listing.proofs.LinesLaws.{fed-used}
-
-decimal-le : (n : ℕ) → length (decimal n) ≤ 20
-decimal-le n = omega (arith, length-decimal n, digits-le 20 n)
 
 spaced-le : (ns : List ℕ) → length (spaced ns) ≤ 21 * length ns
 unfolding spaced
@@ -46,11 +44,14 @@ pub lines-le : (k : ℕ) (l : Listing) (bs : List ℕ) → length (linesOf k l b
 unfolding linesOf
 lines-le zero l bs = omega arith
 lines-le (suc k) l bs =
-    go (takenBy (fedOn l bs .listing .reader) .answer) (frameLine (takenBy (fedOn l bs .listing .reader) .at) (takenBy (fedOn l bs .listing .reader) .frame)) (line-le (takenBy (fedOn l bs .listing .reader) .at) (takenBy (fedOn l bs .listing .reader) .frame))
-    (linesOf k (handedOn (fedOn l bs .listing) (takenBy (fedOn l bs .listing .reader) .reader)) (drop (fedOn l bs .used) bs))
-    (lines-le k (handedOn (fedOn l bs .listing) (takenBy (fedOn l bs .listing .reader) .reader)) (drop (fedOn l bs .used) bs))
+    let fed = fedOn l bs in
+    let took = takenBy (fed .listing .reader) in
+    let next = handedOn (fed .listing) (took .reader) in
+    let left = drop (fed .used) bs in
+    go (took .answer) (frameLine (took .at) (took .frame)) (line-le (took .at) (took .frame)) (linesOf k next left) (lines-le k next left)
   where
-    go : (a : Answer) (line : List ℕ) → length line ≤ lineRoom → (rest : Lines) → length (rest .text) ≤ lineRoom * k → length (lineThen a (fedOn l bs) line rest .text) ≤ lineRoom * suc k
+    go : (a : Answer) (line : List ℕ) → length line ≤ lineRoom → (rest : Lines) → length (rest .text) ≤ lineRoom * k
+        → length (lineThen a (fedOn l bs) line rest .text) ≤ lineRoom * suc k
     go Done line h rest later = omega (arith, length-append line (rest .text))
     go (Refused n) line h rest later = omega arith
 
@@ -72,8 +73,11 @@ pub lines-used : (k : ℕ) (l : Listing) (bs : List ℕ) → linesOf k l bs .use
 unfolding linesOf
 lines-used zero l bs = omega arith
 lines-used (suc k) l bs =
-    go (takenBy (fedOn l bs .listing .reader) .answer) (frameLine (takenBy (fedOn l bs .listing .reader) .at) (takenBy (fedOn l bs .listing .reader) .frame))
-    (linesOf k (handedOn (fedOn l bs .listing) (takenBy (fedOn l bs .listing .reader) .reader)) (drop (fedOn l bs .used) bs)) (lines-used k _ _)
+    let fed = fedOn l bs in
+    let took = takenBy (fed .listing .reader) in
+    let next = handedOn (fed .listing) (took .reader) in
+    let left = drop (fed .used) bs in
+    go (took .answer) (frameLine (took .at) (took .frame)) (linesOf k next left) (lines-used k next left)
   where
     go : (a : Answer) (line : List ℕ) (rest : Lines) → rest .used ≤ length (drop (fedOn l bs .used) bs) → lineThen a (fedOn l bs) line rest .used ≤ length bs
     go Done line rest later = omega (arith, length-drop (fedOn l bs .used) bs, fed-used l bs)

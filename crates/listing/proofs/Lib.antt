@@ -1,4 +1,3 @@
-pub mod StoreLaws
 pub mod TextLaws
 pub mod ListingLaws
 pub mod LinesLaws

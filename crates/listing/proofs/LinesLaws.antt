@@ -16,7 +16,7 @@ use Rattle.frame.specs.Frames.{framed, blank}
 use Rattle.frame.specs.Widths.{stateOutside}
 use Rattle.frame.proofs.StateLaws.{state-inside}
 use Rattle.stream.specs.Standing.{frameAt}
-use Rattle.reader.specs.Reading.{bitsOf, past, frameWaits, stepCells, stepTo, spent, runTo, ranBy, fedAllBy, takeTo, takenBy}
+use Rattle.reader.specs.Reading.{Run, bitsOf, past, frameWaits, stepCells, stepTo, spent, runTo, ranBy, fedAllBy, takeTo, takenBy}
 use Rattle.reader.specs.declared.Candidate.{Candidate}
 use Rattle.reader.specs.declared.Reader.{Reader}
 use Rattle.reader.specs.declared.Answer.the-variants.{Done, Refused}
@@ -34,9 +34,12 @@ unfolding runTo
 run-used [] cells c = omega arith
 run-used (b ∷ bs) cells c = go (c .waits) (isData b) (run-used bs (stepCells cells c (number (six b))) (stepTo cells c (number (six b)))) (run-used bs cells c)
   where
-    go : (w z : Bool) → runTo (stepCells cells c (number (six b))) (stepTo cells c (number (six b))) bs .used ≤ length bs → runTo cells c bs .used ≤ length bs
+    on-run : Run
+    on-run = runTo (stepCells cells c (number (six b))) (stepTo cells c (number (six b))) bs
+
+    go : (w z : Bool) → on-run .used ≤ length bs → runTo cells c bs .used ≤ length bs
         → cond w (record { cells = cells; candidate = c; used = 0; passed = 0 })
-        (cond z (spent 1 0 (runTo (stepCells cells c (number (six b))) (stepTo cells c (number (six b))) bs)) (spent 1 1 (runTo cells c bs))) .used ≤ suc (length bs)
+        (cond z (spent 1 0 on-run) (spent 1 1 (runTo cells c bs))) .used ≤ suc (length bs)
     go true z on over = omega arith
     go false true on over = omega arith
     go false false on over = omega arith
@@ -45,10 +48,9 @@ pub fed-used : (l : Listing) (bs : List ℕ) → fedOn l bs .used ≤ length bs
 unfolding fedOn fedAllBy
 fed-used l bs = go (past (l .reader)) (l .reader .ended) (l .reader .candidate .waits)
   where
-    r : Reader
-    r = l .reader
-
-    go : (p x w : Bool) → inOrder ((p, 5) ∷ (x, 3) ∷ (w, 2) ∷ []) (λ n. record { answer = Refused n; used = 0; passed = 0; reader = l .reader }) (ranBy (l .reader) (runTo (l .reader .cells) (l .reader .candidate) bs)) .used ≤ length bs
+    go : (p x w : Bool)
+        → inOrder ((p, 5) ∷ (x, 3) ∷ (w, 2) ∷ []) (λ n. record { answer = Refused n; used = 0; passed = 0; reader = l .reader })
+        (ranBy (l .reader) (runTo (l .reader .cells) (l .reader .candidate) bs)) .used ≤ length bs
     go true x w = omega arith
     go false true w = omega arith
     go false false true = omega arith
@@ -77,8 +79,12 @@ taken-by-inside : (r : Reader) → stateOutside (takenBy r .frame .header .state
 unfolding takenBy
 taken-by-inside r = go (past r) (not (frameWaits r))
   where
-    go : (p w : Bool) → stateOutside (inOrder {A = Taken} ((p, 5) ∷ (w, 4) ∷ []) (λ n. record { answer = Refused n; at = 0; frame = blank; reader = r })
-        (record { answer = Done; at = r .candidate .at; frame = frameAt (bitsOf r); reader = record { cells = r .cells; candidate = takeTo (r .cells) (r .candidate) (r .ended); ended = r .ended } }) .frame .header .state) ≡ false
+    next : Reader
+    next = record { cells = r .cells; candidate = takeTo (r .cells) (r .candidate) (r .ended); ended = r .ended }
+
+    go : (p w : Bool)
+        → stateOutside (inOrder {A = Taken} ((p, 5) ∷ (w, 4) ∷ []) (λ n. record { answer = Refused n; at = 0; frame = blank; reader = r })
+        (record { answer = Done; at = r .candidate .at; frame = frameAt (bitsOf r); reader = next }) .frame .header .state) ≡ false
     go true w = blank-inside
     go false true = blank-inside
     go false false = frame-inside (bitsOf r)
@@ -116,7 +122,9 @@ module _ (left : ℕ) (more : 0 < left) (l : Listing) (bs : List ℕ) (fed : Fed
   -- none waits
   pub line-none : (n : ℕ) → took .answer ≡ Refused n → linesOf left l bs ≡ record { text = []; used = fed .used; listing = fed .listing }
   unfolding turn
-  line-none n none = by-turn ∙ ap (λ a. lineThen a fed (frameLine (took .at) (took .frame)) (linesOf (left - 1) (handedOn (fed .listing) (took .reader)) (drop (fed .used) bs))) none
+  line-none n none =
+      let rest = linesOf (left - 1) (handedOn (fed .listing) (took .reader)) (drop (fed .used) bs) in
+      by-turn ∙ ap (λ a. lineThen a fed (frameLine (took .at) (took .frame)) rest) none
 
 -- ---- the loop
 
@@ -139,7 +147,9 @@ module _ (whole : Lines) (from out : List ℕ) (used written : ℕ) (rest : Line
     ends = far .ends ∙ ap (λ (x : Lines). x .listing) e;
     uses = far .uses ∙ ap (λ (x : Lines). used + x .used) e ∙ sym (add-assoc used u (next .used));
     writes = omega (arith, far .writes ∙ ap (λ (x : Lines). written + length (x .text)) e, length-append line (next .text));
-    stores = far .stores ∙ ap (λ (x : Lines). sets out written (x .text)) e ∙ sets-append line (next .text) out written ∙ ap₂ (λ a j. sets a j (next .text)) (sym o) (sym w);
+    stores =
+        far .stores ∙ ap (λ (x : Lines). sets out written (x .text)) e
+        ∙ sets-append line (next .text) out written ∙ ap₂ (λ a j. sets a j (next .text)) (sym o) (sym w);
   }
 
   -- nothing is left

@@ -31,7 +31,8 @@ fed-on-is l bs f e bytes passed b p =
 fed-answer : (r : Reader) (bs : List ℕ) → fedAllBy r bs .answer ≡ inOrder (busy r) Refused Done
 unfolding fedAllBy
 fed-answer r bs =
-    order-map (λ (f : FedAll). f .answer) (busy r) (λ n. record { answer = Refused n; used = 0; passed = 0; reader = r }) (ranBy r (runTo (r .cells) (r .candidate) bs))
+    order-map (λ (f : FedAll). f .answer) (busy r) (λ n. record { answer = Refused n; used = 0; passed = 0; reader = r })
+    (ranBy r (runTo (r .cells) (r .candidate) bs))
 
 module _ (r : Reader) (a : Answer) (is : a ≡ fedAllBy r [] .answer) where
   pub ready-refused : (n : ℕ) → a ≡ Refused n → (n ≡ 2 → ⊥) → Refused n ≡ readyBy r

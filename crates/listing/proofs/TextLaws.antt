@@ -1,91 +1,23 @@
--- Digits and lines as the loops make them. Assumes nothing.
+-- Lines as the loop makes them. Assumes nothing.
 use mathlib.Core.Path.{_≡_, refl, sym, ap, ap₂, _∙_}
 use mathlib.Core.Bool.{Bool, true, false, cond}
 use mathlib.Core.List.{List, [], _∷_, _++_}
-use Prim.Native.Nat.{ℕ, zero, suc, _+_, _-_, _/_, _%_, _≤_, _<_}
-use native.Mathlib.Nat.{add-zero}
+use Prim.Native.Nat.{ℕ, suc, _+_, _≤_, _<_}
 use native.Mathlib.Numerals.{add-one}
 use native.Mathlib.Omega.{arith}
-use lib.Dec.{ltb, eqb}
+use lib.Dec.{eqb}
 use lib.ListN.{length, drop, getD, set, length-append, drop-of-length-le}
 use lib.Seq.{sets, drop-cons}
-use borrow.Author.Tests.{eqb-true, eqb-false, lt-ltb, le-ltb}
+use borrow.Author.Tests.{eqb-true, eqb-false}
 use Rattle.bits.proofs.Stores.{sets-append}
 use Rattle.frame.specs.Header.{codeOf}
 use Rattle.frame.specs.Widths.{stateOutside}
 use Rattle.frame.specs.Answer.{healthOf}
 use Rattle.frame.specs.declared.State.{State}
 use Rattle.frame.specs.declared.HealthCode.the-variants.{Code, Refused}
-use Rattle.listing.specs.Text.{lastDigits, digitsUpTo, decimal, space, newline, afterNumber, spaced, framesLabel, bytesLabel, passedLabel, lastLine}
-use Rattle.listing.proofs.StoreLaws.{sets-last, length-stored, length-marked, stored-then}
-
--- ---- digits
-
-pub digits-le : (k n : ℕ) → digitsUpTo k n ≤ k
-unfolding digitsUpTo
-digits-le zero n = omega arith
-digits-le (suc k) n = go (ltb n 10) (digits-le k (n / 10))
-  where
-    go : (t : Bool) → digitsUpTo k (n / 10) ≤ k → cond t 1 (suc (digitsUpTo k (n / 10))) ≤ suc k
-    go true h = omega arith
-    go false h = omega arith
-
-pub length-digits : (k n : ℕ) → length (lastDigits k n) ≡ k
-unfolding lastDigits
-length-digits zero n = refl
-length-digits (suc k) n = length-append (lastDigits k (n / 10)) ((48 + n % 10) ∷ []) ∙ rw (length-digits k (n / 10)) (add-one k)
-
-pub length-decimal : (n : ℕ) → length (decimal n) ≡ digitsUpTo 20 n
-unfolding decimal
-length-decimal n = length-digits (digitsUpTo 20 n) n
-
--- counting: below ten there is one more digit, else the count goes on with a tenth
-pub count-last : (k left : ℕ) → 0 < k → left < 10 → digitsUpTo k left ≡ 1
-unfolding digitsUpTo
-count-last zero left p h = absurd (omega arith)
-count-last (suc k) left p h = ap (λ t. cond t 1 (suc (digitsUpTo k (left / 10)))) (lt-ltb left 10 h)
-
-count-more : (k left : ℕ) → 0 < k → 10 ≤ left → digitsUpTo k left ≡ suc (digitsUpTo (k - 1) (left / 10))
-unfolding digitsUpTo
-count-more zero left p h = absurd (omega arith)
-count-more (suc k) left p h =
-    ap (λ t. cond t 1 (suc (digitsUpTo k (left / 10)))) (le-ltb left 10 h) ∙ ap (λ j. suc (digitsUpTo j (left / 10))) lower
-  where
-    lower : k ≡ suc k - 1
-    lower = omega arith
-
--- in a loop that has counted some of twenty
-pub count-on : (before left : ℕ) → before < 20 → 10 ≤ left
-    → before + digitsUpTo (20 - before) left ≡ before + 1 + digitsUpTo (20 - (before + 1)) (left / 10)
-count-on before left b h =
-    ap (λ d. before + d) (count-more (20 - before) left (omega arith) h ∙ ap (λ j. suc (digitsUpTo j (left / 10))) lower)
-    ∙ one-more before (digitsUpTo (20 - (before + 1)) (left / 10))
-  where
-    lower : 20 - before - 1 ≡ 20 - (before + 1)
-    lower = omega arith
-
-    one-more : (a d : ℕ) → a + suc d ≡ a + 1 + d
-    one-more a d = omega arith
-
-pub count-end : (before left : ℕ) → before ≡ 20 → before + digitsUpTo (20 - before) left ≡ before
-unfolding digitsUpTo
-count-end before left e = ap (λ j. before + digitsUpTo j left) none ∙ add-zero before
-  where
-    none : 20 - before ≡ 0
-    none = omega arith
-
--- the last of the digits that are left
-pub store-digit : (l : List ℕ) (place i left : ℕ) → 0 < i
-    → sets l place (lastDigits i left) ≡ sets (set l (place + (i - 1)) (48 + left % 10)) place (lastDigits (i - 1) (left / 10))
-unfolding lastDigits
-store-digit l place zero left h = absurd (omega arith)
-store-digit l place (suc k) left h =
-    sets-last (lastDigits k (left / 10)) l place (48 + left % 10)
-    ∙ ap (λ j. sets (set l (place + j) (48 + left % 10)) place (lastDigits k (left / 10))) (length-digits k (left / 10))
-    ∙ ap (λ j. sets (set l (place + j) (48 + left % 10)) place (lastDigits j (left / 10))) lower
-  where
-    lower : k ≡ suc k - 1
-    lower = omega arith
+use Rattle.printing.specs.Printing.{decimal}
+use Rattle.printing.proofs.StoreLaws.{length-stored, length-marked, stored-then}
+use Rattle.listing.specs.Text.{space, newline, afterNumber, spaced, framesLabel, bytesLabel, passedLabel, lastLine}
 
 -- ---- a line of numbers
 
@@ -120,12 +52,15 @@ pub store-spaced : (l ns : List ℕ) (next i m : ℕ) → length ns ≡ suc m �
     → (after : ℕ) → after ≡ cond (eqb i m) newline space
     → sets l next (spaced (drop i ns)) ≡ sets (set l′ next′ after) (next′ + 1) (spaced (drop (i + 1) ns))
 store-spaced l ns next i m e h l′ el next′ en after ea =
+    let digits = decimal (getD ns i 0) in
+    let mark = cond (eqb i m) newline space in
+    let rest = spaced (drop (i + 1) ns) in
+    let end = next + length digits in
     ap (sets l next) (spaced-next ns i m e h)
-    ∙ sets-append (decimal (getD ns i 0)) (cond (eqb i m) newline space ∷ spaced (drop (i + 1) ns)) l next
-    ∙ ap (λ j. sets (set (sets l next (decimal (getD ns i 0))) (next + length (decimal (getD ns i 0))) (cond (eqb i m) newline space)) j (spaced (drop (i + 1) ns)))
-    (sym (add-one (next + length (decimal (getD ns i 0)))))
-    ∙ ap (λ k. sets (set k (next + length (decimal (getD ns i 0))) (cond (eqb i m) newline space)) (next + length (decimal (getD ns i 0)) + 1) (spaced (drop (i + 1) ns))) (sym el)
-    ∙ ap₂ (λ j x. sets (set l′ j x) (j + 1) (spaced (drop (i + 1) ns))) (sym en) (sym ea)
+    ∙ sets-append digits (mark ∷ rest) l next
+    ∙ ap (λ j. sets (set (sets l next digits) end mark) j rest) (sym (add-one end))
+    ∙ ap (λ k. sets (set k end mark) (end + 1) rest) (sym el)
+    ∙ ap₂ (λ j x. sets (set l′ j x) (j + 1) rest) (sym en) (sym ea)
 
 pub length-spaced : (ns : List ℕ) (i m : ℕ) → length ns ≡ suc m → i ≤ m
     → length (spaced (drop i ns)) ≡ length (decimal (getD ns i 0)) + 1 + length (spaced (drop (i + 1) ns))

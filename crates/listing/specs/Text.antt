@@ -1,32 +1,13 @@
 -- THE TEXT of a stream: a line for each frame of its scan, in order, and a last line of totals, which are counted over the stream itself.
 -- Bytes are ASCII codes. Assumes nothing.
-use mathlib.Core.Bool.{cond}
 use mathlib.Core.List.{List, [], _∷_, _++_}
-use Prim.Native.Nat.{ℕ, zero, suc, _+_, _/_, _%_, _^_}
-use lib.Dec.{ltb}
+use Prim.Native.Nat.{ℕ, _%_, _^_}
 use lib.ListN.{length}
 use Rattle.line.specs.Line.{lineBits, without}
 use Rattle.frame.specs.Header.{codeOf}
 use Rattle.frame.specs.declared.Frame.{Frame}
 use Rattle.stream.specs.Standing.{Placed, framesIn}
-
--- ---- a number
-
--- the last k decimal digits, the highest first
-unfoldable pub lastDigits : ℕ → ℕ → List ℕ
-lastDigits zero n = []
-lastDigits (suc k) n = lastDigits k (n / 10) ++ ((48 + n % 10) ∷ [])
-
--- how many digits a number has, counted up to k
-unfoldable pub digitsUpTo : ℕ → ℕ → ℕ
-digitsUpTo zero n = zero
-digitsUpTo (suc k) n =
-    let more = suc (digitsUpTo k (n / 10)) in
-    cond (ltb n 10) 1 more
-
--- DECIMAL, with no zero before the first digit; every number below 2^64 has at most twenty digits
-unfoldable pub decimal : ℕ → List ℕ
-decimal n = lastDigits (digitsUpTo 20 n) n
+use Rattle.printing.specs.Printing.{decimal}
 
 -- ---- lines
 

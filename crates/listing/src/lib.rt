@@ -3,7 +3,8 @@ ghost use mathlib.Core.Path.{_≡_};
 ghost use Prim.Native.Nat.{_*_, _≤_};
 ghost use lib.ListN.{length};
 ghost use lib.Seq.{sets};
-ghost use Rattle.listing.specs.Listing.{begun, fedOn, handedOn, endedOn, linesOf, linedBy, lineRoom, readyBy, refusedListing, pieceBy, pieceText, finishBy, finishText};
+ghost use Rattle.listing.specs.Listing.{begun, fedOn, handedOn, endedOn, linesOf, linedBy, lineRoom};
+ghost use Rattle.listing.specs.Listing.{readyBy, refusedListing, pieceBy, pieceText, finishBy, finishText};
 
 mod text;
 

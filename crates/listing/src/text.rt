@@ -1,4 +1,4 @@
-// Numbers and lines as text, in ASCII.
+// Lines as text, in ASCII.
 ghost use mathlib.Core.Path.{_≡_};
 ghost use mathlib.Core.Bool.{false, cond};
 ghost use mathlib.Core.List.{_++_};
@@ -7,43 +7,12 @@ ghost use lib.Dec.{eqb};
 ghost use lib.ListN.{length};
 ghost use lib.Seq.{sets};
 ghost use Rattle.frame.specs.Widths.{stateOutside};
+ghost use Rattle.printing.specs.Printing.{decimal};
 ghost use Rattle.listing.specs.Listing.{lineRoom};
-ghost use Rattle.listing.specs.Text.{digitsUpTo, decimal, spaced, frameLine, lastLine};
+ghost use Rattle.listing.specs.Text.{spaced, frameLine, lastLine};
 use frame::Frame;
 use frame::HealthCode;
-
-// How many digits a number has.
-fn digits_in(n: u64) -> usize
-    ensures { λ r. ⌜ (r ≡ digitsUpTo 20 n) × (r ≤ 20) ⌝ }
-{
-    let mut left = n;
-    let mut before: usize = 0;
-    while before < 20 {
-        if left < 10 {
-            return before + 1;
-        }
-        left /= 10;
-        before += 1;
-    }
-    before
-}
-
-// Writes a number's digits from `place` on, and answers the place after them.
-fn put_number(n: u64, place: usize, buffer: &mut [u8]) -> usize
-    requires { ⌜ place + 20 ≤ length (now buffer) ⌝ }
-    ensures { λ r. ⌜ (r ≡ place + length (decimal n)) × (r ≤ place + 20) ⌝ }
-    ensures { λ _. ⌜ now (buffer .exit) ≡ sets (now (buffer .entry)) place (decimal n) ⌝ }
-{
-    let count = digits_in(n);
-    let mut left = n;
-    let mut i = count;
-    while 0 < i {
-        i -= 1;
-        buffer[place + i] = (48 + left % 10) as u8;
-        left /= 10;
-    }
-    place + count
-}
+use printing::Printed;
 
 // What stands after number i of seven: a newline after the last, else a space.
 fn after_number(i: usize) -> u8
@@ -55,7 +24,7 @@ fn after_number(i: usize) -> u8
     32
 }
 
-// Writes seven numbers as a line from `place` on, and answers the place after it.
+// Writes seven numbers as a line from `place` on, and answers the place after it. There is room for all, so none is refused.
 fn put_numbers(numbers: &[u64; 7], place: usize, buffer: &mut [u8]) -> usize
     requires { ⌜ (length (now numbers) ≡ 7) × (place + lineRoom ≤ length (now buffer)) ⌝ }
     ensures { λ r. ⌜ (r ≡ place + length (spaced (now (numbers .entry)))) × (r ≤ place + lineRoom) ⌝ }
@@ -64,9 +33,11 @@ fn put_numbers(numbers: &[u64; 7], place: usize, buffer: &mut [u8]) -> usize
     let mut next = place;
     let mut i: usize = 0;
     while i < 7 {
-        next = put_number(numbers[i], next, buffer);
-        buffer[next] = after_number(i);
-        next += 1;
+        let Printed::At(end) = printing::put_number(numbers[i], next, buffer) else {
+            return place;
+        };
+        buffer[end] = after_number(i);
+        next = end + 1;
         i += 1;
     }
     next
@@ -95,26 +66,16 @@ pub(crate) fn put_frame(at: u32, frame: Frame, place: usize, buffer: &mut [u8]) 
     put_numbers(&numbers, place, buffer)
 }
 
-// Writes a label from `place` on.
-fn put_label(label: &[u8], place: usize, buffer: &mut [u8])
-    requires { ⌜ place + length (now label) ≤ length (now buffer) ⌝ }
-    ensures { λ _. ⌜ now (buffer .exit) ≡ sets (now (buffer .entry)) place (now (label .entry)) ⌝ }
-{
-    let mut i: usize = 0;
-    while i < label.len() {
-        buffer[place + i] = label[i];
-        i += 1;
-    }
-}
-
-// Writes a label and a total from `place` on, and answers the place after them.
+// Writes a label and a total from `place` on, and answers the place after them. There is room for both, so they are not refused.
 fn put_total(label: &[u8], total: u64, place: usize, buffer: &mut [u8]) -> usize
     requires { ⌜ place + length (now label) + 20 ≤ length (now buffer) ⌝ }
     ensures { λ r. ⌜ (r ≡ place + length (now (label .entry) ++ decimal total)) × (r ≤ place + length (now (label .entry)) + 20) ⌝ }
     ensures { λ _. ⌜ now (buffer .exit) ≡ sets (now (buffer .entry)) place (now (label .entry) ++ decimal total) ⌝ }
 {
-    put_label(label, place, buffer);
-    put_number(total, place + label.len(), buffer)
+    let Printed::At(next) = printing::put_labelled(label, total, place, buffer) else {
+        return place;
+    };
+    next
 }
 
 // Writes the last line from `place` on, and answers the place after it.

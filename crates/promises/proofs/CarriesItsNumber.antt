@@ -47,6 +47,8 @@ use Rattle.record_stages.specs.declared.Place.the-variants as place
 use Rattle.record_stages.specs.declared.Size.the-variants.{Right, Wrong}
 use Rattle.record_values.specs.Values.{prcValue, rrcValue, udreValue, cn0Value}
 use Rattle.record_values.proofs.AnswerLaws.{prc-says, rrc-says, udre-says, cn0-says, minutes-says, z-says}
+use Rattle.printing.specs.Printing.{printedBy, saysPrinted}
+use Rattle.printing.specs.declared.Printed.the-variants as printed
 use Rattle.listing.specs.Listing.{pieceBy, finishBy}
 use Rattle.listing.specs.Listing as listing
 use Rattle.listing.specs.declared.Listed.{Listed}
@@ -86,7 +88,7 @@ entry-numbered l = go (eqb (layoutNumber l) (layoutNumber layout.Text))
 
 pub carries-its-number : CarriesItsNumber
 unfolding fedBy fedAllBy endedBy takenBy countCorrections correctionAt makeCorrections countHealths healthAt makeHealths readPosition makePosition
-    readNull makeNull readText makeText refusedMade doneMade pieceBy finishBy
+    readNull makeNull readText makeText refusedMade doneMade printedBy pieceBy finishBy
 carries-its-number = record {
   feed = λ r b. told (λ (x : Next). saysAnswer (x .answer)) (λ n. record { answer = Refused n; reader = r }) _ tt refl refl refl;
   feed-all = λ r bs. told (λ (x : FedAll). saysAnswer (x .answer)) (λ n. record { answer = Refused n; used = 0; passed = 0; reader = r }) _ tt refl refl refl;
@@ -126,6 +128,7 @@ carries-its-number = record {
   cn0-dbhz = λ code. ordered ((ltb 31 code, 10) ∷ []) (cn0Value code) (cn0-says code) refl refl;
   value-minutes = λ code. ordered ((ltb 15 code, 10) ∷ []) (5 * code) (minutes-says code) refl refl;
   z-tenths = λ z. ordered ((ltb 8191 z, 5) ∷ (late z, 7) ∷ []) (6 * z) (z-says z) refl refl;
+  print = λ text place buffer. told saysPrinted printed.Refused _ _ refl refl refl;
   list-piece = λ l bs room. told (λ (x : Listed). saysAnswer (x .answer)) (listing.refusedListing l) _ _ refl refl refl;
   finish = λ l room. told (λ (x : Listed). saysAnswer (x .answer)) (listing.refusedListing l) _ _ refl refl refl;
 }

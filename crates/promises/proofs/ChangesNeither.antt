@@ -1,11 +1,11 @@
 -- What a refusal leaves is the argument itself, and an answer's bytes stand before the rest of the buffer: two laws over any order. Assumes nothing.
 use mathlib.Core.Path.{_≡_, refl, sym, ap, subst, _∙_}
-use mathlib.Core.List.{List, [], _∷_, _++_}
+use mathlib.Core.List.{List, [], _∷_, _++_, append-assoc}
 use Prim.Native.Nat.{ℕ, _+_, _*_, _/_, _≤_}
 use native.Mathlib.Omega.{arith}
 use native.Mathlib.Nat.{zero-add}
-use lib.ListN.{length, drop, length-append, length-drop}
-use lib.Seq.{sets, sets-eq, length-sets, drop-at}
+use lib.ListN.{length, take, drop, length-append, length-drop}
+use lib.Seq.{sets, sets-eq, length-sets, take-at, drop-at, length-take-le}
 use borrow.Author.Tests.{ltb-false}
 use Rattle.answer.specs.Order.{Says, answers, Check, inOrder, NoneApplies}
 use Rattle.answer.proofs.OrderLaws.{order-answers, order-refuses}
@@ -37,12 +37,14 @@ use Rattle.record_nulls.specs.Nulls.{makeNull}
 use Rattle.record_stages.specs.declared.Made.{Made}
 use Rattle.record_stages.specs.declared.Count.the-variants as count
 use Rattle.record_texts.specs.Texts.{lengthIn, textIn, readText, bufferAfter, makeText}
+use Rattle.printing.specs.Printing.{printOrder, printedBy, printedTo, saysPrinted}
+use Rattle.printing.specs.declared.Printed.the-variants as printed
 use Rattle.listing.specs.Listing.{Lines, lineRoom, endRoom, refusedListing, listed, linesOf, finalLines, pieceBy, pieceText, finishBy, finishText}
 use Rattle.listing.specs.declared.Listing.{Listing}
 use Rattle.listing.specs.declared.Listed.{Listed}
 use Rattle.listing.proofs.Lengths.{lines-le, final-le}
 use Rattle.promises.specs.CarriesItsNumber.{Ordered}
-use Rattle.promises.specs.ChangesNeither.{Keeps, ChangesNeither, NumberAlone, OnlyFirst, Owns, OnlyItsBytes}
+use Rattle.promises.specs.ChangesNeither.{Keeps, ChangesNeither, NumberAlone, OnlyFirst, OnlyBetween, Owns, OnlyItsBytes}
 use Rattle.promises.proofs.CarriesItsNumber.{carries-its-number, says-inj, none-told}
 
 -- ---- a refusal
@@ -60,7 +62,7 @@ pub keeps : {A X B : Type 0} {numbers : List ℕ} {cs : List Check} {s : Says A}
 keeps {cs} o of refuse answer was same n e = ap of (order-refuses refuse answer cs n (o .only n e)) ∙ same n
 
 pub changes-neither : ChangesNeither
-unfolding fedBy fedAllBy endedBy takenBy readText bufferAfter pieceBy pieceText finishBy finishText
+unfolding fedBy fedAllBy endedBy takenBy readText bufferAfter printedBy printedTo pieceBy pieceText finishBy finishText
 changes-neither = record {
   feed = λ r b. keeps (carries-its-number .feed r b) (λ (x : Next). x .reader) (λ n. record { answer = Refused n; reader = r }) _ _ (λ n. refl);
   feed-all = λ r bs. keeps (carries-its-number .feed-all r bs) (λ (x : FedAll). x .reader) (fed-none r) _ _ (λ n. refl);
@@ -70,6 +72,7 @@ changes-neither = record {
   write = λ f c buffer. keeps (carries-its-number .write f c buffer) (λ b. b) (λ n. buffer) _ _ (λ n. refl);
   keep = λ f buffer. keeps (carries-its-number .keep f buffer) (λ b. b) (λ n. buffer) _ _ (λ n. refl);
   read-text = λ f buffer. keeps (carries-its-number .read-text f buffer) (λ b. b) (λ n. buffer) _ _ (λ n. refl);
+  print = λ text place buffer. keeps (carries-its-number .print text place buffer) (λ b. b) (λ n. buffer) _ _ (λ n. refl);
   list-piece = λ l bs room. keeps (carries-its-number .list-piece l bs room) (λ (x : Listed). x .listing) (refusedListing l) _ _ (λ n. refl);
   list-piece-output = λ l bs out. keeps (carries-its-number .list-piece l bs (length out)) (λ b. b) (λ n. out) _ _ (λ n. refl);
   finish = λ l room. keeps (carries-its-number .finish l room) (λ (x : Listed). x .listing) (refusedListing l) _ _ (λ n. refl);
@@ -125,6 +128,44 @@ first-stored out text h = record {
     fits : 0 + length text ≤ length out
     fits = omega arith
 
+-- bytes stored one by one from a place on
+between-stored : (text : List ℕ) (place : ℕ) (buffer : List ℕ) → place + length text ≤ length buffer
+    → OnlyBetween place (place + length text) (sets buffer place text) buffer
+between-stored text place buffer fits = record {
+  long = length-sets buffer place text;
+  front = ap (take place) (parts ∙ append-assoc (take place buffer) text behind) ∙ take-at (take place buffer) (text ++ behind) place head;
+  rest = ap (drop (place + length text)) parts ∙ drop-at (take place buffer ++ text) behind (place + length text) both;
+}
+  where
+    behind : List ℕ
+    behind = drop (place + length text) buffer
+
+    parts : sets buffer place text ≡ (take place buffer ++ text) ++ drop (place + length text) buffer
+    parts = sets-eq text buffer place fits
+
+    head : length (take place buffer) ≡ place
+    head = length-take-le place buffer (omega arith)
+
+    both : length (take place buffer ++ text) ≡ place + length text
+    both = omega (arith, length-append (take place buffer) text, head)
+
+-- text that was printed is what stands between its place and the answered one
+print-owns : (text : List ℕ) (place : ℕ) (buffer : List ℕ) (next : ℕ) → saysPrinted (printedBy text place buffer) ≡ answers next
+    → OnlyBetween place next (printedTo text place buffer) buffer
+unfolding printedBy printedTo
+print-owns text place buffer next e =
+    subst (λ b. OnlyBetween place next b buffer) (sym (order-answers (λ n. buffer) (sets buffer place text) (printOrder text place buffer) none))
+    (subst (λ j. OnlyBetween place j (sets buffer place text) buffer) (says-inj at) (between-stored text place buffer fits))
+  where
+    none : NoneApplies (printOrder text place buffer)
+    none = none-told (carries-its-number .print text place buffer) next e
+
+    fits : place + length text ≤ length buffer
+    fits = ltb-false (length buffer) (place + length text) (none .0)
+
+    at : answers (place + length text) ≡ answers next
+    at = ap saysPrinted (sym (order-answers printed.Refused (printed.At (place + length text)) (printOrder text place buffer) none)) ∙ e
+
 -- the same of the listing's calls, which answer how much they wrote
 listing-owns : {numbers : List ℕ} {cs : List Check} (l : Listing) (x : Lines) (out : List ℕ)
     → Ordered numbers cs (saysAnswer (inOrder cs (refusedListing l) (listed x) .answer)) → (NoneApplies cs → length (x .text) ≤ length out)
@@ -160,6 +201,7 @@ only-its-bytes = record {
       (textIn f ++ drop (lengthIn f) buffer)
       (λ none. first-bytes (textIn f) buffer (lengthIn f) (length-characters (lengthIn f) (frameBits f))
       (ltb-false (length buffer) (lengthIn f) (none .1 .1 .1 .1 .1 .0)));
+  print = print-owns;
   list-piece = λ l bs out.
       listing-owns l (linesOf (length out / lineRoom) l bs) out (carries-its-number .list-piece l bs (length out))
       (λ none. omega (arith, lines-le (length out / lineRoom) l bs));

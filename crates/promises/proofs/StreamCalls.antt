@@ -2,6 +2,7 @@
 use Rattle.reader.proofs as reader
 use Rattle.writer.proofs as writer
 use Rattle.journal.proofs as journal
+use Rattle.printing.proofs as printing
 use Rattle.listing.proofs as listing
 use Rattle.promises.specs.StreamCalls.{StreamCalls}
 
@@ -16,6 +17,8 @@ stream-calls = record {
   write = record { asks-nothing = λ κs a. tt; settles = λ κs a z e p. p .0; leaves = λ κs a z e p. p .1; ends = writer.write.Met.met };
   keep = record { asks-nothing = λ κs a. tt; settles = λ κs a z e p. p .0; leaves = λ κs a z e p. p .1; ends = journal.keep.Met.met };
   recall = record { asks-nothing = λ κs a. tt; settles = λ κs a z e p. p; ends = journal.recall.Met.met };
+  put-number = record { asks-nothing = λ κs a. tt; settles = λ κs a z e p. p .0; leaves = λ κs a z e p. p .1; ends = printing.put_number.Met.met };
+  put-labelled = record { asks-nothing = λ κs a. tt; settles = λ κs a z e p. p .0; leaves = λ κs a z e p. p .1; ends = printing.put_labelled.Met.met };
   listing-new = record { asks-nothing = λ κs a. tt; settles = λ κs a z e p. p; ends = listing.new.Met.met };
   list-piece = record { asks-nothing = λ κs a. tt; settles = λ κs a z e p. p .0; leaves = λ κs a z e p. p .1 .0; ends = listing.list_piece.Met.met };
   finish = record { asks-nothing = λ κs a. tt; settles = λ κs a z e p. p .0; leaves = λ κs a z e p. p .1 .0; ends = listing.finish.Met.met };

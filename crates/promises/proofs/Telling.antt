@@ -20,7 +20,8 @@ use Rattle.promises.proofs.Kept.{Kept, kept-started}
 use Rattle.promises.proofs.Runs.{not-done, given, sound-taken, Sound, kept-sound, all-bits, kept-call}
 use Rattle.promises.proofs.Serving.{take-ended, fewer}
 use Rattle.promises.proofs.EveryReader.{fed-parts}
-use Rattle.listing.specs.Text.{decimal, spaced, frameLine, linesIn}
+use Rattle.printing.specs.Printing.{decimal}
+use Rattle.listing.specs.Text.{spaced, frameLine, linesIn}
 use Rattle.listing.specs.Listing.{begun, fedOn, handedOn, Lines, lineThen, linesOf}
 use Rattle.listing.specs.declared.Listing.{Listing}
 use Rattle.listing.proofs.LinesLaws.{fed-used}

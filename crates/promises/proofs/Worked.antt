@@ -16,7 +16,8 @@ use Rattle.record_stages.specs.Stages.{layoutNumber, otherLayout, misfit}
 use Rattle.record_corrections.specs.Corrections.{countCorrections}
 use Rattle.record_values.specs.Values.{signedValue, hundredthsOf, limits, udreValue}
 use Rattle.stream.specs.Standing.{right, nAt, dataFrom, frameAt, placed, allRight, stands, scan, framesIn}
-use Rattle.listing.specs.Text.{lastDigits, digitsUpTo, decimal, spaced, lastLine, linesIn, textOf}
+use Rattle.printing.specs.Printing.{lastDigits, digitsUpTo, decimal}
+use Rattle.listing.specs.Text.{spaced, lastLine, linesIn, textOf}
 use Rattle.reader.specs.Reading.{started, saysNext}
 use Rattle.reader.specs.declared.Next.{Next}
 use Rattle.promises.specs.Calls.{feeds, replied, replyTo, reported}

@@ -37,6 +37,7 @@ use Rattle.record_healths.specs.declared.SatelliteHealth.{SatelliteHealth}
 use Rattle.record_positions.specs.declared.Position.{Position}
 use Rattle.record_values.specs.Answer.{prcMm, rrcMmS, udreLimit, cn0DbHz, minutesOf, zTenths}
 use Rattle.record_values.specs.Answer.{saysDistance, saysRate, saysLimit, saysStrength, saysTime, saysSinceHour}
+use Rattle.printing.specs.Printing.{printOrder, printedBy, saysPrinted}
 use Rattle.listing.specs.Listing.{pieceOrder, pieceBy, endOrder, finishBy}
 use Rattle.listing.specs.declared.Listing.{Listing}
 
@@ -124,6 +125,8 @@ pub record CarriesItsNumber : Type 0 where
   pub cn0-dbhz : (code : ℕ) → Ordered (10 ∷ []) ((ltb 31 code, 10) ∷ []) (saysStrength (cn0DbHz code))
   pub value-minutes : (code : ℕ) → Ordered (10 ∷ []) ((ltb 15 code, 10) ∷ []) (saysTime (minutesOf code))
   pub z-tenths : (z : ℕ) → Ordered (5 ∷ 7 ∷ []) ((ltb 8191 z, 5) ∷ (late z, 7) ∷ []) (saysSinceHour (zTenths z))
+  -- text put into a buffer: 13
+  pub print : (text : List ℕ) (place : ℕ) (buffer : List ℕ) → Ordered (13 ∷ []) (printOrder text place buffer) (saysPrinted (printedBy text place buffer))
   -- the listing
   pub list-piece : (l : Listing) (bs : List ℕ) (room : ℕ) → Ordered (5 ∷ 3 ∷ 13 ∷ []) (pieceOrder l room) (saysAnswer (pieceBy l bs room .answer))
   pub finish : (l : Listing) (room : ℕ) → Ordered (5 ∷ 3 ∷ 2 ∷ 13 ∷ []) (endOrder l room) (saysAnswer (finishBy l room .answer))

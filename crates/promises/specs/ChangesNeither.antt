@@ -4,7 +4,7 @@ use mathlib.Core.Path.{_≡_}
 use mathlib.Core.Bool.{true}
 use mathlib.Core.List.{List}
 use Prim.Native.Nat.{ℕ}
-use lib.ListN.{length, drop}
+use lib.ListN.{length, take, drop}
 use Rattle.answer.specs.Order.{Says, refuses, answers}
 use Rattle.frame.specs.Frames.{blank}
 use Rattle.frame.specs.Widths.{outside}
@@ -24,6 +24,7 @@ use Rattle.record_texts.specs.Texts.{readText, bufferAfter, makeText}
 use Rattle.record_corrections.specs.declared.Correction.{Correction}
 use Rattle.record_healths.specs.declared.SatelliteHealth.{SatelliteHealth}
 use Rattle.record_positions.specs.declared.Position.{Position}
+use Rattle.printing.specs.Printing.{printedBy, printedTo, saysPrinted}
 use Rattle.listing.specs.Listing.{pieceBy, pieceText, finishBy, finishText}
 use Rattle.listing.specs.declared.Listing.{Listing}
 
@@ -40,6 +41,7 @@ pub record ChangesNeither : Type 0 where
   pub write : (f : Frame) (c : Carried) (buffer : List ℕ) → Keeps (saysWritten (writtenBy f c buffer)) (writtenTo f c buffer) buffer
   pub keep : (f : Frame) (buffer : List ℕ) → Keeps (saysKept (keptBy f buffer)) (heldBy f buffer) buffer
   pub read-text : (f : Frame) (buffer : List ℕ) → Keeps (saysCount (readText f buffer)) (bufferAfter f buffer) buffer
+  pub print : (text : List ℕ) (place : ℕ) (buffer : List ℕ) → Keeps (saysPrinted (printedBy text place buffer)) (printedTo text place buffer) buffer
   pub list-piece : (l : Listing) (bs : List ℕ) (room : ℕ) → Keeps (saysAnswer (pieceBy l bs room .answer)) (pieceBy l bs room .listing) l
   pub list-piece-output : (l : Listing) (bs out : List ℕ) → Keeps (saysAnswer (pieceBy l bs (length out) .answer)) (pieceText l bs out) out
   pub finish : (l : Listing) (room : ℕ) → Keeps (saysAnswer (finishBy l room .answer)) (finishBy l room .listing) l
@@ -69,15 +71,24 @@ pub record OnlyFirst (k : ℕ) (left was : List ℕ) : Type 0 where
   pub long : length left ≡ length was
   pub rest : drop k left ≡ drop k was
 
+-- the buffer is as it was but for its bytes from a place on up to the next
+pub record OnlyBetween (place next : ℕ) (left was : List ℕ) : Type 0 where
+  pub long : length left ≡ length was
+  pub front : take place left ≡ take place was
+  pub rest : drop next left ≡ drop next was
+
 abbrev pub Owns : {A : Type 0} → Says A → (A → ℕ) → List ℕ → List ℕ → Type 0
 Owns {A} s own left was = (value : A) → s ≡ answers value → OnlyFirst (own value) left was
 
--- a call changes no bytes but those that it is for (RULES 10): as many as it answers; a value of the type Frame has 31 words
+-- a call changes no bytes but those that it is for (RULES 10): as many as it answers, or up to the place that it answers; a value of the type Frame
+-- has 31 words
 pub record OnlyItsBytes : Type 0 where
   pub writer-open : (buffer : List ℕ) → Owns (saysOpened (openedBy buffer)) (λ v. 1) (openedTo buffer) buffer
   pub write : (f : Frame) (c : Carried) (buffer : List ℕ) → Owns (saysWritten (writtenBy f c buffer)) (λ v. v .0) (writtenTo f c buffer) buffer
   pub keep : (f : Frame) (buffer : List ℕ) → length (f .words) ≡ 31 → Owns (saysKept (keptBy f buffer)) (λ v. v) (heldBy f buffer) buffer
   pub read-text : (f : Frame) (buffer : List ℕ) → Owns (saysCount (readText f buffer)) (λ v. v) (bufferAfter f buffer) buffer
+  pub print : (text : List ℕ) (place : ℕ) (buffer : List ℕ) (next : ℕ)
+      → saysPrinted (printedBy text place buffer) ≡ answers next → OnlyBetween place next (printedTo text place buffer) buffer
   pub list-piece : (l : Listing) (bs out : List ℕ)
       → Owns (saysAnswer (pieceBy l bs (length out) .answer)) (λ v. pieceBy l bs (length out) .written) (pieceText l bs out) out
   pub finish : (l : Listing) (out : List ℕ)

@@ -1,9 +1,11 @@
--- DEMAND 1, call by call: reading, writing, keeping and listing. Assumes nothing.
+-- DEMAND 1, call by call: reading, writing, keeping, printing and listing. Assumes nothing.
+use mathlib.Core.List.{_++_}
 use lib.ListN.{length}
 use denote.Ref.{now}
 use Rattle.reader.specs.Reading.{started, fedBy, fedAllBy, endedBy, takenBy}
 use Rattle.writer.specs.Answer.{openedBy, openedTo, writtenBy, writtenTo}
 use Rattle.journal.specs.Journal.{keptBy, heldBy, recalledBy}
+use Rattle.printing.specs.Printing.{decimal, printedBy, printedTo}
 use Rattle.listing.specs.Listing.{begun, pieceBy, pieceText, finishBy, finishText}
 use Rattle.reader.proofs.new as reader-new
 use Rattle.reader.proofs.feed
@@ -14,6 +16,8 @@ use Rattle.writer.proofs.open as writer-open
 use Rattle.writer.proofs.write
 use Rattle.journal.proofs.keep
 use Rattle.journal.proofs.recall
+use Rattle.printing.proofs.put_number
+use Rattle.printing.proofs.put_labelled
 use Rattle.listing.proofs.new as listing-new
 use Rattle.listing.proofs.list_piece
 use Rattle.listing.proofs.finish
@@ -44,6 +48,14 @@ pub record StreamCalls : Type 2 where
       (λ κs (_, (buffer, _)). now buffer) (λ κs (frame, (buffer, _)). heldBy frame (now buffer))
   pub recall : Answered recall.Reads.Asked recall.Reads.Learnt recall.Statement.statement
       (λ κs (bytes, _). recalledBy (now bytes))
+  -- printing
+  pub put-number : AnsweredLent put_number.Reads.Asked put_number.Reads.Learnt put_number.Statement.statement
+      (λ κs (n, (place, (buffer, _))). printedBy (decimal n) place (now buffer))
+      (λ κs (_, (_, (buffer, _))). now buffer) (λ κs (n, (place, (buffer, _))). printedTo (decimal n) place (now buffer))
+  pub put-labelled : AnsweredLent put_labelled.Reads.Asked put_labelled.Reads.Learnt put_labelled.Statement.statement
+      (λ κs (label, (n, (place, (buffer, _)))). printedBy (now label ++ decimal n) place (now buffer))
+      (λ κs (_, (_, (_, (buffer, _)))). now buffer)
+      (λ κs (label, (n, (place, (buffer, _)))). printedTo (now label ++ decimal n) place (now buffer))
   -- listing
   pub listing-new : Answered listing-new.Reads.Asked listing-new.Reads.Learnt listing-new.Statement.statement
       (λ κs a. begun)

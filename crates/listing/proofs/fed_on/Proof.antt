@@ -7,8 +7,9 @@ use Rattle.listing.proofs.fed_on.Tie as tie
 
 returns : tie.Need-returns
 returns c =
-    let a = c .before .before .before .before .before .args in
-    fed-on-is (a .listing) (now (a .input)) _ (c .before .before .before .feed-all .ensures) _ _ (c .before .wrapping-add-u64 .ensures) (c .wrapping-add-u642 .ensures)
+    let f = c .before .before .before in
+    let a = f .before .before .args in
+    fed-on-is (a .listing) (now (a .input)) _ (f .feed-all .ensures) _ _ (c .before .wrapping-add-u64 .ensures) (c .wrapping-add-u642 .ensures)
 
 pub fed-on-spec : {M : Type 1} → statement M
 fed-on-spec =

@@ -5,9 +5,9 @@ use native.Mathlib.Omega.{arith}
 use lib.ListN.{length}
 use denote.Ref.{now}
 use borrow.Author.Needs.{needs}
+use Rattle.printing.proofs.StoreLaws.{length-stored}
 use Rattle.listing.specs.Text.{lastLine}
 use Rattle.listing.specs.Listing.{linesOf}
-use Rattle.listing.proofs.StoreLaws.{length-stored}
 use Rattle.listing.proofs.CallLaws.{nothing, finish-refused, finish-short, finish-done}
 use Rattle.listing.proofs.finish.Statement.{statement}
 use Rattle.listing.proofs.finish.Tie as tie
@@ -23,22 +23,28 @@ returns-2 : tie.Need-returns-2
 returns-2 c =
     let d = c .before .before .before .before in
     let a = d .before .before .args in
-    let e = finish-short (a .listing) (now (a .output)) _ (d .end .ensures) (c .before .before .enum-told .given .1) (c .before .if1 .taken) _ (c .refusal2 .ensures) in
+    let e = finish-short (a .listing) (now (a .output)) _ (d .end .ensures) (c .before .before .enum-told .given .1) (c .before .if1 .taken)
+    _ (c .refusal2 .ensures) in
     (e .0, (e .1, nothing (a .listing) _ _ (c .refusal2 .ensures) 0 (length (now (a .output))) .1))
 
 returns-3 : tie.Need-returns-3
 returns-3 c =
-    let last = c .before .before .put-last .ensures in
-    let p = c .before .before .before .before .before .before .before in
+    let t = c .before .before in
+    let last = t .put-last .ensures in
+    let p = t .before .before .before .before .before in
+    let lines = p .put-lines .ensures in
     let n = p .before .before .before in
+    let room = n .before .if1 .left in
     let e = n .before .before .before .before in
     let a = e .before .before .args in
     let x = linesOf 16 (n .ended-on .result) [] in
     let end = p .put-lines .result .listing in
-    let same = length-stored _ (p .put-lines .result .written) (lastLine (end .frames) (end .bytes) (end .passed)) _ (last .1) ∙ length-stored (now (a .output)) 0 (x .text) _ (p .put-lines .ensures .1 .1) in
-    let w = finish-done (a .listing) (now (a .output)) _ (e .end .ensures) (n .before .before .enum-told .given .1) (n .before .if1 .left) _ (n .ended-on .ensures)
-    _ (p .put-lines .ensures .0) _ (p .put-lines .ensures .1 .1) _ (last .0 .0) _ (last .1) in
-    (w .0, (w .1, omega (arith, p .put-lines .ensures .1 .0 .1, last .0 .1, n .before .if1 .left, same)))
+    let same =
+    length-stored _ (p .put-lines .result .written) (lastLine (end .frames) (end .bytes) (end .passed)) _ (last .1)
+    ∙ length-stored (now (a .output)) 0 (x .text) _ (lines .1 .1) in
+    let w = finish-done (a .listing) (now (a .output)) _ (e .end .ensures) (n .before .before .enum-told .given .1) room _ (n .ended-on .ensures)
+    _ (lines .0) _ (lines .1 .1) _ (last .0 .0) _ (last .1) in
+    (w .0, (w .1, omega (arith, lines .1 .0 .1, last .0 .1, room, same)))
 
 pub finish-spec : {M : Type 1} → statement M
 finish-spec =

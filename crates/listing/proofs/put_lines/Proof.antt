@@ -6,9 +6,9 @@ use native.Mathlib.Omega.{arith}
 use lib.ListN.{length, drop, length-drop}
 use denote.Ref.{now}
 use borrow.Author.Needs.{needs}
+use Rattle.printing.proofs.StoreLaws.{length-stored}
 use Rattle.listing.specs.Text.{frameLine}
 use Rattle.listing.specs.Listing.{linesOf, lineRoom}
-use Rattle.listing.proofs.StoreLaws.{length-stored}
 use Rattle.listing.proofs.LinesLaws.{used-le, fed-tail, taken-inside, line-on, line-none, Far, far-start, far-on, far-end, far-drop, lines-none}
 use Rattle.listing.proofs.put_lines.Statement.{statement}
 use Rattle.listing.proofs.put_lines.Tie as tie
@@ -29,33 +29,50 @@ loop-holds c =
 
 add-used : tie.Need-add-used Inv-loop μ-loop
 add-used c =
-    let v = c .before .before .before .before .loop in
-    let bs = now (c .before .before .before .before .before .before .before .args .input) in
+    let l = c .before .before .before .before in
+    let v = l .loop in
+    let bs = now (l .before .before .before .args .input) in
     omega (arith, used-le (v .state) (drop (v .used) bs) _ (fed-tail (v .state) bs (v .used) _ (c .before .fed-on .ensures)), length-drop (v .used) bs)
+
+-- nothing was written where no frame waits
+same-length : tie.Need-same-length Inv-loop μ-loop
+same-length c =
+    let f = c .before .before .before .before .before in
+    f .before .before .before .loop .inv .3
 
 returns : tie.Need-returns Inv-loop μ-loop
 returns c =
-    let v = c .before .before .before .before .before .before .before .before .loop in
-    let a = c .before .before .before .before .before .before .before .before .before .before .before .args in
-    let fed = fed-tail (v .state) (now (a .input)) (v .used) _ (c .before .before .before .before .before .fed-on .ensures) in
+    let f = c .before .before .before .before .before in
+    let test = f .before .before in
+    let l = test .before in
+    let v = l .loop in
+    let a = l .before .before .before .args in
+    let bs = now (a .input) in
+    let fed = fed-tail (v .state) bs (v .used) _ (f .fed-on .ensures) in
     let took = c .before .before .take .ensures in
-    let e = far-end (linesOf (a .lines) (a .listing) (now (a .input))) (now (a .output)) (v .output) (v .used) (v .written) _ (v .inv .0) _ _
-    (line-none (v .left) (c .before .before .before .before .before .before .before .loop-test .taken) (v .state) (drop (v .used) (now (a .input))) _ fed _ took _ (c .enum-told2 .given .1)) in
-    (e .0, ((omega (arith, used-le (v .state) (drop (v .used) (now (a .input))) _ fed, length-drop (v .used) (now (a .input))), omega arith), e .1))
+    let none = line-none (v .left) (test .loop-test .taken) (v .state) (drop (v .used) bs) _ fed _ took _ (c .enum-told2 .given .1) in
+    let e = far-end (linesOf (a .lines) (a .listing) bs) (now (a .output)) (v .output) (v .used) (v .written) _ (v .inv .0) _ _ none in
+    (e .0, ((omega (arith, used-le (v .state) (drop (v .used) bs) _ fed, length-drop (v .used) bs), omega arith), e .1))
 
 put-frame-requires : tie.Need-put-frame-requires Inv-loop μ-loop
 put-frame-requires c κs = (taken-inside _ _ (c .before .before .before .take .ensures), omega arith)
 
 loop-again : tie.Need-loop-again Inv-loop μ-loop
 loop-again c =
-    let line = c .before .before .before .put-frame .ensures in
-    let done = c .before .before .before .before .before .enum-told .given .1 in
-    let took = c .before .before .before .before .before .before .before .take in
-    let fed = c .before .before .before .before .before .before .before .before .before .before .fed-on in
-    let v = c .before .before .before .before .before .before .before .before .before .before .before .before .before .loop in
-    let a = c .before .before .before .before .before .before .before .before .before .before .before .before .before .before .before .before .args in
+    let put = c .before .before .before in
+    let line = put .put-frame .ensures in
+    let is = put .before .before in
+    let done = is .enum-told .given .1 in
+    let t = is .before .before in
+    let took = t .take in
+    let f = t .before .before .before in
+    let fed = f .fed-on in
+    let test = f .before .before in
+    let more = test .loop-test .taken in
+    let l = test .before in
+    let v = l .loop in
+    let a = l .before .before .before .args in
     let bs = now (a .input) in
-    let more = c .before .before .before .before .before .before .before .before .before .before .before .before .loop-test .taken in
     let tail = fed-tail (v .state) bs (v .used) _ (fed .ensures) in
     let turn = line-on (v .left) more (v .state) (drop (v .used) bs) _ tail _ (took .ensures) done _ (c .handed-on .ensures) in
     let far = far-on (linesOf (a .lines) (a .listing) bs) (now (a .output)) (v .output) (v .used) (v .written) _ (v .inv .0)
@@ -80,6 +97,6 @@ put-lines-spec =
     tie.close
     (tie.spec Inv-loop μ-loop loop-holds (λ c. omega arith) (λ c. omega arith) (λ c. search needs)
     (λ c. search needs) (λ c κs. search needs) add-used (λ c κs. search needs) (λ c. search needs)
-    (λ c. search needs) (λ c. c .before .before .before .before .before .before .before .before .loop .inv .3)
+    (λ c. search needs) same-length
     returns put-frame-requires (λ c κs. search needs) (λ c. omega arith) loop-again
     (λ c. c .before .loop .inv .3) returns-2)

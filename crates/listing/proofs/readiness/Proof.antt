@@ -9,12 +9,14 @@ use Rattle.listing.proofs.readiness.Tie as tie
 returns : tie.Need-returns
 returns c =
     let s = c .before .before .before .before in
-    ready-refused (s .before .before .args .reader) _ (ap (λ (f : FedAll). f .answer) (s .feed-all .ensures)) _ (c .before .before .answer .given .1) (c .if1 .taken)
+    ready-refused (s .before .before .args .reader) _ (ap (λ (f : FedAll). f .answer) (s .feed-all .ensures))
+    _ (c .before .before .answer .given .1) (c .if1 .taken)
 
 returns-2 : tie.Need-returns-2
 returns-2 c =
     let s = c .before .before .before .before in
-    ready-waits (s .before .before .args .reader) _ (ap (λ (f : FedAll). f .answer) (s .feed-all .ensures)) _ (c .before .before .answer .given .1) (c .if1 .left)
+    ready-waits (s .before .before .args .reader) _ (ap (λ (f : FedAll). f .answer) (s .feed-all .ensures))
+    _ (c .before .before .answer .given .1) (c .if1 .left)
 
 returns-3 : tie.Need-returns-3
 returns-3 c =

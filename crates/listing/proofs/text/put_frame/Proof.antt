@@ -19,7 +19,8 @@ returns c =
 returns-2 : tie.Need-returns-2
 returns-2 c =
     let n = c .before .before .put-numbers .ensures in
-    let h = c .before .before .before .before .before .before .before .before .before .before in
+    let cast = c .before .before .before .before .before in
+    let h = cast .before .before .before .before .before in
     let s = h .before .before .before .before .before in
     let f = s .args .frame in
     let line : ℕ → List ℕ = λ x. spaced (s .args .at ∷ f .header .kind ∷ f .header .station ∷ f .header .z ∷ f .header .sequence ∷ f .n ∷ x ∷ []) in

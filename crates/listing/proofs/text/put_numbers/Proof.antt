@@ -8,8 +8,11 @@ use lib.ListN.{length, drop, getD, drop-of-length-le}
 use lib.Seq.{sets}
 use denote.Ref.{now}
 use borrow.Author.Needs.{needs}
-use Rattle.listing.specs.Text.{decimal, spaced}
-use Rattle.listing.proofs.StoreLaws.{length-stored, length-marked}
+use Rattle.printing.specs.Printing.{decimal}
+use Rattle.printing.proofs.DigitLaws.{decimal-le}
+use Rattle.printing.proofs.PutLaws.{told, not-refused}
+use Rattle.printing.proofs.StoreLaws.{length-stored, length-marked}
+use Rattle.listing.specs.Text.{spaced}
 use Rattle.listing.proofs.TextLaws.{store-spaced, length-spaced}
 use Rattle.listing.proofs.text.put_numbers.Statement.{statement}
 use Rattle.listing.proofs.text.put_numbers.Tie as tie
@@ -27,29 +30,56 @@ abbrev μ-loop : tie.MeasureT-loop
 loop-holds : tie.Need-loop-holds Inv-loop μ-loop
 loop-holds c = (refl, refl, omega arith, omega arith, refl)
 
+-- there is room for every number
+returns : tie.Need-returns Inv-loop μ-loop
+returns c =
+    let p = c .before .before .before .before in
+    let l = p .before .before .before .before in
+    let v = l .loop in
+    let n = getD (now (l .before .before .args .numbers)) (v .i) 0 in
+    absurd (not-refused (decimal n) (v .next) (v .buffer) 20 (decimal-le n) (omega arith) _ _ (p .put-number .ensures) _ (c .enum-told .given .1))
+
 slice-write-buffer : tie.Need-slice-write-buffer Inv-loop μ-loop
 slice-write-buffer c =
-    let p = c .before .before .before .put-number .ensures in
-    let v = c .before .before .before .before .before .before .before .loop in
-    let ns = now (c .before .before .before .before .before .before .before .before .before .args .numbers) in
-    omega (arith, length-stored (v .buffer) (v .next) (decimal (getD ns (v .i) 0)) _ (p .1))
+    let is = c .before .before in
+    let p = is .before .before .before .before in
+    let l = p .before .before .before .before in
+    let v = l .loop in
+    let n = getD (now (l .before .before .args .numbers)) (v .i) 0 in
+    let it = told (decimal n) (v .next) (v .buffer) 20 (decimal-le n) (omega arith) _ _ (p .put-number .ensures) _ (is .end .given .1) in
+    omega (arith, it .1, length-stored (v .buffer) (v .next) (decimal n) _ (it .2))
+
+add-next : tie.Need-add-next Inv-loop μ-loop
+add-next c =
+    let is = c .before .before in
+    let p = is .before .before .before .before in
+    let l = p .before .before .before .before in
+    let v = l .loop in
+    let n = getD (now (l .before .before .args .numbers)) (v .i) 0 in
+    let it = told (decimal n) (v .next) (v .buffer) 20 (decimal-le n) (omega arith) _ _ (p .put-number .ensures) _ (is .end .given .1) in
+    omega (arith, it .1)
 
 loop-again : tie.Need-loop-again Inv-loop μ-loop
 loop-again c =
-    let p = c .before .before .before .put-number .ensures in
-    let v = c .before .before .before .before .before .before .before .loop in
-    let s = c .before .before .before .before .before .before .before .before .before in
-    let ns = now (s .args .numbers) in (
-      v .inv .0 ∙ store-spaced (v .buffer) ns (v .next) (v .i) 6 (s .pre .0) (omega arith) _ (p .1) _ (p .0 .0) _ (c .after-number .ensures),
-      omega (arith, v .inv .1, p .0 .0, length-spaced ns (v .i) 6 (s .pre .0) (omega arith)),
+    let is = c .before .before in
+    let end = is .end .given in
+    let p = is .before .before .before .before in
+    let l = p .before .before .before .before in
+    let v = l .loop in
+    let s = l .before .before in
+    let ns = now (s .args .numbers) in
+    let n = getD ns (v .i) 0 in
+    let it = told (decimal n) (v .next) (v .buffer) 20 (decimal-le n) (omega arith) _ _ (p .put-number .ensures) _ (end .1) in (
+      v .inv .0 ∙ store-spaced (v .buffer) ns (v .next) (v .i) 6 (s .pre .0) (omega arith) _ (it .2) _ (it .0) _ (c .after-number .ensures),
+      omega (arith, v .inv .1, it .0, length-spaced ns (v .i) 6 (s .pre .0) (omega arith)),
       omega arith,
-      omega (arith, p .0 .1),
-      length-marked (v .buffer) (v .next) (decimal (getD ns (v .i) 0)) _ (p .1) (c .before .before .before .put-number .result) (c .after-number .result) ∙ v .inv .4,
+      omega (arith, it .1),
+      length-marked (v .buffer) (v .next) (decimal n) _ (it .2) (end .0 .0) (c .after-number .result) ∙ v .inv .4,
     )
 
-returns : tie.Need-returns Inv-loop μ-loop
+returns-2 : tie.Need-returns-2 Inv-loop μ-loop
 unfolding spaced
-returns c =
+returns-2 c =
     let v = c .before .loop in
     let s = c .before .before .before in
     let ns = now (s .args .numbers) in
@@ -61,6 +91,6 @@ returns c =
 pub put-numbers-spec : {M : Type 1} → statement M
 put-numbers-spec =
     tie.close
-    (tie.spec Inv-loop μ-loop loop-holds (λ c. omega arith) (λ c. omega arith) (λ c κs. omega arith)
-    (λ c κs. search needs) slice-write-buffer (λ c. omega arith) (λ c. omega arith) (λ c. omega arith)
-    loop-again (λ c. c .before .loop .inv .4) returns)
+    (tie.spec Inv-loop μ-loop loop-holds (λ c. omega arith) (λ c. omega arith) (λ c κs. search needs)
+    (λ c. search needs) (λ c. search needs) (λ c. search needs) returns (λ c κs. search needs) slice-write-buffer
+    add-next (λ c. omega arith) (λ c. omega arith) loop-again (λ c. c .before .loop .inv .4) returns-2)

@@ -1,21 +1,34 @@
--- `put_total` meets its contract: the label, and the number after it. Assumes nothing.
+-- `put_total` meets its contract: the label, and the number after it; there is room for both. Assumes nothing.
+use mathlib.Core.List.{_++_}
+use Prim.Native.Nat.{_+_}
+use native.Mathlib.Omega.{arith}
+use lib.ListN.{length}
 use denote.Ref.{now}
 use borrow.Author.Needs.{needs}
-use Rattle.listing.specs.Text.{decimal}
-use Rattle.listing.proofs.StoreLaws.{stored-both, place-both}
+use Rattle.printing.specs.Printing.{decimal}
+use Rattle.printing.proofs.PutLaws.{told, not-refused, labelled-le}
 use Rattle.listing.proofs.text.put_total.Statement.{statement}
 use Rattle.listing.proofs.text.put_total.Tie as tie
 
 returns : tie.Need-returns
 returns c =
-    let number = c .before .before .put-number .ensures in
-    let label = c .before .before .before .before .before .before .put-label .ensures in
-    let a = c .before .before .before .before .before .before .before .before .before .before .args in (
-      (place-both (now (a .label)) (decimal (a .total)) (a .place) _ (number .0 .0), number .0 .1),
-      stored-both (now (a .buffer)) (now (a .label)) (decimal (a .total)) (a .place) _ _ label (number .1),
-    )
+    let p = c .before .before .before .before in
+    let a = p .before .before .before .before .args in
+    let label = now (a .label) in
+    absurd (not-refused (label ++ decimal (a .total)) (a .place) (now (a .buffer)) (length label + 20) (labelled-le label (a .total)) (omega arith)
+    _ _ (p .put-labelled .ensures) _ (c .enum-told .given .1))
+
+returns-2 : tie.Need-returns-2
+returns-2 c =
+    let p = c .before .before .before .before .before in
+    let a = p .before .before .before .before .args in
+    let label = now (a .label) in
+    let it = told (label ++ decimal (a .total)) (a .place) (now (a .buffer)) (length label + 20) (labelled-le label (a .total)) (omega arith)
+    _ _ (p .put-labelled .ensures) _ (c .before .next .given .1) in
+    ((it .0, omega (arith, it .1)), it .2)
 
 pub put-total-spec : {M : Type 1} → statement M
 put-total-spec =
     tie.close
-    (tie.spec (λ c κs. search needs) (λ c. search needs) (λ c κs. search needs) (λ c. search needs) returns)
+    (tie.spec (λ c κs. search needs) (λ c. search needs) (λ c. search needs) (λ c. search needs) returns
+    (λ c. search needs) returns-2)

@@ -2,10 +2,10 @@
 use mathlib.Core.Path.{_≡_, sym, ap, _∙_}
 use Prim.Native.Nat.{_+_, _-_, _≤_}
 use native.Mathlib.Omega.{arith}
-use Rattle.listing.specs.Text.{digitsUpTo}
-use Rattle.listing.proofs.TextLaws.{count-last, count-on, count-end}
-use Rattle.listing.proofs.text.digits_in.Statement.{statement}
-use Rattle.listing.proofs.text.digits_in.Tie as tie
+use Rattle.printing.specs.Printing.{digitsUpTo}
+use Rattle.printing.proofs.DigitLaws.{count-last, count-on, count-end}
+use Rattle.printing.proofs.digits_in.Statement.{statement}
+use Rattle.printing.proofs.digits_in.Tie as tie
 
 -- the digits counted, and those of what is left
 abbrev Inv-loop : tie.InvT-loop
@@ -21,7 +21,7 @@ returns : tie.Need-returns Inv-loop μ-loop
 returns c =
     let v = c .before .before .loop in
     let one = count-last (20 - v .before) (v .left) (omega arith) (c .if1 .taken) in
-    (sym (v .inv .1 ∙ ap (λ d. v .before + d) one), omega arith)
+    sym (v .inv .1 ∙ ap (λ d. v .before + d) one)
 
 loop-again : tie.Need-loop-again Inv-loop μ-loop
 loop-again c =
@@ -31,7 +31,7 @@ loop-again c =
 returns-2 : tie.Need-returns-2 Inv-loop μ-loop
 returns-2 c =
     let v = c .before .loop in
-    (sym (v .inv .1 ∙ count-end (v .before) (v .left) (omega arith)), omega arith)
+    sym (v .inv .1 ∙ count-end (v .before) (v .left) (omega arith))
 
 pub digits-in-spec : {M : Type 1} → statement M
 digits-in-spec =

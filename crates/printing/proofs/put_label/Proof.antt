@@ -6,9 +6,9 @@ use native.Mathlib.Omega.{arith}
 use lib.ListN.{length, drop, length-set, drop-of-length-le}
 use lib.Seq.{sets}
 use denote.Ref.{now}
-use Rattle.listing.proofs.StoreLaws.{sets-next}
-use Rattle.listing.proofs.text.put_label.Statement.{statement}
-use Rattle.listing.proofs.text.put_label.Tie as tie
+use Rattle.printing.proofs.StoreLaws.{sets-next}
+use Rattle.printing.proofs.put_label.Statement.{statement}
+use Rattle.printing.proofs.put_label.Tie as tie
 
 -- storing what is left from here on is storing the whole label
 abbrev Inv-loop : tie.InvT-loop

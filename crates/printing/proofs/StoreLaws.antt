@@ -4,7 +4,7 @@ use mathlib.Core.List.{List, [], _∷_, _++_}
 use Prim.Native.Nat.{ℕ, zero, suc, _+_, _<_}
 use native.Mathlib.Numerals.{add-one}
 use native.Mathlib.Omega.{arith}
-use lib.ListN.{length, getD, set, drop, length-append, length-set}
+use lib.ListN.{length, getD, set, drop, length-set}
 use lib.Seq.{sets, length-sets, drop-cons}
 use Rattle.bits.proofs.Stores.{sets-append}
 
@@ -52,9 +52,6 @@ length-marked l i a l′ e j x = length-set l′ j x ∙ length-stored l i a l�
 
 pub stored-both : (l a b : List ℕ) (i : ℕ) (l₁ l₂ : List ℕ) → l₁ ≡ sets l i a → l₂ ≡ sets l₁ (i + length a) b → l₂ ≡ sets l i (a ++ b)
 stored-both l a b i l₁ l₂ e₁ e₂ = e₂ ∙ ap (λ m. sets m (i + length a) b) e₁ ∙ sym (sets-append a b l i)
-
-pub place-both : (a b : List ℕ) (i j : ℕ) → j ≡ i + length a + length b → j ≡ i + length (a ++ b)
-place-both a b i j e = omega (arith, length-append a b)
 
 -- a part stored at place i, where the rest follows at place j
 pub stored-then : (l a rest : List ℕ) (i j : ℕ) (l₁ : List ℕ) → j ≡ i + length a → l₁ ≡ sets l i a → sets l i (a ++ rest) ≡ sets l₁ j rest
