@@ -79,15 +79,6 @@ order-told refuse answer said apart cs e = go (first-or-none cs)
     go (inl none) = (none, sym (order-answers refuse answer cs none) ∙ e)
     go (inr (n, first)) = absurd (apart n (sym (order-refuses refuse answer cs n first) ∙ e))
 
--- where it is a refusal, what a refusal keeps is as it was
-pub order-keeps : {A B : Type 0} (refuse : ℕ → A) (answer : A) (cs : List Check) {n : ℕ} (old new : B)
-    → (answer ≡ refuse n → ⊥) → inOrder cs refuse answer ≡ refuse n → inOrder cs (λ k. old) new ≡ old
-order-keeps refuse answer cs old new apart e = go (first-or-none cs)
-  where
-    go : NoneApplies cs ⊎ ((k : ℕ) × FirstIs cs k) → inOrder cs (λ k. old) new ≡ old
-    go (inl none) = absurd (apart (sym (order-answers refuse answer cs none) ∙ e))
-    go (inr (k, first)) = order-refuses (λ i. old) new cs k first
-
 -- ---- in the table's terms
 
 pub refuses-apart : {B : Type 0} (n : ℕ) (b : B) → refuses n ≡ answers b → ⊥

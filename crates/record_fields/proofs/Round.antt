@@ -104,9 +104,6 @@ module _ {A : Type 0} (k : Coding A) where
     -- READ, THEN MADE
     module _ (pattern : ℕ) (f : Frame) (e : outside f ≡ false) (full : length (f .words) ≡ 31) (c : ℕ)
         (up : (c * span (k .widths) + 23) / 24 ≡ f .n) (fill : FillAfter pattern (c * span (k .widths)) (frameBits f)) where
-      D : List Bool
-      D = frameBits f
-
       long : length (frameBits f) ≡ 24 * f .n
       unfolding frameBits
       long = length-data (dataWords f) ∙ ap (λ n. 24 * n) (length-data-words f e full)

@@ -22,7 +22,8 @@ use Rattle.record_stages.specs.declared.Count.the-variants as count
 use Rattle.record_stages.specs.Stages.{entriesHeld, doneMade, IsMade}
 use Rattle.record_corrections.specs.declared.Correction.{Correction}
 use Rattle.record_corrections.specs.declared.CorrectionRead.the-variants as read
-use Rattle.record_corrections.specs.Corrections.{widths, meant, coding, fill, StandardFill, least, most, numbers, outOfRange, countCorrections, correctionAt, makeCorrections, Typed, CorrectionsMade, InRange, SendableCorrections, HoldsCorrections, ReadsCorrections}
+use Rattle.record_corrections.specs.Corrections.{widths, meant, coding, fill, least, most, numbers, outOfRange, countCorrections, correctionAt, makeCorrections}
+use Rattle.record_corrections.specs.Corrections.{StandardFill, Typed, CorrectionsMade, InRange, SendableCorrections, HoldsCorrections, ReadsCorrections}
 use Rattle.record_laws.proofs.ListTrips.{list-held, made-then-read, read-then-made}
 use Rattle.record_laws.proofs.SentLaws.{list-made, list-told, list-read}
 

@@ -4,7 +4,7 @@ use mathlib.Core.Bool.{false}
 use mathlib.Core.List.{List}
 use Prim.Native.Nat.{ℕ, _+_, _*_, _/_, _≤_, _<_}
 use native.Mathlib.Omega.{arith}
-use lib.ListN.{length, take, getD}
+use lib.ListN.{length, take, drop, getD}
 use Rattle.bits.specs.Fields.{Fit}
 use Rattle.frame.specs.declared.Header.{Header}
 use Rattle.frame.specs.declared.Frame.{Frame}
@@ -13,20 +13,33 @@ use Rattle.record_fields.specs.Coding.{frameWith}
 use Rattle.record_fields.specs.Tables.{row}
 use Rattle.record_fields.proofs.Round.{Faithful, Fine}
 use Rattle.record_fields.proofs.TableRound.{Below, placesFrom, numbersOf, tables-faithful, tables-range}
-use Rattle.record_fields.proofs.TableLaws.{row-fine, row-told}
+use Rattle.record_fields.proofs.TableLaws.{InRow, row-fine, row-told}
 use Rattle.record_fields.proofs.SatelliteLaws.{satellite-back}
 use Rattle.record_stages.specs.declared.Count.the-variants as count
 use Rattle.record_stages.specs.Stages.{entriesHeld, doneMade, IsMade}
 use Rattle.record_healths.specs.declared.SatelliteHealth.{SatelliteHealth}
 use Rattle.record_healths.specs.declared.HealthRead.the-variants as read
-use Rattle.record_healths.specs.Healths.{widths, meant, coding, fill, least, most, numbers, outOfRange, countHealths, healthAt, makeHealths, HealthsMade, InRange, SendableHealths, HoldsHealths, ReadsHealths}
+use Rattle.record_healths.specs.Healths.{widths, meant, coding, fill, least, most, numbers, outOfRange, countHealths, healthAt, makeHealths}
+use Rattle.record_healths.specs.Healths.{HealthsMade, InRange, SendableHealths, HoldsHealths, ReadsHealths}
 use Rattle.record_laws.proofs.ListTrips.{list-held, made-then-read, read-then-made, each-any, no-fill}
 use Rattle.record_laws.proofs.SentLaws.{list-made, list-told, list-read}
 
+-- an entry's fields, from its k-th on, are in their ranges
+abbrev RangesFrom : ℕ → SatelliteHealth → Type 0
+RangesFrom k e = InRow (drop k least) (drop k most) (drop k (numbers e))
+
 -- what refusal 10 says of an entry, both ways
 range-fine : (e : SatelliteHealth) → InRange e → outOfRange e ≡ false
-range-fine e r = row-fine least most (numbers e)
-    (omega arith, omega (arith, r .reserved), (r .some, r .few, (omega arith, omega (arith, r .link), (omega arith, omega (arith, r .health), (omega arith, omega (arith, r .cn0), (omega arith, omega (arith, r .enable), (omega arith, omega (arith, r .new), (omega arith, omega (arith, r .loss), (omega arith, omega (arith, r .time), (omega arith, omega (arith, r .spare), tt))))))))))
+range-fine e r = row-fine least most (numbers e) (omega arith, omega (arith, r .reserved), (r .some, r .few, states))
+  where
+    times : RangesFrom 7 e
+    times = (omega arith, omega (arith, r .loss), (omega arith, omega (arith, r .time), (omega arith, omega (arith, r .spare), tt)))
+
+    flags : RangesFrom 5 e
+    flags = (omega arith, omega (arith, r .enable), (omega arith, omega (arith, r .new), times))
+
+    states : RangesFrom 2 e
+    states = (omega arith, omega (arith, r .link), (omega arith, omega (arith, r .health), (omega arith, omega (arith, r .cn0), flags)))
 
 range-told : (e : SatelliteHealth) → outOfRange e ≡ false → InRange e
 range-told e o =

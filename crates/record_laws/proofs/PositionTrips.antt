@@ -32,7 +32,8 @@ use Rattle.record_stages.specs.Stages.{wrongSize, readOrder, makeOrder, refused
 use Rattle.record_stages.proofs.StageLaws.{done-apart, done-frame}
 use Rattle.record_positions.specs.declared.Position.{Position}
 use Rattle.record_positions.specs.declared.PositionRead.the-variants as read
-use Rattle.record_positions.specs.Positions.{widths, meant, codes, coding, fill, tooLow, outOfRange, positionIn, readPosition, makePosition, Typed, PositionMade, lowest, InRange, SendablePosition, HoldsPosition}
+use Rattle.record_positions.specs.Positions.{widths, meant, codes, coding, fill, tooLow, outOfRange, positionIn, readPosition, makePosition}
+use Rattle.record_positions.specs.Positions.{Typed, PositionMade, lowest, InRange, SendablePosition, HoldsPosition}
 use Rattle.record_laws.proofs.SentLaws.{make-passes, make-passed, read-passes, read-passed, frame-for, right-size, told-size}
 
 -- ---- the three laws on codes

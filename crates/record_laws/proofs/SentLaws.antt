@@ -1,7 +1,7 @@
 -- What can be sent is made, and what is made could be sent; what a frame holds is read: the first checks of both orders, once for every
 -- layout, and the list layouts, once for both. Assumes nothing.
 use mathlib.Core.Path.{_≡_, refl, sym, ap, subst, _∙_}
-use mathlib.Core.Bool.{Bool, false, _||_}
+use mathlib.Core.Bool.{Bool, false}
 use mathlib.Core.List.{List, [], _∷_}
 use Prim.Native.Nat.{ℕ, zero, suc, _+_, _*_, _/_, _≤_, _<_}
 use native.Mathlib.Omega.{arith}
@@ -20,7 +20,8 @@ use Rattle.frame.proofs.WidthLaws.{both-false}
 use Rattle.frame.proofs.FrameLaws.{n-within}
 use Rattle.record_fields.specs.Coding.{Coding, frameBits, entryIn, frameWith}
 use Rattle.record_stages.specs.declared.Count.the-variants as count
-use Rattle.record_stages.specs.Stages.{wrongCount, otherLayout, entriesHeld, misfit, wrongSize, readOrder, entryOrder, makeOrder, refusedMade, doneMade, HeaderFor, FrameFor}
+use Rattle.record_stages.specs.Stages.{wrongCount, otherLayout, entriesHeld, misfit, wrongSize, readOrder, entryOrder, makeOrder}
+use Rattle.record_stages.specs.Stages.{refusedMade, doneMade, HeaderFor, FrameFor}
 use Rattle.record_stages.specs.Lists.{listMade, listCount, listRanged, heldTo, Sendable, Holding, ListRead}
 use Rattle.record_stages.proofs.ListCode.{count-right, some-few, told-some-few}
 use Rattle.record_stages.proofs.StageLaws.{done-apart}
@@ -78,13 +79,6 @@ pub told-entry : {A : Type 0} (p : A → Bool) (es : List A) (d : A) (i : ℕ) �
 told-entry p [] d i e l = absurd (omega arith)
 told-entry p (x ∷ es) d zero e l = both-false (p x) (anyOf p es) e .0
 told-entry p (x ∷ es) d (suc i) e l = told-entry p es d i (both-false (p x) (anyOf p es) e .1) (omega arith)
-
--- the same test over numbers
-pub any-entry : (p : ℕ → Bool) (es : List ℕ) → anyOf p es ≡ anyOf p es
-any-entry p [] = refl
-any-entry p (e ∷ es) = ap (λ b. p e || b) (any-entry p es)
-
--- ---- what is sent, in the table's terms and by the fields of the answer
 
 -- ---- lists that can be sent
 

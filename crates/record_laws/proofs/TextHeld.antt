@@ -19,21 +19,22 @@ use Rattle.record_fields.specs.Coding.{frameBits, entryIn}
 use Rattle.record_stages.specs.declared.Count.the-variants as count
 use Rattle.record_stages.proofs.StageLaws.{of-apart, of-inj}
 use Rattle.record_stages.proofs.ListCode.{some-few, told-some-few}
-use Rattle.record_texts.specs.Texts.{coding, characters, textLength, lengthIn, textIn, wrongWords, forbidden, textOrder, readText, bufferAfter, Allowed, HoldsText, ReadsText}
+use Rattle.record_texts.specs.Texts.{coding, characters, textLength, lengthIn, textIn, wrongWords, forbidden}
+use Rattle.record_texts.specs.Texts.{textOrder, readText, bufferAfter, Allowed, HoldsText, ReadsText}
 use Rattle.record_texts.proofs.TextCode.{length-characters, character-at, length-all, length-less, length-least, Ends, none, one, two, ends}
-use Rattle.record_laws.proofs.SentLaws.{read-passes, read-passed, none-entry, told-entry, any-entry}
+use Rattle.record_laws.proofs.SentLaws.{read-passes, read-passed, none-entry, told-entry}
 use Rattle.record_laws.proofs.TextLaws.{allowed, not-zero}
 
 -- ---- what refusal 11 says of a text, both ways
 
 pub allowed-fine : (t : List ℕ) → Allowed t → anyOf forbidden t ≡ false
-allowed-fine t a = any-entry forbidden t ∙ none-entry forbidden t 0 (λ i l. fine (getD t i 0) (a i l))
+allowed-fine t a = none-entry forbidden t 0 (λ i l. fine (getD t i 0) (a i l))
   where
     fine : (c : ℕ) → (1 ≤ c) × (c ≤ 127) → forbidden c ≡ false
     fine c b = rw (le-ltb c 1 (b .0), le-ltb 127 c (b .1))
 
 pub allowed-told : (t : List ℕ) → anyOf forbidden t ≡ false → Allowed t
-allowed-told t e i l = allowed (getD t i 0) (told-entry forbidden t 0 i (sym (any-entry forbidden t) ∙ e) l)
+allowed-told t e i l = allowed (getD t i 0) (told-entry forbidden t 0 i e l)
 
 -- ---- characters: a text, and the zeros behind it
 

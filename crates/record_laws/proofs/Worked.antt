@@ -40,11 +40,13 @@ abbrev pub correctionFrame : ℕ → Frame
 correctionFrame kind = framed (header kind) (0x0303E8 ∷ 0xFB4DAA ∷ [])
 
 pub correction-1-made : saysMade (makeCorrections (header 1) (correction ∷ []) 1) ≡ answers (correctionFrame 1)
-unfolding factors stateOutside numbersOutside headerOutside layoutOf layoutNumber otherLayout doneMade refusedMade framed frameWith wordsIn filled cutWords fillOf entryBits bits number code makeCorrections
+unfolding factors stateOutside numbersOutside headerOutside layoutOf layoutNumber otherLayout doneMade refusedMade
+    framed frameWith wordsIn filled cutWords fillOf entryBits bits number code makeCorrections
 correction-1-made = refl
 
 pub correction-9-made : saysMade (makeCorrections (header 9) (correction ∷ []) 1) ≡ answers (correctionFrame 9)
-unfolding factors stateOutside numbersOutside headerOutside layoutOf layoutNumber otherLayout doneMade refusedMade framed frameWith wordsIn filled cutWords fillOf entryBits bits number code makeCorrections
+unfolding factors stateOutside numbersOutside headerOutside layoutOf layoutNumber otherLayout doneMade refusedMade
+    framed frameWith wordsIn filled cutWords fillOf entryBits bits number code makeCorrections
 correction-9-made = refl
 
 pub correction-1-count : saysCount (countCorrections (correctionFrame 1)) ≡ answers 1
@@ -52,7 +54,8 @@ unfolding factors stateOutside numbersOutside headerOutside layoutOf layoutNumbe
 correction-1-count = refl
 
 pub correction-1-read : saysCorrectionRead (correctionAt (correctionFrame 1) 0) ≡ answers correction
-unfolding factors stateOutside numbersOutside headerOutside layoutOf layoutNumber otherLayout framed outside frameBits dataBits bits number signed misfit correctionAt
+unfolding factors stateOutside numbersOutside headerOutside layoutOf layoutNumber otherLayout
+    framed outside frameBits dataBits bits number signed misfit correctionAt
 correction-1-read = refl
 
 -- ---- type 3: X 123456789, Y -987654321, Z 2147483647
@@ -64,11 +67,13 @@ abbrev pub positionFrame : Frame
 positionFrame = framed (header 3) (0x075BCD ∷ 0x15C521 ∷ 0x974F7F ∷ 0xFFFFFF ∷ [])
 
 pub position-3-made : saysMade (makePosition (header 3) position) ≡ answers positionFrame
-unfolding factors stateOutside numbersOutside headerOutside layoutOf layoutNumber otherLayout doneMade refusedMade framed frameWith wordsIn filled cutWords fillOf entryBits bits number code tooLow positionOut makePosition
+unfolding factors stateOutside numbersOutside headerOutside layoutOf layoutNumber otherLayout doneMade refusedMade
+    framed frameWith wordsIn filled cutWords fillOf entryBits bits number code tooLow positionOut makePosition
 position-3-made = refl
 
 pub position-3-read : saysPositionRead (readPosition positionFrame) ≡ answers position
-unfolding factors stateOutside numbersOutside headerOutside layoutOf layoutNumber otherLayout framed outside frameBits dataBits bits number signed tooLow positionOut readPosition
+unfolding factors stateOutside numbersOutside headerOutside layoutOf layoutNumber otherLayout
+    framed outside frameBits dataBits bits number signed tooLow positionOut readPosition
 position-3-read = refl
 
 -- ---- type 5: reserved 1, satellite 32, link 1, health 7, C/N0 31, enable 1, new 0, loss 1, time 15, reserved 3; then a plainer one
@@ -83,7 +88,8 @@ abbrev pub healthFrame : Frame
 healthFrame = framed (header 5) (0x83FF7F ∷ 0x05004E ∷ [])
 
 pub health-5-made : saysMade (makeHealths (header 5) (highest ∷ plainer ∷ []) 2) ≡ answers healthFrame
-unfolding factors stateOutside numbersOutside headerOutside layoutOf layoutNumber otherLayout doneMade refusedMade framed frameWith wordsIn filled cutWords fillOf entryBits bits number makeHealths
+unfolding factors stateOutside numbersOutside headerOutside layoutOf layoutNumber otherLayout doneMade refusedMade
+    framed frameWith wordsIn filled cutWords fillOf entryBits bits number makeHealths
 health-5-made = refl
 
 pub health-5-count : saysCount (countHealths healthFrame) ≡ answers 2
@@ -117,21 +123,25 @@ abbrev pub textFrame : Frame
 textFrame = framed (header 16) (0x515549 ∷ 0x434B00 ∷ [])
 
 pub text-16-made : saysMade (makeText (header 16) quick) ≡ answers textFrame
-unfolding factors stateOutside numbersOutside headerOutside layoutOf layoutNumber otherLayout doneMade refusedMade framed frameWith wordsIn filled cutWords fillOf entryBits bits number makeText
+unfolding factors stateOutside numbersOutside headerOutside layoutOf layoutNumber otherLayout doneMade refusedMade
+    framed frameWith wordsIn filled cutWords fillOf entryBits bits number makeText
 text-16-made = refl
 
 -- read into a buffer of six: the characters, and what stood behind them
 pub text-16-read : saysCount (readText textFrame (replicate 6 9)) ≡ answers 5
-unfolding factors stateOutside numbersOutside headerOutside layoutOf layoutNumber otherLayout framed outside frameBits dataBits bits number characters textLength readText
+unfolding factors stateOutside numbersOutside headerOutside layoutOf layoutNumber otherLayout
+    framed outside frameBits dataBits bits number characters textLength readText
 text-16-read = refl
 
 pub text-16-written : bufferAfter textFrame (replicate 6 9) ≡ 81 ∷ 85 ∷ 73 ∷ 67 ∷ 75 ∷ 9 ∷ []
-unfolding factors stateOutside numbersOutside headerOutside layoutOf layoutNumber otherLayout framed outside frameBits dataBits bits number characters textLength bufferAfter
+unfolding factors stateOutside numbersOutside headerOutside layoutOf layoutNumber otherLayout
+    framed outside frameBits dataBits bits number characters textLength bufferAfter
 text-16-written = refl
 
 -- 90 characters have N 30; 91 are refusal 12
 pub text-16-of-90 : saysMade (makeText (header 16) (replicate 90 65)) ≡ answers (framed (header 16) (replicate 30 0x414141))
-unfolding factors stateOutside numbersOutside headerOutside layoutOf layoutNumber otherLayout doneMade refusedMade framed frameWith wordsIn filled cutWords fillOf entryBits bits number makeText
+unfolding factors stateOutside numbersOutside headerOutside layoutOf layoutNumber otherLayout doneMade refusedMade
+    framed frameWith wordsIn filled cutWords fillOf entryBits bits number makeText
 text-16-of-90 = refl
 
 pub text-16-of-91 : saysMade (makeText (header 16) (replicate 91 65)) ≡ refuses 12

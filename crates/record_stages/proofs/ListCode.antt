@@ -10,7 +10,6 @@ use lib.Dec.{ltb, eqb}
 use borrow.Author.Tests.{lt-ltb, le-ltb, eq-eqb, ne-eqb, eqb-true, eqb-false, ltb-false, not-false}
 use Rattle.answer.specs.Order.{inOrder}
 use Rattle.frame.proofs.WidthLaws.{both-false}
-use Rattle.record_stages.specs.declared.checks.Suited.the-variants as suited
 use Rattle.record_stages.specs.Stages.{entriesHeld, misfit, wrongCount}
 
 -- ---- the entries that N words hold

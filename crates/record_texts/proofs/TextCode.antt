@@ -31,7 +31,8 @@ use Rattle.record_stages.specs.Stages.{askedOf}
 use Rattle.record_stages.proofs.StageLaws.{read5, read6, read7, read8, read-on}
 use Rattle.record_texts.specs.declared.Characters.the-variants.{Permitted, Forbidden}
 use Rattle.record_texts.specs.declared.Room.the-variants.{Enough, Short}
-use Rattle.record_texts.specs.Texts.{widths, meant, coding, characters, textLength, lengthIn, textIn, wrongWords, forbidden, textOrder, readText, bufferAfter}
+use Rattle.record_texts.specs.Texts.{widths, meant, coding, characters, textLength, lengthIn, textIn, wrongWords, forbidden}
+use Rattle.record_texts.specs.Texts.{textOrder, readText, bufferAfter}
 
 -- ---- characters of bits
 

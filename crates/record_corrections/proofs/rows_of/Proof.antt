@@ -34,8 +34,9 @@ returns c =
 loop-again : tie.Need-loop-again Inv-loop μ-loop
 loop-again c =
     let c4 = c .before .before .before .before in
-    let l = c4 .before .before .before .before .loop in
-    let s = c4 .before .before .before .before .before .before in
+    let turn = c4 .before .before .before .before in
+    let l = turn .loop in
+    let s = turn .before .before in
     let full : length (s .args .t1) ≡ 18 = search needs in (
       omega arith,
       l .inv .1

@@ -32,16 +32,20 @@ returns-3
       pow-pos (c .before .before .before .args .width),
     )
 
+-- the start, from where the first word is read
+abbrev start : tie.After-word → tie.Start
+start c = c .before .before .before .before
+
 cast-result : tie.Need-cast-result
 cast-result c =
-    let c8 = c .before .before .before .before .before .before .before .before in
-    record { fits = field-below _ (c8 .args .width) (c .pow2 .result) (omega arith) (c .pow2 .ensures .0) }
+    let c4 = c .before .before .before .before in
+    record { fits = field-below _ (start c4 .args .width) (c .pow2 .result) (omega arith) (c .pow2 .ensures .0) }
 
 returns-4 : tie.Need-returns-4
 returns-4 c =
     let c3 = c .before .before .before in
     let c4 = c3 .before in
-    let a = c4 .before .before .before .before .args in
+    let a = start c4 .args in
     let ws = a .words .now in
     let e = field-law ws (a .offset) (a .width) (c4 .word .result) (c3 .word2 .result) (c .before .before .word3 .result)
     (c .before .pow .result) (c .pow2 .result)

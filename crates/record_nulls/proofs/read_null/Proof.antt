@@ -14,15 +14,24 @@ use Rattle.record_nulls.specs.declared.NullRead.the-variants as read
 use Rattle.record_nulls.proofs.read_null.Statement.{statement}
 use Rattle.record_nulls.proofs.read_null.Tie as tie
 
+-- from where a stage is passed back to the stage before it, and to the start
+abbrev start : tie.After-enum-told → tie.Start
+start c = c .before .before .before
+
+abbrev five : tie.After-enum-told3 → tie.After-enum-told
+five c = c .before .before .before .before
+
+abbrev six : tie.After-enum-told5 → tie.After-enum-told3
+six c = c .before .before .before
+
 -- what the stages that are passed say
-within : (c : tie.After-enum-told) → Within ≡ frameWidths (c .before .before .before .args .frame)
+within : (c : tie.After-enum-told) → Within ≡ frameWidths (start c .args .frame)
 within c = sym (c .enum-told .given .1) ∙ c .before .before .frame-widths .ensures
 
-same : (c : tie.After-enum-told3) → Same ≡ askedOf layout.Null (c .before .before .before .before .before .before .before .args .frame .header .kind)
+same : (c : tie.After-enum-told3) → Same ≡ askedOf layout.Null (start (five c) .args .frame .header .kind)
 same c = sym (c .enum-told3 .given .1) ∙ c .before .before .asked-of .ensures
 
-hour : (c : tie.After-enum-told5)
-    → Hour ≡ clockOf (c .before .before .before .before .before .before .before .before .before .before .args .frame .header .z)
+hour : (c : tie.After-enum-told5) → Hour ≡ clockOf (start (five (six c)) .args .frame .header .z)
 hour c = sym (c .enum-told5 .given .1) ∙ c .before .before .clock-of .ensures
 
 returns : tie.Need-returns
@@ -44,7 +53,7 @@ returns-2 c =
 returns-3 : tie.Need-returns-3
 unfolding readNull
 returns-3 c =
-    let c7 = c .before .before .before .before .before .before .before in
+    let c7 = five (c .before .before .before) in
     let c10 = c7 .before .before .before in
     let f = c10 .args .frame in
     read7 layout.Null f (wrongSize 0 (f .n)) [] read.Refused read.Null
@@ -53,7 +62,7 @@ returns-3 c =
 returns-4 : tie.Need-returns-4
 unfolding readNull
 returns-4 c =
-    let c6 = c .before .before .before .before .before .before in
+    let c6 = six (c .before .before .before) in
     let c10 = c6 .before .before .before .before in
     let c13 = c10 .before .before .before in
     let f = c13 .args .frame in
@@ -64,7 +73,7 @@ returns-4 c =
 returns-5 : tie.Need-returns-5
 unfolding readNull
 returns-5 c =
-    let c6 = c .before .before .before .before .before .before in
+    let c6 = six (c .before .before .before) in
     let c10 = c6 .before .before .before .before in
     let c13 = c10 .before .before .before in
     let f = c13 .args .frame in

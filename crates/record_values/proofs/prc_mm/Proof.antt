@@ -23,7 +23,8 @@ returns-3 c =
     let i = c .before .before in
     let s = i .before .before in
     simp (le-ltb _ _ (i .before .if1 .left), signed-exact w16 20 320 (s .args .scale) (s .args .prc) (s .fits .prc) (i .if2 .left))
-    (ap Millimetres (read-back w32 (record { sfits = c .product .ok }) (c .product .ensures) (toZ-ofZ w16 (s .args .prc) (s .fits .prc)) (c .before .step-of .ensures)))
+    (ap Millimetres
+    (read-back w32 (record { sfits = c .product .ok }) (c .product .ensures) (toZ-ofZ w16 (s .args .prc) (s .fits .prc)) (c .before .step-of .ensures)))
 
 pub prc-mm-spec : {M : Type 1} → statement M
 prc-mm-spec =

@@ -26,7 +26,9 @@ returns-3 c =
     let i = c .before .before in
     let s = i .before .before in
     simp (le-ltb _ _ (i .before .if1 .left), signed-exact w8 2 32 (s .args .scale) (s .args .rrc) (s .fits .rrc) (i .if2 .left))
-    (ap MillimetresPerSecond (read-back w32 (record { sfits = c .product .ok }) (c .product .ensures) (cast-is w8 w16 (s .args .rrc) (s .fits .rrc) (omega arith)) (c .before .step-of .ensures)))
+    (ap MillimetresPerSecond
+    (read-back w32 (record { sfits = c .product .ok }) (c .product .ensures)
+    (cast-is w8 w16 (s .args .rrc) (s .fits .rrc) (omega arith)) (c .before .step-of .ensures)))
 
 pub rrc-mm-s-spec : {M : Type 1} → statement M
 rrc-mm-s-spec =

@@ -11,8 +11,12 @@ use Rattle.record_values.proofs.StageLaws.{outside-told}
 use Rattle.record_values.proofs.udre_limit.Statement.{statement}
 use Rattle.record_values.proofs.udre_limit.Tie as tie
 
+-- the start, from where the state is passed
+abbrev start : tie.After-enum-told → tie.Start
+start c = c .before .before .before
+
 -- the state is within its widths
-inside : (c : tie.After-enum-told) → stateOutside (c .before .before .before .args .state) ≡ false
+inside : (c : tie.After-enum-told) → stateOutside (start c .args .state) ≡ false
 inside c = outside-told _ _ (sym (c .before .before .health-of .ensures) ∙ c .enum-told .given .1)
 
 returns : tie.Need-returns
@@ -27,7 +31,7 @@ returns-3 c = simp (inside (c .before .before), le-ltb _ _ (c .before .if1 .left
 
 mul-t13 : tie.Need-mul-t13
 unfolding limits
-mul-t13 c = limit-fits (c .before .before .before .before .before .before .args .udre) (c .hundredths-of .result) (omega arith)
+mul-t13 c = limit-fits (start (c .before .before .before) .args .udre) (c .hundredths-of .result) (omega arith)
 
 returns-4 : tie.Need-returns-4
 unfolding udreValue limits

@@ -17,15 +17,18 @@ returns c = let s = c .before .before .before in signed-low (s .args .n) (s .arg
 
 cast-result : tie.Need-cast-result
 cast-result c =
-    let s = c .before .before .before .before in power-fits (s .args .n) (s .args .half) (c .pow2 .result) (s .pre .0) (c .pow2 .ensures .0) (far c) (s .pre .1)
+    let s = c .before .before .before .before in
+    power-fits (s .args .n) (s .args .half) (c .pow2 .result) (s .pre .0) (c .pow2 .ensures .0) (far c) (s .pre .1)
 
 sub-result : tie.Need-sub-result
 sub-result c =
-    let s = c .before .before .before .before in apart-fits (s .args .n) (s .args .half) (c .pow2 .result) (s .pre .0) (c .pow2 .ensures .0) (far c) (s .pre .1)
+    let s = c .before .before .before .before in
+    apart-fits (s .args .n) (s .args .half) (c .pow2 .result) (s .pre .0) (c .pow2 .ensures .0) (far c) (s .pre .1)
 
 returns-2 : tie.Need-returns-2
 returns-2 c =
-    let s = c .before .before .before .before in signed-high (s .args .n) (s .args .half) (c .pow2 .result) (s .pre .0) (c .pow2 .ensures .0) (far c) (s .pre .1)
+    let s = c .before .before .before .before in
+    signed-high (s .args .n) (s .args .half) (c .pow2 .result) (s .pre .0) (c .pow2 .ensures .0) (far c) (s .pre .1)
 
 pub signed-spec : {M : Type 1} → statement M
 signed-spec =

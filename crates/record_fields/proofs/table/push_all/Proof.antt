@@ -20,8 +20,9 @@ loop-holds c = (omega arith, refl)
 
 loop-again : tie.Need-loop-again Inv-loop μ-loop
 loop-again c =
-    let l = c .before .before .before .before .before .loop in
-    let a = c .before .before .before .before .before .before .before .args in (
+    let turn = c .before .before .before .before .before in
+    let l = turn .loop in
+    let a = turn .before .before .args in (
       omega arith,
       l .inv .1 ∙ push-next (a .widths .now) (a .t2) (l .i) _ (c .before .item .result) (l .p) (c .push .result) (omega arith) refl
           (c .before .item .ensures) (c .push .ensures),
