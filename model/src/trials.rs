@@ -1,4 +1,4 @@
-//! The files that the program `trials` is run on: the streams, their names as
+//! The files that the program `test_streams` is run on: the streams, their names as
 //! its arguments, and what it must print.
 
 use crate::record::values::{minutes, z_tenths};

@@ -1,1 +1,1 @@
-// Demand 1 of the library for C and Rust, and of the crates that lend it bytes: statements in specs/, proofs in proofs/.
+// The demands of the library for C and Rust, and demand 1 of the crates that lend it bytes: statements in specs/, proofs in proofs/.

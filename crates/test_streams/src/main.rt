@@ -1,4 +1,4 @@
-// `trials FILE..` prints each file's name and the listing of its first 4096 bytes. They are listed twice, as one piece and in pieces of seven bytes,
+// `test_streams FILE..` prints each file's name and the listing of its first 4096 bytes. They are listed twice, as one piece and in pieces of seven bytes,
 // and where the two texts differ, both are printed. Then comes a line on what becomes of the frames, and after all files what times stand for.
 ghost use Prim.Native.Nat.{_≤_};
 ghost use lib.ListN.{length};
