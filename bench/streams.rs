@@ -78,6 +78,13 @@ fn frame(line: &mut Line, random: &mut Random) {
     line.words(random, n as u64);
 }
 
+// A frame of type 1 with N one of those given.
+fn short(line: &mut Line, random: &mut Random, numbers: &[u32]) {
+    let n = numbers[random.below(numbers.len() as u64) as usize];
+    line.header(random, 1, n);
+    line.words(random, n as u64);
+}
+
 // Bytes of a line that begins with zero bits and goes on piece by piece.
 fn stream(lead: usize, piece: impl Fn(&mut Line, &mut Random)) -> Vec<u8> {
     let mut random = Random(SEED);
@@ -137,6 +144,9 @@ fn main() {
         ("off_grid", stream(7, frame)),
         ("noise", noise()),
         ("cut_short", stream(6, cut_short)),
+        ("short_0", stream(6, |line, random| short(line, random, &[0]))),
+        ("short_0_to_2", stream(6, |line, random| short(line, random, &[0, 1, 2]))),
+        ("short_2", stream(6, |line, random| short(line, random, &[2]))),
     ];
     for (name, bytes) in streams {
         std::fs::write(Path::new(&folder).join(name), bytes).expect("a stream written");
