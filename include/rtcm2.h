@@ -16,6 +16,10 @@
  *
  * Headers. Where a frame is made, its header comes as five numbers: type 1 to 64, station 0 to 1023, Z count 0 to 8191
  * (0.6 s each), sequence 0 to 7, health 0 to 7. One outside its range is 5.
+ *
+ * Types. A type from 31 to 36 speaks of GLONASS satellites, any other of GPS satellites. A call on a record takes the types of
+ * both: corrections 1, 9, 31 and 34; position 3 and 32; health 5 and 33; null frame 6 and 34; text 16 and 36. A frame of type 34
+ * holds no corrections where N is 0 or 1, and is then a null frame; else it is no null frame. Any other type is 6.
  */
 #ifndef RTCM2_H
 #define RTCM2_H
@@ -41,7 +45,7 @@ enum {
     RTCM2_NO_ENTRY = 9,       /* entry number not below the count */
     RTCM2_FIELD = 10,         /* record field outside its range */
     RTCM2_CHARACTER = 11,     /* forbidden character */
-    RTCM2_ENTRIES = 12,       /* no entry, too many, or bytes that are no whole number of entries */
+    RTCM2_ENTRIES = 12,       /* no entry, too many, or bytes that are no whole number of entries; N too many for a null frame */
     RTCM2_TOO_SHORT = 13,     /* lent buffer too short */
     RTCM2_NO_MARK = 14,       /* the bytes do not begin with the journal mark */
     RTCM2_CUT_SHORT = 15,     /* journal record cut short */
@@ -53,8 +57,8 @@ enum {
     RTCM2_STATE_SIZE = 188,     /* a reader's state; rtcm2_state_size answers the same */
     RTCM2_FRAME_MAX = 102,      /* the longest frame, 31 data words */
     RTCM2_LINE_MAX = 165,       /* the longest frame on the line */
-    RTCM2_CORRECTION_SIZE = 7,  /* one correction of types 1 and 9 */
-    RTCM2_HEALTH_SIZE = 10,     /* one satellite's health of type 5 */
+    RTCM2_CORRECTION_SIZE = 7,  /* one correction */
+    RTCM2_HEALTH_SIZE = 10,     /* one satellite's health */
     RTCM2_TEXT_MAX = 90         /* the longest text */
 };
 
@@ -106,23 +110,28 @@ uint8_t rtcm2_keep(uint8_t type, uint16_t station, uint16_t z, uint8_t sequence,
 uint8_t rtcm2_recall(const uint8_t *frame, size_t frame_size, uint8_t *type, uint16_t *station, uint16_t *z, uint8_t *sequence,
                      uint8_t *health, uint8_t *n, size_t *length);
 
-/* ---- Corrections, types 1 and 9. A correction is RTCM2_CORRECTION_SIZE bytes: scale 0 to 1, UDRE 0 to 3, satellite 1 to 32,
- * PRC in two bytes (two's complement, low byte first), RRC (two's complement), IOD. PRC -32768 or RRC -128 says to stop using
- * the satellite. */
+/* ---- Corrections, types 1, 9, 31 and 34. A correction is RTCM2_CORRECTION_SIZE bytes: scale 0 to 1, UDRE 0 to 3, satellite 1 to
+ * 32, PRC in two bytes (two's complement, low byte first), RRC (two's complement), and a last byte. This is IOD in types 1 and 9;
+ * in types 31 and 34 its highest bit is the change bit and the other seven are tb, 0 to 119. PRC -32768 or RRC -128 says to stop
+ * using the satellite. */
 
 /* How many corrections the frame holds. Refusals: 14, 15, 16, 15, 16, then 6, 7, 8. */
 uint8_t rtcm2_count_corrections(const uint8_t *frame, size_t frame_size, size_t *count);
 
-/* The correction at `index`, from 0, to the start of `correction`. Refusals: 14, 15, 16, 15, 16, then 6, 7, 8, 9, 13. */
+/* The correction at `index`, from 0, to the start of `correction`. Refusals: 14, 15, 16, 15, 16, then 6, 7, 8, 9, 10 (tb over
+ * 119), 13. */
 uint8_t rtcm2_correction_at(const uint8_t *frame, size_t frame_size, size_t index, uint8_t *correction, size_t correction_size);
 
-/* Makes a frame of 1 to 18 corrections, one after the other in `corrections`. Refusals: 5, 6, 7, 12, 10, 13. */
+/* Makes a frame of 1 to 18 corrections, one after the other in `corrections`; the type says how the last byte of each is meant.
+ * Refusals: 5, 6, 7, 12, 10, 13. */
 uint8_t rtcm2_make_corrections(uint8_t type, uint16_t station, uint16_t z, uint8_t sequence, uint8_t health,
                                const uint8_t *corrections, size_t corrections_size, uint8_t *frame, size_t frame_size,
                                size_t *length);
 
-/* ---- Constellation health, type 5. A satellite's health is RTCM2_HEALTH_SIZE bytes: reserved 0 to 1, satellite 1 to 32, IOD
- * link 0 to 1, health 0 to 7, C/N0 0 to 31, enable, new data and loss warning 0 to 1 each, time 0 to 15, reserved 0 to 3. */
+/* ---- Constellation health, types 5 and 33. A satellite's health is RTCM2_HEALTH_SIZE bytes: reserved 0 to 1, satellite 1 to 32,
+ * link to IOD or tb 0 to 1, health 0 to 7, C/N0 0 to 31, enable, new data and loss warning 0 to 1 each, time 0 to 15, reserved 0
+ * to 3. Health is one code of three bits in type 5; in type 33 the highest of the three is the data health, and the other two are
+ * reserved. */
 
 /* How many satellites the frame holds. Refusals: 14, 15, 16, 15, 16, then 6, 7, 8. */
 uint8_t rtcm2_count_healths(const uint8_t *frame, size_t frame_size, size_t *count);
@@ -134,7 +143,7 @@ uint8_t rtcm2_health_at(const uint8_t *frame, size_t frame_size, size_t index, u
 uint8_t rtcm2_make_healths(uint8_t type, uint16_t station, uint16_t z, uint8_t sequence, uint8_t health, const uint8_t *healths,
                            size_t healths_size, uint8_t *frame, size_t frame_size, size_t *length);
 
-/* ---- The station's position, type 3: X, Y and Z in centimetres. */
+/* ---- The station's position, types 3 and 32: X, Y and Z in centimetres. */
 
 /* Refusals: 14, 15, 16, 15, 16, then 6, 7, 8, 10. */
 uint8_t rtcm2_read_position(const uint8_t *frame, size_t frame_size, int32_t *x_cm, int32_t *y_cm, int32_t *z_cm);
@@ -143,16 +152,17 @@ uint8_t rtcm2_read_position(const uint8_t *frame, size_t frame_size, int32_t *x_
 uint8_t rtcm2_make_position(uint8_t type, uint16_t station, uint16_t z, uint8_t sequence, uint8_t health, int32_t x_cm,
                             int32_t y_cm, int32_t z_cm, uint8_t *frame, size_t frame_size, size_t *length);
 
-/* ---- The null frame, type 6. */
+/* ---- The null frame, types 6 and 34. Type 6 has no data word; type 34 has N 0 or 1. */
 
-/* Whether the frame is a null frame. Refusals: 14, 15, 16, 15, 16, then 6, 7, 8. */
-uint8_t rtcm2_read_null(const uint8_t *frame, size_t frame_size);
+/* Whether the frame is a null frame, and its N. A data word may hold any bits. Refusals: 14, 15, 16, 15, 16, then 6, 7, 8. */
+uint8_t rtcm2_read_null(const uint8_t *frame, size_t frame_size, uint8_t *n);
 
-/* Refusals: 5, 6, 7, 13. */
-uint8_t rtcm2_make_null(uint8_t type, uint16_t station, uint16_t z, uint8_t sequence, uint8_t health, uint8_t *frame,
+/* Makes a null frame of `n` data words; a data word is filled with 10101010 three times. Refusals: 5, 6, 7, 12 (`n` over what the
+ * type has), 13. */
+uint8_t rtcm2_make_null(uint8_t type, uint16_t station, uint16_t z, uint8_t sequence, uint8_t health, uint8_t n, uint8_t *frame,
                         size_t frame_size, size_t *length);
 
-/* ---- Text, type 16: 1 to 90 characters 1 to 127. */
+/* ---- Text, types 16 and 36: 1 to 90 characters, 1 to 127 in type 16, 1 to 191 in type 36. */
 
 /* The characters, `length` of them, at the start of `text`. Refusals: 14, 15, 16, 15, 16, then 6, 7, 8, 11, 13. */
 uint8_t rtcm2_read_text(const uint8_t *frame, size_t frame_size, uint8_t *text, size_t text_size, size_t *length);
@@ -181,6 +191,10 @@ uint8_t rtcm2_udre_limit_mm(uint8_t health, uint8_t udre, uint8_t *limited, uint
 
 /* C/N0 in dBHz: `tracked` is 0 for code 0 (`dbhz` is then 0), else 1. Refusal: 10 for a code over 31. */
 uint8_t rtcm2_cn0_dbhz(uint8_t code, uint8_t *tracked, uint8_t *dbhz);
+
+/* A character of a text as its number in Unicode: 1 to 127 are ASCII; 128 to 191 are the Russian letters of type 36, U+0410 to
+ * U+044F in their order. Refusal: 11 for 0 and for a code over 191. */
+uint8_t rtcm2_letter_of(uint8_t code, uint32_t *letter);
 
 #ifdef __cplusplus
 }

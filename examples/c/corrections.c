@@ -1,6 +1,7 @@
-/* Prints the corrections of a line from standard input, one a line: position of the frame, station, Z count, satellite,
- * PRC in mm, RRC in mm/s, UDRE limit in mm, IOD; then how many frames and corrections there were. A satellite that is not to
- * be used has "stop" for PRC and RRC.
+/* Prints the corrections of a line from standard input, one a line: position of the frame, station, Z count, system (GPS or
+ * GLO), satellite, PRC in mm, RRC in mm/s, UDRE limit in mm, and the IOD of GPS or change bit/tb of GLONASS; then how many
+ * frames and corrections there were. A satellite that is not to be used has "stop" for PRC and RRC. An entry that can't be
+ * read, a GLONASS one with a tb past the hour, gives a line with its number and the refusal's, and the program goes on.
  *
  *   rt staticlib rtcm2
  *   cc -std=c11 -O2 -Wall -Wextra -Iinclude examples/c/corrections.c target/staticlib/librtcm2.a -o corrections
@@ -16,6 +17,7 @@
 struct totals {
     unsigned long long frames;
     unsigned long long corrections;
+    unsigned long long refused;
 };
 
 /* Stops the program where a call that can't be refused here was refused. */
@@ -43,10 +45,25 @@ static void print_values(uint8_t scale, int16_t prc, int8_t rrc)
     printf(" %" PRId32 " %" PRId32, mm, mm_s);
 }
 
-/* The values of a correction of RTCM2_CORRECTION_SIZE bytes. */
-static void print_correction(const uint8_t *correction, uint8_t health)
+/* Whether corrections of this type are for GLONASS satellites. */
+static int is_glonass(uint8_t type)
 {
-    uint8_t scale = correction[0], udre = correction[1], satellite = correction[2], iod = correction[6];
+    return type == 31 || type == 34;
+}
+
+/* The last eight bits: the IOD, or the change bit and the seven bits of tb. */
+static void print_issue(uint8_t type, uint8_t issue)
+{
+    if (is_glonass(type))
+        printf(" %u/%u\n", (unsigned)issue / 128, (unsigned)issue % 128);
+    else
+        printf(" %u\n", (unsigned)issue);
+}
+
+/* The values of a correction of RTCM2_CORRECTION_SIZE bytes. */
+static void print_correction(const uint8_t *correction, uint8_t type, uint8_t health)
+{
+    uint8_t scale = correction[0], udre = correction[1], satellite = correction[2], issue = correction[6];
     int16_t prc = (int16_t)(correction[3] | correction[4] << 8);
     int8_t rrc = (int8_t)correction[5];
     uint8_t limited;
@@ -59,10 +76,11 @@ static void print_correction(const uint8_t *correction, uint8_t health)
         printf(" %" PRIu32, limit);
     else
         printf(" none");
-    printf(" %u\n", (unsigned)iod);
+    print_issue(type, issue);
 }
 
-/* How many corrections a frame holds: none for another type, a Z count past the hour, or an N that doesn't fit. */
+/* How many corrections a frame holds: none for another type, a Z count past the hour, or an N that doesn't fit, which a null
+ * frame of type 34 has too. */
 static size_t count_corrections(const uint8_t *frame, size_t length)
 {
     size_t count;
@@ -74,7 +92,7 @@ static size_t count_corrections(const uint8_t *frame, size_t length)
     return count;
 }
 
-/* A line for each correction of a frame. */
+/* A line for each correction of a frame, and for each entry with a number out of its range. */
 static void print_frame(const uint8_t *frame, size_t length, uint32_t at, struct totals *totals)
 {
     uint8_t type, sequence, health, n;
@@ -84,13 +102,19 @@ static void print_frame(const uint8_t *frame, size_t length, uint32_t at, struct
     check(rtcm2_recall(frame, length, &type, &station, &z, &sequence, &health, &n, &record_length), "rtcm2_recall");
     for (size_t i = 0; i < count; i++) {
         uint8_t correction[RTCM2_CORRECTION_SIZE];
+        uint8_t answer = rtcm2_correction_at(frame, length, i, correction, sizeof correction);
 
-        check(rtcm2_correction_at(frame, length, i, correction, sizeof correction), "rtcm2_correction_at");
-        printf("%" PRIu32 " %u %u", at, (unsigned)station, (unsigned)z);
-        print_correction(correction, health);
+        printf("%" PRIu32 " %u %u %s", at, (unsigned)station, (unsigned)z, is_glonass(type) ? "GLO" : "GPS");
+        if (answer == RTCM2_FIELD) {
+            printf(" entry %zu refused %u\n", i, (unsigned)answer);
+            totals->refused++;
+            continue;
+        }
+        check(answer, "rtcm2_correction_at");
+        print_correction(correction, type, health);
+        totals->corrections++;
     }
     totals->frames++;
-    totals->corrections += count;
 }
 
 /* Takes every frame that waits. */
@@ -125,7 +149,7 @@ static void feed(uint8_t *state, const uint8_t *bytes, size_t size, struct total
 int main(void)
 {
     uint8_t state[RTCM2_STATE_SIZE], bytes[4096];
-    struct totals totals = {0, 0};
+    struct totals totals = {0, 0, 0};
     size_t size;
 
     check(rtcm2_start(state, sizeof state), "rtcm2_start");
@@ -137,7 +161,7 @@ int main(void)
     }
     check(rtcm2_end(state, sizeof state), "rtcm2_end");
     take_all(state, &totals);
-    printf("frames %llu corrections %llu\n", totals.frames, totals.corrections);
+    printf("frames %llu corrections %llu refused %llu\n", totals.frames, totals.corrections, totals.refused);
     if (fflush(stdout) != 0 || ferror(stdout)) {
         perror("corrections: standard output");
         return 1;

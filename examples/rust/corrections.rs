@@ -1,7 +1,9 @@
 //! Prints the corrections of a line from standard input, one a line: position of
-//! the frame, station, Z count, satellite, PRC in mm, RRC in mm/s, UDRE limit in
-//! mm, IOD; then how many frames and corrections there were. A satellite that is
-//! not to be used has "stop" for PRC and RRC.
+//! the frame, station, Z count, system (GPS or GLO), satellite, PRC in mm, RRC in
+//! mm/s, UDRE limit in mm, and the IOD of GPS or change bit/tb of GLONASS; then how
+//! many frames and corrections there were. A satellite that is not to be used has
+//! "stop" for PRC and RRC. An entry that can't be read, a GLONASS one with a tb past
+//! the hour, gives a line with its number and the refusal's, and the program goes on.
 //!
 //!     rt staticlib rtcm2
 //!     rustc --edition 2021 -O -L target/staticlib -l static=rtcm2 examples/rust/corrections.rs
@@ -9,7 +11,7 @@
 
 mod rtcm2;
 
-use rtcm2::{Frame, Reader, Refusal};
+use rtcm2::{Correction, Frame, Issue, Reader, Refusal, System};
 use std::error::Error;
 use std::fmt::Display;
 use std::io::{self, BufWriter, Read, Write};
@@ -19,6 +21,7 @@ use std::io::{self, BufWriter, Read, Write};
 struct Totals {
     frames: u64,
     corrections: u64,
+    refused: u64,
 }
 
 fn main() -> Result<(), Box<dyn Error>> {
@@ -40,8 +43,8 @@ fn main() -> Result<(), Box<dyn Error>> {
     take_all(&mut reader, &mut totals, &mut output)?;
     writeln!(
         output,
-        "frames {} corrections {}",
-        totals.frames, totals.corrections
+        "frames {} corrections {} refused {}",
+        totals.frames, totals.corrections, totals.refused
     )?;
     output.flush()?;
     Ok(())
@@ -70,34 +73,62 @@ fn take_all(
 ) -> Result<(), Box<dyn Error>> {
     while let Some(frame) = reader.take()? {
         totals.frames += 1;
-        totals.corrections += print_frame(&frame, output)?;
+        print_frame(&frame, totals, output)?;
     }
     Ok(())
 }
 
-/// A line for each correction of a frame; how many there are.
-fn print_frame(frame: &Frame, output: &mut impl Write) -> Result<u64, Box<dyn Error>> {
+/// A line for each correction of a frame, and for each entry with a number out of its
+/// range.
+fn print_frame(
+    frame: &Frame,
+    totals: &mut Totals,
+    output: &mut impl Write,
+) -> Result<(), Box<dyn Error>> {
     let (header, count) = (frame.header()?, count_corrections(frame)?);
+    let system = match header.system() {
+        System::Gps => "GPS",
+        System::Glonass => "GLO",
+    };
     for i in 0..count {
-        let correction = frame.correction_at(i)?;
-        writeln!(
-            output,
-            "{} {} {} {} {} {} {} {}",
-            frame.at,
-            header.station,
-            header.z,
-            correction.satellite,
-            or_word(correction.prc_mm()?, "stop"),
-            or_word(correction.rrc_mm_s()?, "stop"),
-            or_word(correction.udre_limit_mm(header.health)?, "none"),
-            correction.iod,
-        )?;
+        let shown = match frame.correction_at(i) {
+            Err(rtcm2::FIELD) => {
+                totals.refused += 1;
+                format!("entry {i} refused {}", rtcm2::FIELD.0)
+            }
+            read => {
+                totals.corrections += 1;
+                values(&read?, header.health)?
+            }
+        };
+        let (at, station, z) = (frame.at, header.station, header.z);
+        writeln!(output, "{at} {station} {z} {system} {shown}")?;
     }
-    Ok(count as u64)
+    Ok(())
+}
+
+/// What a correction says: satellite, PRC, RRC, UDRE limit, issue.
+fn values(correction: &Correction, health: u8) -> Result<String, Refusal> {
+    Ok(format!(
+        "{} {} {} {} {}",
+        correction.satellite,
+        or_word(correction.prc_mm()?, "stop"),
+        or_word(correction.rrc_mm_s()?, "stop"),
+        or_word(correction.udre_limit_mm(health)?, "none"),
+        issue(&correction.issue),
+    ))
+}
+
+/// The IOD, or the change bit and tb.
+fn issue(issue: &Issue) -> String {
+    match issue {
+        Issue::Iod(iod) => iod.to_string(),
+        Issue::Age { change, tb } => format!("{change}/{tb}"),
+    }
 }
 
 /// How many corrections a frame holds: none for another type, a Z count past the
-/// hour, or an N that doesn't fit.
+/// hour, or an N that doesn't fit, which a null frame of type 34 has too.
 fn count_corrections(frame: &Frame) -> Result<usize, Refusal> {
     match frame.count_corrections() {
         Err(rtcm2::OTHER_TYPE | rtcm2::Z_COUNT | rtcm2::WRONG_N) => Ok(0),

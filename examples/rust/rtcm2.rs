@@ -68,6 +68,8 @@ pub const OTHER_TYPE: Refusal = Refusal(6);
 pub const Z_COUNT: Refusal = Refusal(7);
 /// N doesn't fit the type.
 pub const WRONG_N: Refusal = Refusal(8);
+/// A field of the record is outside its range.
+pub const FIELD: Refusal = Refusal(10);
 
 impl Display for Refusal {
     fn fmt(&self, to: &mut Formatter) -> fmt::Result {
@@ -159,6 +161,23 @@ pub struct Header {
     pub n: u8,
 }
 
+/// The system whose satellites a frame speaks of.
+#[derive(Clone, Copy, Debug, PartialEq, Eq)]
+pub enum System {
+    Gps,
+    Glonass,
+}
+
+impl Header {
+    /// The system of the header's type: GLONASS has the types 31 to 36.
+    pub fn system(&self) -> System {
+        match self.kind {
+            31..=36 => System::Glonass,
+            _ => System::Gps,
+        }
+    }
+}
+
 impl Frame {
     /// The frame's journal record.
     pub fn record(&self) -> &[u8] {
@@ -194,6 +213,7 @@ impl Frame {
     /// The correction at an index, from 0.
     pub fn correction_at(&self, index: usize) -> Result<Correction, Refusal> {
         let (record, mut row) = (self.record(), [0; CORRECTION_SIZE]);
+        let system = self.header()?.system();
         checked(unsafe {
             rtcm2_correction_at(
                 record.as_ptr(),
@@ -203,14 +223,20 @@ impl Frame {
                 row.len(),
             )
         })?;
-        let [scale, udre, satellite, prc_low, prc_high, rrc, iod] = row;
+        let [scale, udre, satellite, prc_low, prc_high, rrc, last] = row;
         Ok(Correction {
             scale,
             udre,
             satellite,
             prc: i16::from_le_bytes([prc_low, prc_high]),
             rrc: rrc as i8,
-            iod,
+            issue: match system {
+                System::Gps => Issue::Iod(last),
+                System::Glonass => Issue::Age {
+                    change: last / 128,
+                    tb: last % 128,
+                },
+            },
         })
     }
 }
@@ -222,7 +248,15 @@ pub struct Correction {
     pub satellite: u8,
     pub prc: i16,
     pub rrc: i8,
-    pub iod: u8,
+    pub issue: Issue,
+}
+
+/// Which data of the satellite a correction belongs to.
+pub enum Issue {
+    /// GPS: the IOD.
+    Iod(u8),
+    /// GLONASS: the change bit, and tb in counts of 30 s from the full hour.
+    Age { change: u8, tb: u8 },
 }
 
 impl Correction {

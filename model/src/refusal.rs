@@ -26,7 +26,7 @@ pub enum Refusal {
     OutsideRange = 10,
     /// Forbidden character.
     ForbiddenCharacter = 11,
-    /// No entry, or too many.
+    /// No entry, or too many; too large an N wanted of a null frame.
     EntryCount = 12,
     /// Lent buffer too short.
     BufferTooShort = 13,

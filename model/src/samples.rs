@@ -1,10 +1,10 @@
 //! Random headers, records and frames, all correct, for streams and tests.
 
 use crate::frame::{Frame, Header, State, MOST_WORDS};
-use crate::record::correction::{self, Correction};
-use crate::record::health::{self, Health};
+use crate::record::correction::{self, Correction, Issue, LAST_TB};
+use crate::record::health::{self, Condition, Health};
 use crate::record::position::{self, Position};
-use crate::record::{null, text};
+use crate::record::{null, system, text, System};
 use crate::rng::Rng;
 
 /// A header of this type with a Z count inside the hour.
@@ -28,24 +28,36 @@ fn number(rng: &mut Rng, least: i64, most: i64) -> i64 {
 }
 
 /// One satellite's correction.
-pub fn correction(rng: &mut Rng) -> Correction {
+pub fn correction(rng: &mut Rng, system: System) -> Correction {
     Correction {
         scale: rng.below(2) as u8,
         udre: rng.below(4) as u8,
         satellite: number(rng, 1, 32) as u8,
         prc: number(rng, -32768, 32767) as i16,
         rrc: number(rng, -128, 127) as i8,
-        iod: rng.byte(),
+        issue: match system {
+            System::Gps => Issue::Iod(rng.byte()),
+            System::Glonass => Issue::Age {
+                change: rng.below(2) as u8,
+                tb: number(rng, 0, LAST_TB.into()) as u8,
+            },
+        },
     }
 }
 
 /// One satellite's health.
-pub fn satellite_health(rng: &mut Rng) -> Health {
+pub fn satellite_health(rng: &mut Rng, system: System) -> Health {
     Health {
         reserved_first: rng.below(2) as u8,
         satellite: number(rng, 1, 32) as u8,
-        iod_link: rng.below(2) as u8,
-        health: rng.below(8) as u8,
+        link: rng.below(2) as u8,
+        condition: match system {
+            System::Gps => Condition::Code(rng.below(8) as u8),
+            System::Glonass => Condition::Data {
+                health: rng.below(2) as u8,
+                reserved: rng.below(4) as u8,
+            },
+        },
         cn0: number(rng, 0, 31) as u8,
         enable: rng.below(2) as u8,
         new_data: rng.below(2) as u8,
@@ -65,41 +77,48 @@ pub fn position(rng: &mut Rng) -> Position {
     }
 }
 
-/// A text of this many characters.
-pub fn characters(rng: &mut Rng, count: usize) -> Vec<u8> {
-    (0..count).map(|_| number(rng, 1, 127) as u8).collect()
+/// A text of this many characters, for a frame of type 16 or 36.
+pub fn characters(rng: &mut Rng, type_number: u16, count: usize) -> Vec<u8> {
+    let last = text::last_code(type_number).into();
+    (0..count).map(|_| number(rng, 1, last) as u8).collect()
 }
 
-/// A frame of type 1 or 9 with this many satellites.
+/// A frame of type 1, 9, 31 or 34 with this many satellites.
 pub fn correction_frame(rng: &mut Rng, type_number: u16, count: usize) -> Frame {
     let mut entries = [Correction::default(); correction::MOST];
-    entries.fill_with(|| correction(rng));
+    entries.fill_with(|| correction(rng, system(type_number)));
     let header = header(rng, type_number);
     correction::make(&header, &entries, count).expect("a correct record")
 }
 
-/// A frame of type 3.
-pub fn position_frame(rng: &mut Rng) -> Frame {
-    let header = header(rng, 3);
+/// A frame of type 3 or 32.
+pub fn position_frame(rng: &mut Rng, type_number: u16) -> Frame {
+    let header = header(rng, type_number);
     position::make(&header, &position(rng)).expect("a correct record")
 }
 
-/// A frame of type 5 with this many satellites.
-pub fn health_frame(rng: &mut Rng, count: usize) -> Frame {
+/// A frame of type 5 or 33 with this many satellites.
+pub fn health_frame(rng: &mut Rng, type_number: u16, count: usize) -> Frame {
     let mut entries = [Health::default(); health::MOST];
-    entries.fill_with(|| satellite_health(rng));
-    health::make(&header(rng, 5), &entries, count).expect("a correct record")
+    entries.fill_with(|| satellite_health(rng, system(type_number)));
+    health::make(&header(rng, type_number), &entries, count).expect("a correct record")
 }
 
 /// A frame of type 6.
 pub fn null_frame(rng: &mut Rng) -> Frame {
-    null::make(&header(rng, 6)).expect("a correct record")
+    null::make(&header(rng, 6), 0).expect("a correct record")
 }
 
-/// A frame of type 16 with this many characters.
-pub fn text_frame(rng: &mut Rng, count: usize) -> Frame {
-    let header = header(rng, 16);
-    text::make(&header, &characters(rng, count)).expect("a correct record")
+/// A null frame of type 34 with this N, 0 or 1.
+pub fn glonass_null_frame(rng: &mut Rng, n: u8) -> Frame {
+    null::make(&header(rng, 34), n).expect("a correct record")
+}
+
+/// A frame of type 16 or 36 with this many characters.
+pub fn text_frame(rng: &mut Rng, type_number: u16, count: usize) -> Frame {
+    let header = header(rng, type_number);
+    let characters = characters(rng, type_number, count);
+    text::make(&header, &characters).expect("a correct record")
 }
 
 /// A frame of any type and N with random data words.
@@ -115,27 +134,35 @@ pub fn plain_frame(rng: &mut Rng, type_number: u16, n: u8) -> Frame {
 
 /// A frame of a type that has no layout of its own.
 pub fn other_frame(rng: &mut Rng) -> Frame {
-    let types: [u16; 12] = [2, 4, 7, 8, 10, 17, 18, 31, 34, 59, 63, 64];
+    let types = [2, 4, 7, 8, 10, 17, 30, 35, 37, 59, 63, 64];
     let type_number = types[rng.place(types.len())];
     let n = rng.below(32) as u8;
     plain_frame(rng, type_number, n)
 }
 
-/// A frame whose record can be read.
+/// A frame whose record can be read, of any of the eleven types; type 34 has two
+/// layouts, half of its frames are null frames.
 pub fn record_frame(rng: &mut Rng) -> Frame {
-    let satellites = 1 + rng.place(correction::MOST);
-    match rng.below(6) {
-        0 => correction_frame(rng, 1, satellites),
-        1 => correction_frame(rng, 9, satellites),
-        2 => position_frame(rng),
-        3 => {
+    let types = [1, 3, 5, 6, 9, 16, 31, 32, 33, 34, 34, 36];
+    let type_number = types[rng.place(types.len())];
+    match type_number {
+        3 | 32 => position_frame(rng, type_number),
+        5 | 33 => {
             let count = 1 + rng.place(health::MOST);
-            health_frame(rng, count)
+            health_frame(rng, type_number, count)
         }
-        4 => null_frame(rng),
-        _ => {
+        6 => null_frame(rng),
+        16 | 36 => {
             let count = 1 + rng.place(text::MOST);
-            text_frame(rng, count)
+            text_frame(rng, type_number, count)
+        }
+        34 if rng.bit() => {
+            let n = rng.below(2) as u8;
+            glonass_null_frame(rng, n)
+        }
+        _ => {
+            let count = 1 + rng.place(correction::MOST);
+            correction_frame(rng, type_number, count)
         }
     }
 }

@@ -2,10 +2,9 @@
 //! is read and made again, its fields are summed, and it is written.
 
 use crate::frame::Frame;
-use crate::library::lists::health_row;
 use crate::line::bits_of_bytes;
-use crate::record::correction::{self, Correction};
-use crate::record::health::{self, Health};
+use crate::record::correction::{self, Correction, Issue};
+use crate::record::health::{self, Condition, Health};
 use crate::record::{layout, null, position, text, Layout};
 use crate::refusal::{Answer, Refusal};
 use crate::scan::scan;
@@ -99,7 +98,7 @@ pub fn line(bytes: &[u8]) -> String {
 /// The frame made from a frame's record, or the refusal of reading it.
 fn made_again(frame: &Frame, fields: &mut Sum) -> Answer<Frame> {
     let header = &frame.header;
-    match layout(header.type_number) {
+    match layout(header.type_number, frame.n) {
         Layout::Correction => corrections_again(frame, fields),
         Layout::Health => healths_again(frame, fields),
         Layout::Position => {
@@ -107,7 +106,11 @@ fn made_again(frame: &Frame, fields: &mut Sum) -> Answer<Frame> {
             fields.add(&[place.x as u32, place.y as u32, place.z as u32]);
             position::make(header, &place)
         }
-        Layout::Null => null::read(frame).and_then(|()| null::make(header)),
+        Layout::Null => {
+            let n = null::read(frame)?;
+            fields.add(&[n]);
+            null::make(header, n)
+        }
         Layout::Text => {
             let mut buffer = [0; text::MOST];
             let count = text::read(frame, &mut buffer)?;
@@ -124,7 +127,11 @@ fn corrections_again(frame: &Frame, fields: &mut Sum) -> Answer<Frame> {
     for (i, entry) in entries.iter_mut().take(count).enumerate() {
         *entry = correction::entry(frame, i)?;
         fields.add(&[entry.scale, entry.udre, entry.satellite]);
-        fields.add(&[entry.prc as u16, (entry.rrc as u8).into(), entry.iod.into()]);
+        fields.add(&[entry.prc as u16, (entry.rrc as u8).into()]);
+        match entry.issue {
+            Issue::Iod(iod) => fields.add(&[iod]),
+            Issue::Age { change, tb } => fields.add(&[change, tb]),
+        }
     }
     correction::make(&frame.header, &entries, count)
 }
@@ -134,7 +141,13 @@ fn healths_again(frame: &Frame, fields: &mut Sum) -> Answer<Frame> {
     let mut entries = [Health::default(); health::MOST];
     for (i, entry) in entries.iter_mut().take(count).enumerate() {
         *entry = health::entry(frame, i)?;
-        fields.add(&health_row(entry));
+        fields.add(&[entry.reserved_first, entry.satellite, entry.link]);
+        match entry.condition {
+            Condition::Code(code) => fields.add(&[code]),
+            Condition::Data { health, reserved } => fields.add(&[health, reserved]),
+        }
+        fields.add(&[entry.cn0, entry.enable, entry.new_data]);
+        fields.add(&[entry.loss_warning, entry.time, entry.reserved_last]);
     }
     health::make(&frame.header, &entries, count)
 }

@@ -38,7 +38,7 @@ pub fn files() -> Vec<File> {
     files
 }
 
-/// What times of type 5 and Z counts stand for, at both ends of each answer.
+/// What times of types 5 and 33 and Z counts stand for, at both ends of each answer.
 fn ends() -> String {
     let mut text = String::new();
     for code in [0, 15, 16, 255] {

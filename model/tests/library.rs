@@ -4,10 +4,10 @@
 use rtcm2_model::library::state::State;
 use rtcm2_model::library::{line, lists, state};
 use rtcm2_model::line::bits_of_bytes;
-use rtcm2_model::record::correction;
+use rtcm2_model::record::correction::{self, Issue};
 use rtcm2_model::rng::Rng;
 use rtcm2_model::scan::scan;
-use rtcm2_model::{journal, streams};
+use rtcm2_model::{journal, samples, streams};
 
 /// Takes every frame that waits.
 fn take_all(state: &mut [u8], found: &mut Vec<(usize, Vec<u8>)>) {
@@ -57,7 +57,8 @@ fn streams_give_the_frames_of_the_scan() {
 fn corrections_are_rows_of_the_entries() {
     let mut rng = Rng::named("rows");
     for count in 1..=correction::MOST {
-        let frame = rtcm2_model::samples::correction_frame(&mut rng, 9, count);
+        let type_number = [9, 31][count % 2];
+        let frame = samples::correction_frame(&mut rng, type_number, count);
         let mut record = [0; 102];
         journal::keep(&frame, &mut record).unwrap();
         let mut counted = 0;
@@ -69,6 +70,11 @@ fn corrections_are_rows_of_the_entries() {
             let entry = correction::entry(&frame, i).unwrap();
             let prc = i16::from(row[4] as i8) * 256 + i16::from(row[3]);
             assert_eq!((row[2], prc), (entry.satellite, entry.prc));
+            let last = match entry.issue {
+                Issue::Iod(iod) => iod,
+                Issue::Age { change, tb } => change << 7 | tb,
+            };
+            assert_eq!(row[6], last);
         }
     }
 }

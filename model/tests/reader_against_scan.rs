@@ -142,7 +142,7 @@ fn call(rng: &mut Rng, reader: &mut Reader, defined: &mut Defined, rest: &mut &[
 fn random_calls_answer_as_defined() {
     let mut rng = Rng::named("random calls");
     let mut frames = 0;
-    for _ in 0..4000 {
+    for _ in 0..4500 {
         let bytes = stream(&mut rng);
         let (mut reader, mut defined) = (Reader::new(), Defined::default());
         let mut rest = &bytes[..];
@@ -184,7 +184,7 @@ fn handed_out(bytes: &[u8]) -> Vec<(usize, Taken)> {
 fn whole_streams_agree_with_the_scan() {
     let mut rng = Rng::named("whole streams");
     let mut frames = 0;
-    for _ in 0..4000 {
+    for _ in 0..4500 {
         let bytes = stream(&mut rng);
         let expected = scan(&bits_of_bytes(&bytes), true);
         let out = handed_out(&bytes);

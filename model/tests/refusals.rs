@@ -8,10 +8,10 @@ use rtcm2_model::frame::{check_frame, check_header, Frame, Header, State};
 use rtcm2_model::journal;
 use rtcm2_model::reader::Reader;
 use rtcm2_model::record::correction::{self, Correction};
-use rtcm2_model::record::health::{self, Health};
+use rtcm2_model::record::health::{self, Condition, Health};
 use rtcm2_model::record::position::{self, Position};
 use rtcm2_model::record::values::{cn0_dbhz, minutes, prc_mm, rrc_mm_s, udre_limit_mm, z_tenths};
-use rtcm2_model::record::{layout, null, text, Layout};
+use rtcm2_model::record::{layout, may_have, null, text, Layout};
 use rtcm2_model::refusal::Answer;
 use rtcm2_model::writer::{self, CarriedBits};
 
@@ -99,17 +99,23 @@ fn health_codes() {
 
 #[test]
 fn layouts() {
-    let listed = |layout_wanted| -> Vec<u16> {
+    let listed = |wanted| -> Vec<u16> {
         let all = 0..=u16::MAX;
-        all.filter(|number| layout(*number) == layout_wanted)
-            .collect()
+        all.filter(|number| may_have(*number, wanted)).collect()
     };
-    assert_eq!(listed(Layout::Correction), [1, 9]);
-    assert_eq!(listed(Layout::Position), [3]);
-    assert_eq!(listed(Layout::Health), [5]);
-    assert_eq!(listed(Layout::Null), [6]);
-    assert_eq!(listed(Layout::Text), [16]);
-    assert_eq!(listed(Layout::Plain).len(), 65536 - 6);
+    assert_eq!(listed(Layout::Correction), [1, 9, 31, 34]);
+    assert_eq!(listed(Layout::Position), [3, 32]);
+    assert_eq!(listed(Layout::Health), [5, 33]);
+    assert_eq!(listed(Layout::Null), [6, 34]);
+    assert_eq!(listed(Layout::Text), [16, 36]);
+    assert_eq!(listed(Layout::Plain).len(), 65536 - 11);
+    for type_number in 0..=u16::MAX {
+        let of_n = (0..=31).map(|n| layout(type_number, n));
+        let same = of_n.clone().all(|of_n| of_n == layout(type_number, 0));
+        assert_eq!(same, type_number != 34);
+    }
+    let null = (0..=31).filter(|n| layout(34, *n) == Layout::Null);
+    assert_eq!(null.collect::<Vec<u8>>(), [0, 1]);
 }
 
 /// Reads with faults 5, 6, 7 and 8 mended one after the other.
@@ -132,20 +138,31 @@ fn reading_order(type_number: u16, good_n: u8, bad_n: u8, read: fn(&Frame) -> u8
 #[test]
 fn reading_orders() {
     let count = |whole: &Frame| number(correction::count(whole));
-    assert_eq!(reading_order(1, 2, 3, count), [5, 6, 7, 8, 0]);
     let entry = |whole: &Frame| number(correction::entry(whole, 1));
-    assert_eq!(reading_order(9, 2, 0, entry), [5, 6, 7, 8, 9]);
+    for (type_number, bad_n) in [(1, 3), (9, 0), (31, 31), (34, 0), (34, 1), (34, 3)] {
+        assert_eq!(reading_order(type_number, 2, bad_n, count), [5, 6, 7, 8, 0]);
+        assert_eq!(reading_order(type_number, 2, bad_n, entry), [5, 6, 7, 8, 9]);
+    }
     let count = |whole: &Frame| number(health::count(whole));
-    assert_eq!(reading_order(5, 31, 0, count), [5, 6, 7, 8, 0]);
     let entry = |whole: &Frame| number(health::entry(whole, usize::MAX));
-    assert_eq!(reading_order(5, 1, 0, entry), [5, 6, 7, 8, 9]);
+    for type_number in [5, 33] {
+        assert_eq!(reading_order(type_number, 31, 0, count), [5, 6, 7, 8, 0]);
+        assert_eq!(reading_order(type_number, 1, 0, entry), [5, 6, 7, 8, 9]);
+    }
     let read = |whole: &Frame| number(position::read(whole));
-    assert_eq!(reading_order(3, 4, 5, read), [5, 6, 7, 8, 0]);
+    for type_number in [3, 32] {
+        assert_eq!(reading_order(type_number, 4, 5, read), [5, 6, 7, 8, 0]);
+    }
     let read = |whole: &Frame| number(null::read(whole));
-    assert_eq!(reading_order(6, 0, 1, read), [5, 6, 7, 8, 0]);
+    for (type_number, good_n, bad_n) in [(6, 0, 1), (34, 0, 2), (34, 1, 31)] {
+        let order = reading_order(type_number, good_n, bad_n, read);
+        assert_eq!(order, [5, 6, 7, 8, 0]);
+    }
     let read = |whole: &Frame| number(text::read(whole, &mut []));
-    assert_eq!(reading_order(16, 1, 0, read), [5, 6, 7, 8, 11]);
-    assert_eq!(reading_order(16, 30, 31, read), [5, 6, 7, 8, 11]);
+    for type_number in [16, 36] {
+        assert_eq!(reading_order(type_number, 1, 0, read), [5, 6, 7, 8, 11]);
+        assert_eq!(reading_order(type_number, 30, 31, read), [5, 6, 7, 8, 11]);
+    }
 }
 
 #[test]
@@ -238,17 +255,20 @@ fn making_orders() {
     let bad = [Correction::default(); correction::MOST];
     for (count, last) in [(0, 12), (19, 12), (usize::MAX, 12), (1, 10), (18, 10)] {
         let make = |header: &Header| number(correction::make(header, &bad, count));
-        assert_eq!(making_order(1, make), [5, 6, 7, last]);
-        assert_eq!(making_order(9, make), [5, 6, 7, last]);
+        for type_number in [1, 9, 31, 34] {
+            assert_eq!(making_order(type_number, make), [5, 6, 7, last]);
+        }
     }
     let bad = [Health::default(); health::MOST];
     for (count, last) in [(0, 12), (32, 12), (usize::MAX, 12), (1, 10), (31, 10)] {
         let make = |header: &Header| number(health::make(header, &bad, count));
         assert_eq!(making_order(5, make), [5, 6, 7, last]);
+        assert_eq!(making_order(33, make), [5, 6, 7, last]);
     }
     for (codes, last) in [(&[][..], 12), (&[0; 91][..], 12), (&[0][..], 11)] {
         let make = |header: &Header| number(text::make(header, codes));
         assert_eq!(making_order(16, make), [5, 6, 7, last]);
+        assert_eq!(making_order(36, make), [5, 6, 7, last]);
     }
     let bad = Position {
         x: i32::MIN,
@@ -257,8 +277,13 @@ fn making_orders() {
     };
     let make = |header: &Header| number(position::make(header, &bad));
     assert_eq!(making_order(3, make), [5, 6, 7, 10]);
-    let make = |header: &Header| number(null::make(header));
-    assert_eq!(making_order(6, make), [5, 6, 7, 0]);
+    assert_eq!(making_order(32, make), [5, 6, 7, 10]);
+    for n in 0..=255 {
+        let make = |header: &Header| number(null::make(header, n));
+        let last = |most| if n <= most { 0 } else { 12 };
+        assert_eq!(making_order(6, make), [5, 6, 7, last(0)]);
+        assert_eq!(making_order(34, make), [5, 6, 7, last(1)]);
+    }
 }
 
 #[test]
@@ -298,8 +323,8 @@ fn health_fields_outside_their_range() {
         |entry| entry.reserved_first = 2,
         |entry| entry.satellite = 0,
         |entry| entry.satellite = 33,
-        |entry| entry.iod_link = 2,
-        |entry| entry.health = 8,
+        |entry| entry.link = 2,
+        |entry| entry.condition = Condition::Code(8),
         |entry| entry.cn0 = 32,
         |entry| entry.enable = 2,
         |entry| entry.new_data = 2,
@@ -317,11 +342,14 @@ fn health_fields_outside_their_range() {
 
 #[test]
 fn characters_that_are_refused() {
-    for code in 0..=255 {
-        let expected = if (1..=127).contains(&code) { 0 } else { 11 };
-        assert_eq!(number(text::make(&header(16), &[65, code, 65])), expected);
+    for (type_number, last) in [(16, 127), (36, 191)] {
+        for code in 0..=255 {
+            let expected = if (1..=last).contains(&code) { 0 } else { 11 };
+            let made = text::make(&header(type_number), &[65, code, 65]);
+            assert_eq!(number(made), expected);
+        }
+        assert_eq!(number(text::make(&header(type_number), &[0; 90])), 11);
     }
-    assert_eq!(number(text::make(&header(16), &[0; 90])), 11);
 }
 
 #[test]

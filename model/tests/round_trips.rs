@@ -5,7 +5,7 @@ use rtcm2_model::frame::{check_frame, header_of, header_words, n_of, Frame, Head
 use rtcm2_model::line::bits_of_bytes;
 use rtcm2_model::record::correction::{self, Correction};
 use rtcm2_model::record::health::{self, Health};
-use rtcm2_model::record::{layout, null, position, text, Layout};
+use rtcm2_model::record::{layout, null, position, system, text, Layout};
 use rtcm2_model::refusal::Answer;
 use rtcm2_model::rng::Rng;
 use rtcm2_model::scan::scan;
@@ -16,10 +16,10 @@ use rtcm2_model::{journal, samples};
 fn made_corrections_read_back_equal() {
     let mut rng = Rng::named("corrections");
     for round in 0..1000 {
+        let type_number = [1, 9, 31, 34][rng.place(4)];
         let mut entries = [Correction::default(); correction::MOST];
-        entries.fill_with(|| samples::correction(&mut rng));
+        entries.fill_with(|| samples::correction(&mut rng, system(type_number)));
         let count = 1 + round % correction::MOST;
-        let type_number = if rng.bit() { 1 } else { 9 };
         let header = samples::header(&mut rng, type_number);
         let frame = correction::make(&header, &entries, count).unwrap();
         assert_eq!(usize::from(frame.n), correction::n_for(count));
@@ -36,10 +36,11 @@ fn made_corrections_read_back_equal() {
 fn made_healths_read_back_equal() {
     let mut rng = Rng::named("healths");
     for round in 0..1000 {
+        let type_number = [5, 33][rng.place(2)];
         let mut entries = [Health::default(); health::MOST];
-        entries.fill_with(|| samples::satellite_health(&mut rng));
+        entries.fill_with(|| samples::satellite_health(&mut rng, system(type_number)));
         let count = 1 + round % health::MOST;
-        let header = samples::header(&mut rng, 5);
+        let header = samples::header(&mut rng, type_number);
         let frame = health::make(&header, &entries, count).unwrap();
         assert_eq!(check_frame(&frame), Ok(()));
         assert_eq!(health::count(&frame), Ok(count));
@@ -54,15 +55,19 @@ fn made_positions_nulls_and_texts_read_back_equal() {
     let mut rng = Rng::named("positions and texts");
     for round in 0..1000 {
         let record = samples::position(&mut rng);
-        let frame = position::make(&samples::header(&mut rng, 3), &record).unwrap();
+        let header = samples::header(&mut rng, [3, 32][round % 2]);
+        let frame = position::make(&header, &record).unwrap();
         assert_eq!(position::read(&frame), Ok(record));
 
         let frame = samples::null_frame(&mut rng);
-        assert_eq!(null::read(&frame), Ok(()));
+        assert_eq!(null::read(&frame), Ok(0));
+        let frame = samples::glonass_null_frame(&mut rng, round as u8 % 2);
+        assert_eq!(null::read(&frame), Ok(round as u8 % 2));
 
         let count = 1 + round % text::MOST;
-        let codes = samples::characters(&mut rng, count);
-        let frame = text::make(&samples::header(&mut rng, 16), &codes).unwrap();
+        let type_number = [16, 36][rng.place(2)];
+        let codes = samples::characters(&mut rng, type_number, count);
+        let frame = text::make(&samples::header(&mut rng, type_number), &codes).unwrap();
         assert_eq!(usize::from(frame.n), count.div_ceil(3));
         let mut buffer = vec![0xEE; count];
         assert_eq!(text::read(&frame, &mut buffer), Ok(count));
@@ -73,7 +78,7 @@ fn made_positions_nulls_and_texts_read_back_equal() {
 /// Reads whatever record the frame has and makes the frame anew.
 fn made_anew(frame: &Frame) -> Answer<Frame> {
     let header = &frame.header;
-    match layout(header.type_number) {
+    match layout(header.type_number, frame.n) {
         Layout::Correction => {
             let count = correction::count(frame)?;
             let mut entries = [Correction::default(); correction::MOST];
@@ -91,13 +96,22 @@ fn made_anew(frame: &Frame) -> Answer<Frame> {
             }
             health::make(header, &entries, count)
         }
-        Layout::Null => null::read(frame).and_then(|()| null::make(header)),
+        Layout::Null => null::make(header, null::read(frame)?),
         Layout::Text => {
             let mut buffer = [0; text::MOST];
             let count = text::read(frame, &mut buffer)?;
             text::make(header, &buffer[..count])
         }
         Layout::Plain => Ok(*frame),
+    }
+}
+
+/// Whether the frame has standard fill, wherever its layout has fill.
+fn fill_is_standard(frame: &Frame) -> bool {
+    match layout(frame.header.type_number, frame.n) {
+        Layout::Correction => correction::fill_is_standard(frame).unwrap(),
+        Layout::Null => null::fill_is_standard(frame).unwrap(),
+        _ => true,
     }
 }
 
@@ -113,11 +127,12 @@ fn readable_frames_made_anew_give_their_own_bits() {
     let mut rng = Rng::named("made anew");
     let mut readable = 0;
     for _ in 0..20_000 {
-        let types = [1, 9, 3, 5, 6, 16];
+        let types = [1, 9, 3, 5, 6, 16, 31, 32, 33, 34, 36];
         let type_number = types[rng.place(types.len())];
-        let n = rng.below(32) as u8;
+        let bound = if rng.bit() { 32 } else { 3 };
+        let n = rng.below(bound) as u8;
         let mut frame = samples::plain_frame(&mut rng, type_number, n);
-        if type_number == 16 {
+        if type_number == 16 || type_number == 36 {
             for word in &mut frame.words {
                 *word &= 0x7F_7F7F;
             }
@@ -130,10 +145,8 @@ fn readable_frames_made_anew_give_their_own_bits() {
             d29: rng.below(2) as u8,
             d30: rng.below(2) as u8,
         };
-        let standard =
-            type_number != 1 && type_number != 9 || correction::fill_is_standard(&frame).unwrap();
         let same = written(&frame, carried) == written(&anew, carried);
-        assert_eq!(same, standard);
+        assert_eq!(same, fill_is_standard(&frame));
     }
     assert!(readable > 5000, "only {readable} frames were readable");
 }

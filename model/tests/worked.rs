@@ -62,7 +62,7 @@ fn the_writer_gives_the_stream() {
     let mut buffer = [0xEE; 13];
     let opened = writer::open(&mut buffer).unwrap();
     assert_eq!(opened.length, 1);
-    let null = null::make(&header(6)).unwrap();
+    let null = null::make(&header(6), 0).unwrap();
     let written = writer::write(&null, opened.carried, &mut buffer[1..]).unwrap();
     assert_eq!(written.length, 10);
     assert_eq!((written.carried.d29, written.carried.d30), (0, 0));
@@ -153,7 +153,7 @@ fn satellites_that_n_gives() {
 fn z_count_5999_is_read() {
     let mut frame = frame(6, 0);
     frame.header.z_count = 5999;
-    assert_eq!(null::read(&frame), Ok(()));
+    assert_eq!(null::read(&frame), Ok(0));
     frame.header.z_count = 6000;
     assert_eq!(null::read(&frame).unwrap_err().number(), 7);
 }

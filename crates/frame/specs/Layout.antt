@@ -1,15 +1,22 @@
--- The layout of a frame: its type number decides it, and nothing else. Assumes nothing.
+-- The layout of a frame and the system that it speaks of: its type number decides both, and nothing else. Assumes nothing.
 use mathlib.Core.Bool.{_||_, cond}
 use Prim.Native.Nat.{ℕ}
-use lib.Dec.{eqb}
+use lib.Dec.{eqb, ltb}
 use Rattle.frame.specs.declared.Layout.{Layout}
-use Rattle.frame.specs.declared.Layout.the-variants.{Correction, Position, Health, Null, Text, Plain}
+use Rattle.frame.specs.declared.Layout.the-variants.{Correction, CorrectionOrNull, Position, Health, Null, Text, Plain}
+use Rattle.frame.specs.declared.System.{System}
+use Rattle.frame.specs.declared.System.the-variants.{Gps, Glonass}
 
--- ONE DECISION over type numbers; every number that is not named has a plain frame
+-- ONE DECISION over type numbers; every number that is not named has a plain frame. Type 34 is read as corrections and as null, by its N
 unfoldable pub layoutOf : ℕ → Layout
 layoutOf kind =
-    cond (eqb kind 1 || eqb kind 9) Correction
-    (cond (eqb kind 3) Position
-    (cond (eqb kind 5) Health
+    cond (eqb kind 1 || eqb kind 9 || eqb kind 31) Correction
+    (cond (eqb kind 34) CorrectionOrNull
+    (cond (eqb kind 3 || eqb kind 32) Position
+    (cond (eqb kind 5 || eqb kind 33) Health
     (cond (eqb kind 6) Null
-    (cond (eqb kind 16) Text Plain))))
+    (cond (eqb kind 16 || eqb kind 36) Text Plain)))))
+
+-- THE SYSTEM: GLONASS has the types 31 to 36
+unfoldable pub systemOf : ℕ → System
+systemOf kind = cond (ltb kind 31 || ltb 36 kind) Gps Glonass

@@ -8,7 +8,7 @@ ghost use Rattle.bits.specs.Bits.{bits};
 ghost use Rattle.frame.specs.Header.{stateOf, kindOf, headerOf, nOf, preambled};
 ghost use Rattle.frame.specs.Frames.{builtOf, blank};
 ghost use Rattle.frame.specs.Answer.{healthOf, headerWords, headerWidths, frameWidths, clockOf};
-ghost use Rattle.frame.specs.Layout.{layoutOf};
+ghost use Rattle.frame.specs.Layout.{layoutOf, systemOf};
 use crate::code::FACTORS;
 use crate::code::code_of;
 use crate::outside::any_from;
@@ -62,14 +62,21 @@ pub enum Clock {
     Late,
 }
 
-// What a type number says about the data words.
+// What a type number says about the data words; one type has corrections or is null, by its N.
 pub enum Layout {
     Correction,
+    CorrectionOrNull,
     Position,
     Health,
     Null,
     Text,
     Plain,
+}
+
+// A system of satellites.
+pub enum System {
+    Gps,
+    Glonass,
 }
 
 // The preamble of word 1.
@@ -228,11 +235,25 @@ pub fn layout_of(kind: u8) -> Layout
     ensures { λ r. ⌜ r ≡ layoutOf kind ⌝ }
 {
     match kind {
-        1 | 9 => Layout::Correction,
-        3 => Layout::Position,
-        5 => Layout::Health,
+        1 | 9 | 31 => Layout::Correction,
+        34 => Layout::CorrectionOrNull,
+        3 | 32 => Layout::Position,
+        5 | 33 => Layout::Health,
         6 => Layout::Null,
-        16 => Layout::Text,
+        16 | 36 => Layout::Text,
         _ => Layout::Plain,
     }
+}
+
+// The system whose satellites a type number's records speak of: GLONASS from 31 to 36, else GPS.
+pub fn system_of(kind: u8) -> System
+    ensures { λ r. ⌜ r ≡ systemOf kind ⌝ }
+{
+    if kind < 31 {
+        return System::Gps;
+    }
+    if kind > 36 {
+        return System::Gps;
+    }
+    System::Glonass
 }

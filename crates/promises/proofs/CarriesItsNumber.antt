@@ -45,8 +45,8 @@ use Rattle.record_nulls.specs.declared.NullRead.the-variants as null
 use Rattle.record_stages.specs.declared.Asked.the-variants.{Same, Other}
 use Rattle.record_stages.specs.declared.Place.the-variants as place
 use Rattle.record_stages.specs.declared.Size.the-variants.{Right, Wrong}
-use Rattle.record_values.specs.Values.{prcValue, rrcValue, udreValue, cn0Value}
-use Rattle.record_values.proofs.AnswerLaws.{prc-says, rrc-says, udre-says, cn0-says, minutes-says, z-says}
+use Rattle.record_values.specs.Values.{prcValue, rrcValue, udreValue, cn0Value, noLetter, letterValue}
+use Rattle.record_values.proofs.AnswerLaws.{prc-says, rrc-says, udre-says, cn0-says, minutes-says, z-says, letter-says}
 use Rattle.printing.specs.Printing.{printedBy, saysPrinted}
 use Rattle.printing.specs.declared.Printed.the-variants as printed
 use Rattle.listing.specs.Listing.{pieceBy, finishBy}
@@ -104,7 +104,7 @@ carries-its-number = record {
   make-corrections = λ h es c. told saysMade refusedMade _ _ refl refl refl;
   make-healths = λ h es c. told saysMade refusedMade _ _ refl refl refl;
   make-position = λ h p. told saysMade refusedMade _ _ refl refl refl;
-  make-null = λ h. told saysMade refusedMade _ _ refl refl refl;
+  make-null = λ h n. told saysMade refusedMade _ _ refl refl refl;
   make-text = λ h t. told saysMade refusedMade _ _ refl refl refl;
   write = λ f c buffer. told saysWritten written.Refused _ _ refl refl refl;
   writer-open = λ buffer. told saysOpened opened.Refused _ _ refl refl refl;
@@ -128,6 +128,7 @@ carries-its-number = record {
   cn0-dbhz = λ code. ordered ((ltb 31 code, 10) ∷ []) (cn0Value code) (cn0-says code) refl refl;
   value-minutes = λ code. ordered ((ltb 15 code, 10) ∷ []) (5 * code) (minutes-says code) refl refl;
   z-tenths = λ z. ordered ((ltb 8191 z, 5) ∷ (late z, 7) ∷ []) (6 * z) (z-says z) refl refl;
+  letter-of = λ code. ordered ((noLetter code, 11) ∷ []) (letterValue code) (letter-says code) refl refl;
   print = λ text place buffer. told saysPrinted printed.Refused _ _ refl refl refl;
   list-piece = λ l bs room. told (λ (x : Listed). saysAnswer (x .answer)) (listing.refusedListing l) _ _ refl refl refl;
   finish = λ l room. told (λ (x : Listed). saysAnswer (x .answer)) (listing.refusedListing l) _ _ refl refl refl;

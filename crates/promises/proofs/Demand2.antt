@@ -1,23 +1,25 @@
 -- A record that is written reads back equal; a frame that stands, whose record is read, made anew and written after the same two bits, gives its own
 -- bits. Assumes nothing.
 use mathlib.Core.Path.{_≡_, refl, sym, ap, _∙_}
-use mathlib.Core.Bool.{Bool, true, false, cond}
+use mathlib.Core.Bool.{Bool, true, false, not, _||_, cond}
 use mathlib.Core.List.{List, [], _∷_, _++_}
 use Prim.Native.Nat.{ℕ, zero, suc, _+_, _*_}
 use native.Mathlib.Omega.{arith}
+use lib.Dec.{eqb}
 use lib.ListN.{length, take, drop, getD}
 use lib.Seq.{take-at}
-use Rattle.answer.specs.Order.{answers, NoneApplies}
+use Rattle.answer.specs.Order.{refuses, answers, NoneApplies}
 use Rattle.answer.proofs.OrderLaws.{order-answers, refuses-apart}
-use Rattle.frame.specs.Widths.{headerOutside, late}
+use Rattle.frame.specs.Layout.{layoutOf, systemOf}
+use Rattle.frame.specs.Widths.{anyOf, headerOutside, late}
 use Rattle.frame.specs.declared.Frame.{Frame}
 use Rattle.frame.specs.declared.Layout.{Layout}
 use Rattle.frame.specs.declared.Layout.the-variants as layout
 use Rattle.stream.specs.Standing.{frameAt}
 use Rattle.stream.proofs.Data.{frame-full}
-use Rattle.record_fields.specs.Coding.{Each}
-use Rattle.record_stages.specs.Stages.{otherLayout, refusedMade, doneMade, saysCount, saysMade}
-use Rattle.record_corrections.specs.Corrections.{countCorrections, correctionAt, makeCorrections, saysCorrectionRead, Typed}
+use Rattle.record_fields.specs.Coding.{frameBits, entryIn, Each}
+use Rattle.record_stages.specs.Stages.{layoutNumber, isOf, otherLayout, refusedMade, doneMade, saysCount, saysMade}
+use Rattle.record_corrections.specs.Corrections.{coding, outOfRange, countCorrections, correctionAt, makeCorrections, saysCorrectionRead, Typed}
 use Rattle.record_healths.specs.Healths.{countHealths, healthAt, makeHealths, saysHealthRead}
 use Rattle.record_positions.specs.Positions.{readPosition, makePosition, saysPositionRead}
 use Rattle.record_nulls.specs.Nulls.{readNull, makeNull, saysNullRead}
@@ -41,7 +43,7 @@ use Rattle.record_stages.proofs.ListCode.{told-some-few}
 use Rattle.record_laws.proofs.CorrectionTrips.{corrections-made-read, corrections-read-made, corrections-read, corrections-held}
 use Rattle.record_laws.proofs.HealthTrips.{healths-made-read, healths-read-made, healths-read, healths-held}
 use Rattle.record_laws.proofs.PositionTrips.{position-made-read, position-read-made, position-read, position-held}
-use Rattle.record_laws.proofs.NullTrips.{null-made-read, null-read-made, null-read, null-held}
+use Rattle.record_laws.proofs.NullTrips.{null-made-read, null-read-made, null-read, null-held, null-n}
 use Rattle.record_laws.proofs.TextTrips.{text-made-read}
 use Rattle.record_laws.proofs.TextHeld.{text-read, text-held}
 use Rattle.record_laws.proofs.TextAgain.{text-read-made}
@@ -52,7 +54,7 @@ use Rattle.journal.proofs.RoundTrip.{recall-record, keep-recalled}
 use Rattle.writer.specs.OneFrame.{WritesBack}
 use Rattle.writer.proofs.Wrote.{writes-back}
 use Rattle.promises.specs.Demand2.{Remade, ofCorrections, ofHealths, ofPosition, ofNull, ofText}
-use Rattle.promises.specs.Demand2.{WhatIsRead, ReadsBackEqual, MadeAnew, ItsOwnBits, Demand2}
+use Rattle.promises.specs.Demand2.{recordTypes, WhatIsRead, ReadsBackEqual, MadeAnew, ItsOwnBits, Demand2}
 use Rattle.promises.proofs.CarriesItsNumber.{carries-its-number, says-inj, none-told}
 use Rattle.promises.proofs.ThoseOfRtcm.{count-told, gps-parity-rule, frames-of-rtcm, records-of-rtcm}
 use Rattle.promises.proofs.ReadsBack.{corrections-back, healths-back, position-back, null-back, text-back, what-can-be-sent}
@@ -71,16 +73,53 @@ position-told : (x : PositionRead) (p : Position) → saysPositionRead x ≡ ans
 position-told (position.At a) p h = ap position.At (says-inj h)
 position-told (position.Refused n) p h = absurd (refuses-apart n p h)
 
-null-told : (x : NullRead) → saysNullRead x ≡ answers tt → x ≡ null.Null
-null-told null.Null h = refl
-null-told (null.Refused n) h = absurd (refuses-apart n tt h)
+null-told : (x : NullRead) (n : ℕ) → saysNullRead x ≡ answers n → x ≡ null.Null n
+null-told (null.Null m) n h = ap null.Null (says-inj h)
+null-told (null.Refused m) n h = absurd (refuses-apart m n h)
 
 -- ---- which frames are read
 
+-- type number by type number, in the order of the decision
+eleven : (kind : ℕ) → otherLayout layout.Plain kind ≡ anyOf (eqb kind) recordTypes
+unfolding otherLayout layoutOf layoutNumber
+eleven kind =
+    go (eqb kind 1) (eqb kind 9) (eqb kind 31) (eqb kind 34) (eqb kind 3) (eqb kind 32) (eqb kind 5) (eqb kind 33) (eqb kind 6) (eqb kind 16)
+    (eqb kind 36)
+  where
+    found : (a b c d e f g h i j k : Bool) → Layout
+    found a b c d e f g h i j k =
+        cond (a || b || c) layout.Correction
+        (cond d layout.CorrectionOrNull
+        (cond (e || f) layout.Position (cond (g || h) layout.Health (cond i layout.Null (cond (j || k) layout.Text layout.Plain)))))
+
+    go : (a b c d e f g h i j k : Bool)
+        → not (isOf (found a b c d e f g h i j k) layout.Plain) ≡ (a || (b || (c || (d || (e || (f || (g || (h || (i || (j || (k || false)))))))))))
+    go true b c d e f g h i j k = refl
+    go false true c d e f g h i j k = refl
+    go false false true d e f g h i j k = refl
+    go false false false true e f g h i j k = refl
+    go false false false false true f g h i j k = refl
+    go false false false false false true g h i j k = refl
+    go false false false false false false true h i j k = refl
+    go false false false false false false false true i j k = refl
+    go false false false false false false false false true j k = refl
+    go false false false false false false false false false true k = refl
+    go false false false false false false false false false false true = refl
+    go false false false false false false false false false false false = refl
+
+-- an entry held to its range, in the table's terms
+held-says : (b : Bool) (e : Correction) → saysCorrectionRead (cond b (correction.Refused 10) (correction.Entry e)) ≡ cond b (refuses 10) (answers e)
+held-says true e = refl
+held-says false e = refl
+
 pub what-is-read : WhatIsRead
 what-is-read = record {
+  types = eleven;
   corrections = λ f c. (λ e. corrections-held f c (count-told (countCorrections f) c e), λ h. ap saysCount (corrections-read f c h .counts));
-  correction = λ f c i h l. ap saysCorrectionRead (corrections-read f c h .entries i l);
+  correction = λ f c i h l.
+      let s = systemOf (f .header .kind) in
+      let e = entryIn (coding s) i (frameBits f) in
+      ap saysCorrectionRead (corrections-read f c h .entries i l) ∙ held-says (outOfRange s e) e;
   healths = λ f c. (λ e. healths-held f c (count-told (countHealths f) c e), λ h. ap saysCount (healths-read f c h .counts));
   health = λ f c i h l. ap saysHealthRead (healths-read f c h .entries i l);
   position = λ f p. (
@@ -89,7 +128,10 @@ what-is-read = record {
         (h, says-inj (sym (ap saysPositionRead (position-read f h)) ∙ e)),
     λ h. ap saysPositionRead (position-read f (h .0)) ∙ ap answers (h .1),
   );
-  null = λ f. (λ e. null-held f (null-told (readNull f) e), λ h. ap saysNullRead (null-read f h));
+  null = λ f n. (
+    λ e. let r = null-told (readNull f) n e in (null-held f n r, null-n f n r),
+    λ h. ap saysNullRead (null-read f (h .0)) ∙ ap answers (h .1),
+  );
   text = λ f t k buffer h l. (ap saysCount (text-read f t k h .reads buffer l), text-read f t k h .writes buffer l);
   no-other = λ f buffer c e. text-held f buffer c (count-told (readText f buffer) c e);
 }
@@ -137,7 +179,7 @@ reads-back-equal = record {
       let at-most = told-some-few c 31 (none-told (carries-its-number .make-healths h es c) f e .1 .1 .1 .0) .1 in
       healths-back h es c d f (healths-made-read h es c d f (omega (arith, at-most, many)) (made-told (makeHealths h es c) f e));
   position = λ h p f typed e. position-back h p f (position-made-read h p f typed (made-told (makePosition h p) f e));
-  null = λ h f e. null-back h f (null-made-read h f (made-told (makeNull h) f e));
+  null = λ h n f e. null-back h n f (null-made-read h n f (made-told (makeNull h n) f e));
   text = λ h t f e. text-back h t f (text-made-read h t f (made-told (makeText h t) f e));
   recalled = recall-front;
   kept-again = λ bs f k buffer fits e room. keep-recalled bs fits f k e buffer room;
@@ -168,7 +210,7 @@ again f m full (ofHealths es c d l n e q) =
     let made = healths-read-made f es c d full l (count-told (countHealths f) c n)
     (λ i h. health-told (healthAt f i) (getD es i d) (e i h)) in (q ∙ made, in-time layout.Health f _ made)
 again f m full (ofPosition p e q) = let made = position-read-made f p full (position-told (readPosition f) p e) in (q ∙ made, in-time layout.Position f _ made)
-again f m full (ofNull e q) = let made = null-read-made f full (null-told (readNull f) e) in (q ∙ made, in-time layout.Null f _ made)
+again f m full (ofNull n e s q) = let made = null-read-made f n full (null-told (readNull f) n e) s in (q ∙ made, in-time layout.Null f _ made)
 again f m full (ofText buffer c e q) =
     let made = text-read-made f buffer c full (count-told (readText f buffer) c e) in (q ∙ made, in-time layout.Text f _ made)
 

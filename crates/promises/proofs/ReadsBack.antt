@@ -4,7 +4,7 @@ use mathlib.Core.Bool.{false}
 use mathlib.Core.List.{List, [], _∷_}
 use Prim.Native.Nat.{ℕ, _≤_, _<_}
 use native.Mathlib.Omega.{arith}
-use lib.ListN.{length, take}
+use lib.ListN.{length, take, replicate}
 use borrow.Author.Tests.{le-ltb, lt-leb}
 use Rattle.answer.specs.Order.{Check, inOrder, NoneApplies}
 use Rattle.answer.proofs.OrderLaws.{order-told}
@@ -15,6 +15,7 @@ use Rattle.frame.specs.declared.Header.{Header}
 use Rattle.frame.specs.declared.Frame.{Frame}
 use Rattle.frame.specs.declared.Layout.{Layout}
 use Rattle.frame.specs.declared.Layout.the-variants as layout
+use Rattle.frame.specs.Layout.{systemOf}
 use Rattle.frame.proofs.FrameLaws.{n-within, length-framed}
 use Rattle.record_fields.specs.Coding.{entryBits, frameWith}
 use Rattle.record_stages.specs.Stages.{wrongCount, makeOrder, refusedMade, doneMade, HeaderFor, IsMade, saysCount, saysMade}
@@ -68,8 +69,8 @@ healths-back h es c d f m = record {
 pub position-back : (h : Header) (p : Position) (f : Frame) → positions.PositionMade h p f → PositionBack h p f
 position-back h p f m = record { header = m .header; inside = m .inside; reads = ap positions.saysPositionRead (m .reads); n = m .n }
 
-pub null-back : (h : Header) (f : Frame) → nulls.NullMade h f → NullBack h f
-null-back h f m = record { header = m .header; inside = m .inside; reads = ap nulls.saysNullRead (m .reads); n = m .n }
+pub null-back : (h : Header) (n : ℕ) (f : Frame) → nulls.NullMade h n f → NullBack h n f
+null-back h n f m = record { header = m .header; inside = m .inside; reads = ap nulls.saysNullRead (m .reads); n = m .n; fill = m .fill }
 
 pub text-back : (h : Header) (t : List ℕ) (f : Frame) → texts.TextMade h t f → TextBack h t f
 text-back h t f m = record {
@@ -133,29 +134,29 @@ what-can-be-sent = record {
   corrections = λ h es c d typed s.
       let sent = corrections-sent h es c d typed s in
       sent-reads-back layout.Correction h
-      (makeOrder layout.Correction h ((wrongCount 18 c, 12) ∷ (anyOf corrections.outOfRange (take c es), 10) ∷ []))
-      (wordsIn corrections.fill (entryBits corrections.coding (take c es)))
+      (makeOrder layout.Correction h ((wrongCount 18 c, 12) ∷ (anyOf (corrections.outOfRange (systemOf (h .kind))) (take c es), 10) ∷ []))
+      (wordsIn corrections.fill (entryBits (corrections.coding (systemOf (h .kind))) (take c es)))
       (corrections.CorrectionsMade h es c d) (CorrectionsBack h es c d) (corrections-back h es c d) sent
       (s .header) (sent .reads .header) (sent .reads .inside);
   healths = λ h es c d s.
       let sent = healths-sent h es c d s in
       sent-reads-back layout.Health h
-      (makeOrder layout.Health h ((wrongCount 31 c, 12) ∷ (anyOf healths.outOfRange (take c es), 10) ∷ []))
-      (wordsIn healths.fill (entryBits healths.coding (take c es)))
+      (makeOrder layout.Health h ((wrongCount 31 c, 12) ∷ (anyOf (healths.outOfRange (systemOf (h .kind))) (take c es), 10) ∷ []))
+      (wordsIn healths.fill (entryBits (healths.coding (systemOf (h .kind))) (take c es)))
       (healths.HealthsMade h es c d) (HealthsBack h es c d) (healths-back h es c d) sent (s .header) (sent .reads .header) (sent .reads .inside);
   position = λ h p typed s.
       let sent = position-sent h p typed s in
       sent-reads-back layout.Position h (makeOrder layout.Position h ((positions.outOfRange p, 10) ∷ []))
       (wordsIn positions.fill (entryBits positions.coding (p ∷ [])))
       (positions.PositionMade h p) (PositionBack h p) (position-back h p) sent (s .header) (sent .reads .header) (sent .reads .inside);
-  null = λ h s.
-      let sent = null-sent h s in
-      sent-reads-back layout.Null h (makeOrder layout.Null h []) [] (nulls.NullMade h) (NullBack h) (null-back h) sent s
-      (sent .reads .header) (sent .reads .inside);
+  null = λ h n s.
+      let sent = null-sent h n s in
+      sent-reads-back layout.Null h (makeOrder layout.Null h ((nulls.tooMany (systemOf (h .kind)) n, 12) ∷ [])) (replicate n nulls.fill)
+      (nulls.NullMade h n) (NullBack h n) (null-back h n) sent (s .header) (sent .reads .header) (sent .reads .inside);
   text = λ h t s.
       let sent = text-sent h t s in
       sent-reads-back layout.Text h
-      (makeOrder layout.Text h ((wrongCount 90 (length t), 12) ∷ (anyOf texts.forbidden t, 11) ∷ []))
+      (makeOrder layout.Text h ((wrongCount 90 (length t), 12) ∷ (anyOf (texts.forbidden (systemOf (h .kind))) t, 11) ∷ []))
       (wordsIn texts.fill (entryBits texts.coding t))
       (texts.TextMade h t) (TextBack h t) (text-back h t) sent (s .header) (sent .reads .header) (sent .reads .inside);
 }

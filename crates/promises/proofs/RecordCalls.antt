@@ -16,6 +16,7 @@ record-calls = record {
   no-rows = record { asks-nothing = λ κs a. tt; settles = λ κs a z e p. p; ends = record-fields.no_rows.Met.met };
   put-row = record { asks-nothing = λ κs a. tt; settles = λ κs a z e p. p; ends = record-fields.put_row.Met.met };
   fill-up = record { asks-nothing = λ κs a. tt; settles = λ κs a z e p. p; ends = record-fields.fill_up.Met.met };
+  row-out = record { asks-nothing = λ κs a. tt; settles = λ κs a z e p. p; ends = record-fields.table.row_out.Met.met };
   signed8 = record { asks-nothing = λ κs a. tt; settles = λ κs a z e p. p; ends = record-fields.signed8.Met.met };
   signed16 = record { asks-nothing = λ κs a. tt; settles = λ κs a z e p. p; ends = record-fields.signed16.Met.met };
   signed32 = record { asks-nothing = λ κs a. tt; settles = λ κs a z e p. p; ends = record-fields.signed32.Met.met };
@@ -28,9 +29,11 @@ record-calls = record {
   entry-place = record { asks-nothing = λ κs a. tt; settles = λ κs a z e p. p; ends = record-stages.entry_place.Met.met };
   size-of = record { asks-nothing = λ κs a. tt; settles = λ κs a z e p. p; ends = record-stages.size_of.Met.met };
   make-frame = record { asks-nothing = λ κs a. tt; settles = λ κs a z e p. p; ends = record-stages.make_frame.Met.met };
+  issue-of = record { asks-nothing = λ κs a. tt; settles = λ κs a z e p. p; ends = record-corrections.issue_of.Met.met };
   count-corrections = record { asks-nothing = λ κs a. tt; settles = λ κs a z e p. p; ends = record-corrections.count_corrections.Met.met };
   correction-at = record { asks-nothing = λ κs a. tt; settles = λ κs a z e p. p; ends = record-corrections.correction_at.Met.met };
   make-corrections = record { asks-nothing = λ κs a. tt; settles = λ κs a z e p. p; ends = record-corrections.make_corrections.Met.met };
+  condition-of = record { asks-nothing = λ κs a. tt; settles = λ κs a z e p. p; ends = record-healths.condition_of.Met.met };
   count-healths = record { asks-nothing = λ κs a. tt; settles = λ κs a z e p. p; ends = record-healths.count_healths.Met.met };
   health-at = record { asks-nothing = λ κs a. tt; settles = λ κs a z e p. p; ends = record-healths.health_at.Met.met };
   make-healths = record { asks-nothing = λ κs a. tt; settles = λ κs a z e p. p; ends = record-healths.make_healths.Met.met };
@@ -47,4 +50,5 @@ record-calls = record {
   cn0-dbhz = record { asks-nothing = λ κs a. tt; settles = λ κs a z e p. p; ends = record-values.cn0_dbhz.Met.met };
   value-minutes = record { asks-nothing = λ κs a. tt; settles = λ κs a z e p. p; ends = record-values.minutes.Met.met };
   z-tenths = record { asks-nothing = λ κs a. tt; settles = λ κs a z e p. p; ends = record-values.z_tenths.Met.met };
+  letter-of = record { asks-nothing = λ κs a. tt; settles = λ κs a z e p. p; ends = record-values.letter_of.Met.met };
 }

@@ -31,17 +31,24 @@ use Rattle.frame.specs.Answer.{headerWords, saysWords}
 use Rattle.frame.specs.declared.Header.{Header}
 use Rattle.frame.specs.declared.Frame.{Frame}
 use Rattle.frame.specs.declared.Layout.the-variants as layout
+use Rattle.frame.specs.Layout.{systemOf}
 use Rattle.frame.proofs.HeaderLaws.{length-first, length-second, header-words, n-words, first-preambled}
 use Rattle.frame.proofs.HeaderLaws.{first-header, second-header, header-inside, n-lt, words-answered}
 use Rattle.record_fields.specs.Coding.{frameBits}
 use Rattle.record_fields.proofs.SatelliteLaws.{satellite-back, code-back}
 use Rattle.record_laws.proofs.ListTrips.{CountRead, count-read}
 use Rattle.record_texts.proofs.TextCode.{length-le, some-words}
-use Rattle.record_stages.specs.Stages.{saysCount}
+use Rattle.record_stages.specs.Stages.{readOrder, saysCount}
+use Rattle.record_corrections.specs.declared.Issue.the-variants.{Iod, Age}
+use Rattle.record_corrections.specs.Issues.{issueOf}
 use Rattle.record_corrections.specs.Corrections as corrections
 use Rattle.record_corrections.specs.Corrections.{countCorrections}
+use Rattle.record_healths.specs.declared.Condition.the-variants.{Data}
+use Rattle.record_healths.specs.Conditions.{conditionOf}
 use Rattle.record_healths.specs.Healths as healths
 use Rattle.record_healths.specs.Healths.{countHealths}
+use Rattle.record_nulls.specs.declared.NullRead.the-variants as null
+use Rattle.record_nulls.specs.Nulls.{mostWords, tooMany, readNull, saysNullRead}
 use Rattle.record_texts.specs.Texts.{lengthIn, textOrder, readText}
 use Rattle.record_stages.specs.declared.Count.{Count}
 use Rattle.record_stages.specs.declared.Count.the-variants as count
@@ -230,8 +237,8 @@ corrections-fit : (f : Frame) (c k : ℕ) → saysCount (countCorrections f) ≡
 unfolding countCorrections
 corrections-fit f c k e = by (f .n) (r .held) (r .up)
   where
-    r : CountRead layout.Correction corrections.coding f c
-    r = count-read layout.Correction corrections.coding f c (count-told (countCorrections f) c e)
+    r : CountRead layout.Correction (corrections.coding (systemOf (f .header .kind))) f c
+    r = count-read layout.Correction (corrections.coding (systemOf (f .header .kind))) f c (count-told (countCorrections f) c e)
 
     by : (n : ℕ) → 24 * n / 40 ≡ c → (c * 40 + 23) / 24 ≡ n
         → ((c ≡ 3 * k) ↔ (n ≡ 5 * k)) × ((c ≡ 3 * k + 1) ↔ (n ≡ 5 * k + 2)) × ((c ≡ 3 * k + 2) ↔ (n ≡ 5 * k + 4))
@@ -239,10 +246,23 @@ corrections-fit f c k e = by (f .n) (r .held) (r .up)
 
 healths-fit : (f : Frame) (c : ℕ) → saysCount (countHealths f) ≡ answers c → f .n ≡ c
 unfolding countHealths
-healths-fit f c e = let r = count-read layout.Health healths.coding f c (count-told (countHealths f) c e) in by (f .n) (r .up)
+healths-fit f c e = let r = count-read layout.Health (healths.coding (systemOf (f .header .kind))) f c (count-told (countHealths f) c e) in by (f .n) (r .up)
   where
     by : (n : ℕ) → (c * 24 + 23) / 24 ≡ n → n ≡ c
     by n up = omega arith
+
+null-fit : (f : Frame) (n : ℕ) → saysNullRead (readNull f) ≡ answers n → (f .n ≡ n) × (n ≤ mostWords (systemOf (f .header .kind)))
+unfolding readNull
+null-fit f n e = (is, omega (arith, sym is, ltb-false (mostWords (systemOf (f .header .kind))) (f .n) (none .1 .1 .1 .0)))
+  where
+    order : List Check
+    order = readOrder layout.Null f (tooMany (systemOf (f .header .kind)) (f .n)) []
+
+    none : NoneApplies order
+    none = none-told (carries-its-number .read-null f) n e
+
+    is : f .n ≡ n
+    is = says-inj (ap saysNullRead (sym (order-answers null.Refused (null.Null (f .n)) order none)) ∙ e)
 
 text-fit : (f : Frame) (buffer : List ℕ) (c : ℕ) → saysCount (readText f buffer) ≡ answers c
     → (1 ≤ f .n) × (f .n ≤ 30) × (c ≤ 3 * f .n) × (3 * f .n ≤ c + 2)
@@ -271,7 +291,14 @@ records-of-rtcm = record {
   corrections-n = corrections-fit;
   healths-n = healths-fit;
   position-n = λ f p e. eqb-true (f .n) 4 (not-false (eqb (f .n) 4) (none-told (carries-its-number .read-position f) p e .1 .1 .1 .0));
-  null-n = λ f e. eqb-true (f .n) 0 (not-false (eqb (f .n) 0) (none-told (carries-its-number .read-null f) tt e .1 .1 .1 .0));
+  null-n = null-fit;
+  null-most = unfold mostWords in (refl, refl);
+  issue-gps = λ v. unfold issueOf in ap Iod (omega arith);
+  issue-glonass = λ c t l. unfold issueOf in ap₂ Age (omega arith) (omega arith);
+  condition-gps = λ v. unfold conditionOf in refl;
+  condition-glonass = λ d r l. unfold conditionOf in ap₂ Data (omega arith) (omega arith);
+  letter-ascii = λ c some few. rw (le-ltb c 1 some, le-ltb 191 c (omega arith), lt-ltb c 128 (omega arith));
+  letter-russian = λ c some few. rw (le-ltb c 1 (omega arith), le-ltb 191 c few, le-ltb c 128 some);
   text-n = text-fit;
   prc = says-exactly 15 20 320 (λ scale z. saysDistance (prcMm scale z)) prc-says;
   rrc = says-exactly 7 2 32 (λ scale z. saysRate (rrcMmS scale z)) rrc-says;

@@ -19,6 +19,8 @@ use Rattle.frame.specs.declared.Header.{Header}
 use Rattle.frame.specs.declared.Frame.{Frame}
 use Rattle.frame.specs.declared.Layout.{Layout}
 use Rattle.frame.specs.declared.Layout.the-variants as layout
+use Rattle.frame.specs.Layout.{systemOf}
+use Rattle.record_fields.specs.Coding.{frameBits, entryIn}
 use Rattle.reader.specs.Reading.{past, frameWaits, busy, fedBy, fedAllBy, endedBy, takenBy, saysAnswer}
 use Rattle.reader.specs.declared.Reader.{Reader}
 use Rattle.writer.specs.Answer.{openChecks, openedBy, writeChecks, writtenBy, saysOpened, saysWritten}
@@ -35,8 +37,9 @@ use Rattle.record_texts.specs.Texts as texts
 use Rattle.record_corrections.specs.declared.Correction.{Correction}
 use Rattle.record_healths.specs.declared.SatelliteHealth.{SatelliteHealth}
 use Rattle.record_positions.specs.declared.Position.{Position}
-use Rattle.record_values.specs.Answer.{prcMm, rrcMmS, udreLimit, cn0DbHz, minutesOf, zTenths}
-use Rattle.record_values.specs.Answer.{saysDistance, saysRate, saysLimit, saysStrength, saysTime, saysSinceHour}
+use Rattle.record_values.specs.Values.{noLetter}
+use Rattle.record_values.specs.Answer.{prcMm, rrcMmS, udreLimit, cn0DbHz, minutesOf, zTenths, letterOf}
+use Rattle.record_values.specs.Answer.{saysDistance, saysRate, saysLimit, saysStrength, saysTime, saysSinceHour, saysLetter}
 use Rattle.printing.specs.Printing.{printOrder, printedBy, saysPrinted}
 use Rattle.listing.specs.Listing.{pieceOrder, pieceBy, endOrder, finishBy}
 use Rattle.listing.specs.declared.Listing.{Listing}
@@ -69,7 +72,10 @@ pub record CarriesItsNumber : Type 0 where
   pub count-corrections : (f : Frame)
       → Ordered (5 ∷ 6 ∷ 7 ∷ 8 ∷ []) (readOrder layout.Correction f (misfit 40 (f .n)) []) (saysCount (corrections.countCorrections f))
   pub correction-at : (f : Frame) (i : ℕ)
-      → Ordered (5 ∷ 6 ∷ 7 ∷ 8 ∷ 9 ∷ []) (entryOrder layout.Correction 40 f i []) (corrections.saysCorrectionRead (corrections.correctionAt f i))
+      → let s = systemOf (f .header .kind) in
+      Ordered (5 ∷ 6 ∷ 7 ∷ 8 ∷ 9 ∷ 10 ∷ [])
+      (entryOrder layout.Correction 40 f i ((corrections.outOfRange s (entryIn (corrections.coding s) i (frameBits f)), 10) ∷ []))
+      (corrections.saysCorrectionRead (corrections.correctionAt f i))
   pub count-healths : (f : Frame)
       → Ordered (5 ∷ 6 ∷ 7 ∷ 8 ∷ []) (readOrder layout.Health f (misfit 24 (f .n)) []) (saysCount (healths.countHealths f))
   pub health-at : (f : Frame) (i : ℕ)
@@ -79,24 +85,27 @@ pub record CarriesItsNumber : Type 0 where
       (readOrder layout.Position f (wrongSize 4 (f .n)) ((positions.outOfRange (positions.positionIn f), 10) ∷ []))
       (positions.saysPositionRead (positions.readPosition f))
   pub read-null : (f : Frame)
-      → Ordered (5 ∷ 6 ∷ 7 ∷ 8 ∷ []) (readOrder layout.Null f (wrongSize 0 (f .n)) []) (nulls.saysNullRead (nulls.readNull f))
+      → Ordered (5 ∷ 6 ∷ 7 ∷ 8 ∷ []) (readOrder layout.Null f (nulls.tooMany (systemOf (f .header .kind)) (f .n)) [])
+      (nulls.saysNullRead (nulls.readNull f))
   pub read-text : (f : Frame) (buffer : List ℕ)
       → Ordered (5 ∷ 6 ∷ 7 ∷ 8 ∷ 11 ∷ 13 ∷ []) (texts.textOrder f buffer) (saysCount (texts.readText f buffer))
   -- making a frame: 5, 6, 7, 12; 10 of a field; 11 of a text
   pub make-corrections : (h : Header) (es : List Correction) (c : ℕ)
       → Ordered (5 ∷ 6 ∷ 7 ∷ 12 ∷ 10 ∷ [])
-      (makeOrder layout.Correction h ((wrongCount 18 c, 12) ∷ (anyOf corrections.outOfRange (take c es), 10) ∷ []))
+      (makeOrder layout.Correction h ((wrongCount 18 c, 12) ∷ (anyOf (corrections.outOfRange (systemOf (h .kind))) (take c es), 10) ∷ []))
       (saysMade (corrections.makeCorrections h es c))
   pub make-healths : (h : Header) (es : List SatelliteHealth) (c : ℕ)
       → Ordered (5 ∷ 6 ∷ 7 ∷ 12 ∷ 10 ∷ [])
-      (makeOrder layout.Health h ((wrongCount 31 c, 12) ∷ (anyOf healths.outOfRange (take c es), 10) ∷ []))
+      (makeOrder layout.Health h ((wrongCount 31 c, 12) ∷ (anyOf (healths.outOfRange (systemOf (h .kind))) (take c es), 10) ∷ []))
       (saysMade (healths.makeHealths h es c))
   pub make-position : (h : Header) (p : Position)
       → Ordered (5 ∷ 6 ∷ 7 ∷ 10 ∷ []) (makeOrder layout.Position h ((positions.outOfRange p, 10) ∷ [])) (saysMade (positions.makePosition h p))
-  pub make-null : (h : Header) → Ordered (5 ∷ 6 ∷ 7 ∷ []) (makeOrder layout.Null h []) (saysMade (nulls.makeNull h))
+  pub make-null : (h : Header) (n : ℕ)
+      → Ordered (5 ∷ 6 ∷ 7 ∷ 12 ∷ []) (makeOrder layout.Null h ((nulls.tooMany (systemOf (h .kind)) n, 12) ∷ [])) (saysMade (nulls.makeNull h n))
   pub make-text : (h : Header) (t : List ℕ)
       → Ordered (5 ∷ 6 ∷ 7 ∷ 12 ∷ 11 ∷ [])
-      (makeOrder layout.Text h ((wrongCount 90 (length t), 12) ∷ (anyOf texts.forbidden t, 11) ∷ [])) (saysMade (texts.makeText h t))
+      (makeOrder layout.Text h ((wrongCount 90 (length t), 12) ∷ (anyOf (texts.forbidden (systemOf (h .kind))) t, 11) ∷ []))
+      (saysMade (texts.makeText h t))
   -- writing a frame: 5, 7, 13; bad carried bits are 5 too; opening a stream: 13
   pub write : (f : Frame) (c : Carried) (buffer : List ℕ)
       → Ordered (5 ∷ 5 ∷ 5 ∷ 7 ∷ 13 ∷ []) (writeChecks f c buffer) (saysWritten (writtenBy f c buffer))
@@ -125,6 +134,7 @@ pub record CarriesItsNumber : Type 0 where
   pub cn0-dbhz : (code : ℕ) → Ordered (10 ∷ []) ((ltb 31 code, 10) ∷ []) (saysStrength (cn0DbHz code))
   pub value-minutes : (code : ℕ) → Ordered (10 ∷ []) ((ltb 15 code, 10) ∷ []) (saysTime (minutesOf code))
   pub z-tenths : (z : ℕ) → Ordered (5 ∷ 7 ∷ []) ((ltb 8191 z, 5) ∷ (late z, 7) ∷ []) (saysSinceHour (zTenths z))
+  pub letter-of : (code : ℕ) → Ordered (11 ∷ []) ((noLetter code, 11) ∷ []) (saysLetter (letterOf code))
   -- text put into a buffer: 13
   pub print : (text : List ℕ) (place : ℕ) (buffer : List ℕ) → Ordered (13 ∷ []) (printOrder text place buffer) (saysPrinted (printedBy text place buffer))
   -- the listing

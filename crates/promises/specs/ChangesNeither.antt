@@ -57,7 +57,7 @@ pub record NumberAlone : Type 0 where
   pub make-corrections : (h : Header) (es : List Correction) (c : ℕ) → Keeps (saysMade (makeCorrections h es c)) (makeCorrections h es c .frame) blank
   pub make-healths : (h : Header) (es : List SatelliteHealth) (c : ℕ) → Keeps (saysMade (makeHealths h es c)) (makeHealths h es c .frame) blank
   pub make-position : (h : Header) (p : Position) → Keeps (saysMade (makePosition h p)) (makePosition h p .frame) blank
-  pub make-null : (h : Header) → Keeps (saysMade (makeNull h)) (makeNull h .frame) blank
+  pub make-null : (h : Header) (n : ℕ) → Keeps (saysMade (makeNull h n)) (makeNull h n .frame) blank
   pub make-text : (h : Header) (t : List ℕ) → Keeps (saysMade (makeText h t)) (makeText h t .frame) blank
   pub list-piece : (l : Listing) (bs : List ℕ) (room : ℕ)
       → Keeps {B = ℕ × ℕ} (saysAnswer (pieceBy l bs room .answer)) (pieceBy l bs room .used, pieceBy l bs room .written) (0, 0)

@@ -1,29 +1,34 @@
 -- DEMAND 2, sentence by sentence: the papers' frames, parity and records are in ThoseOfRtcm; here a record that is written and read, and a frame that
 -- is read, made anew and written. Assumes nothing.
 use mathlib.Core.Path.{_≡_}
-use mathlib.Core.Bool.{Bool}
-use mathlib.Core.List.{List, _++_}
+use mathlib.Core.Bool.{Bool, cond}
+use mathlib.Core.List.{List, [], _∷_, _++_}
 use mathlib.Core.Logic.{_↔_}
 use Prim.Native.Nat.{ℕ, _+_, _*_, _≤_, _<_}
+use lib.Dec.{eqb}
 use lib.ListN.{length, take, drop, getD}
-use Rattle.answer.specs.Order.{answers}
+use Rattle.answer.specs.Order.{refuses, answers}
 use Rattle.bits.specs.Fields.{AreBytes}
 use Rattle.line.specs.Line.{lineBits}
 use Rattle.frame.specs.declared.Header.{Header}
 use Rattle.frame.specs.declared.Frame.{Frame}
+use Rattle.frame.specs.declared.Layout.the-variants as layout
+use Rattle.frame.specs.Layout.{systemOf}
+use Rattle.frame.specs.Widths.{anyOf}
 use Rattle.stream.specs.Standing.{size, Stands, frameAt}
 use Rattle.record_fields.specs.Coding.{frameBits, entryIn, Each}
 use Rattle.record_stages.specs.declared.Made.{Made}
 use Rattle.record_corrections.specs.declared.Correction.{Correction}
 use Rattle.record_healths.specs.declared.SatelliteHealth.{SatelliteHealth}
 use Rattle.record_positions.specs.declared.Position.{Position}
-use Rattle.record_stages.specs.Stages.{saysCount, saysMade}
+use Rattle.record_stages.specs.Stages.{otherLayout, saysCount, saysMade}
 use Rattle.record_corrections.specs.Corrections.{countCorrections, correctionAt, makeCorrections, StandardFill}
-use Rattle.record_corrections.specs.Corrections.{Typed, saysCorrectionRead, HoldsCorrections, coding as correctionCoding}
+use Rattle.record_corrections.specs.Corrections.{Typed, saysCorrectionRead, HoldsCorrections, coding as correctionCoding, outOfRange as correctionOut}
 use Rattle.record_healths.specs.Healths.{countHealths, healthAt, makeHealths, saysHealthRead, HoldsHealths, coding as healthCoding}
 use Rattle.record_positions.specs.Positions.{readPosition, makePosition, positionIn, saysPositionRead, HoldsPosition}
 use Rattle.record_positions.specs.Positions as positions
 use Rattle.record_nulls.specs.Nulls.{readNull, makeNull, saysNullRead, HoldsNull}
+use Rattle.record_nulls.specs.Nulls as nulls
 use Rattle.record_texts.specs.Texts.{textIn, readText, bufferAfter, makeText, HoldsText}
 use Rattle.journal.specs.Journal.{keptBy, heldBy, recalledBy, saysKept, saysRecalled}
 use Rattle.writer.specs.Sending.{carriedOn}
@@ -32,15 +37,24 @@ use Rattle.writer.specs.OneFrame.{pairBefore, itsBits}
 use Rattle.promises.specs.ThoseOfRtcm.{GpsParityRule, FramesOfRtcm, RecordsOfRtcm}
 use Rattle.promises.specs.ReadsBack.{CorrectionsBack, HealthsBack, PositionBack, NullBack, TextBack, WhatCanBeSent}
 
--- WHICH FRAMES ARE READ, whatever their fill: those that are for the layout with exactly these N; and what is read is what their bits say
+-- THE ELEVEN TYPES that have a record
+abbrev pub recordTypes : List ℕ
+recordTypes = 1 ∷ 9 ∷ 31 ∷ 34 ∷ 3 ∷ 32 ∷ 5 ∷ 33 ∷ 6 ∷ 16 ∷ 36 ∷ []
+
+-- WHICH FRAMES ARE READ, whatever their fill: those that are for the layout with exactly these N; and what is read is what their bits say, or 10
+-- for a correction whose tb is over 119
 pub record WhatIsRead : Type 0 where
+  -- a type number has a layout other than plain exactly when it is one of the eleven
+  pub types : (kind : ℕ) → otherLayout layout.Plain kind ≡ anyOf (eqb kind) recordTypes
   pub corrections : (f : Frame) (c : ℕ) → (saysCount (countCorrections f) ≡ answers c) ↔ HoldsCorrections f c
   pub correction : (f : Frame) (c i : ℕ) → HoldsCorrections f c → i < c
-      → saysCorrectionRead (correctionAt f i) ≡ answers (entryIn correctionCoding i (frameBits f))
+      → let s = systemOf (f .header .kind) in let e = entryIn (correctionCoding s) i (frameBits f) in
+      saysCorrectionRead (correctionAt f i) ≡ cond (correctionOut s e) (refuses 10) (answers e)
   pub healths : (f : Frame) (c : ℕ) → (saysCount (countHealths f) ≡ answers c) ↔ HoldsHealths f c
-  pub health : (f : Frame) (c i : ℕ) → HoldsHealths f c → i < c → saysHealthRead (healthAt f i) ≡ answers (entryIn healthCoding i (frameBits f))
+  pub health : (f : Frame) (c i : ℕ) → HoldsHealths f c → i < c
+      → saysHealthRead (healthAt f i) ≡ answers (entryIn (healthCoding (systemOf (f .header .kind))) i (frameBits f))
   pub position : (f : Frame) (p : Position) → (saysPositionRead (readPosition f) ≡ answers p) ↔ (HoldsPosition f × (positionIn f ≡ p))
-  pub null : (f : Frame) → (saysNullRead (readNull f) ≡ answers tt) ↔ HoldsNull f
+  pub null : (f : Frame) (n : ℕ) → (saysNullRead (readNull f) ≡ answers n) ↔ (HoldsNull f × (f .n ≡ n))
   -- a text with its closing zeros, into every buffer with room for its characters
   pub text : (f : Frame) (t : List ℕ) (zeros : ℕ) (buffer : List ℕ) → HoldsText f t zeros → length t ≤ length buffer
       → (saysCount (readText f buffer) ≡ answers (length t)) × (bufferAfter f buffer ≡ t ++ drop (length t) buffer)
@@ -55,7 +69,7 @@ pub record ReadsBackEqual : Type 0 where
   pub healths : (h : Header) (es : List SatelliteHealth) (c : ℕ) (d : SatelliteHealth) (f : Frame) → length es ≡ 31
       → saysMade (makeHealths h es c) ≡ answers f → HealthsBack h es c d f
   pub position : (h : Header) (p : Position) (f : Frame) → positions.Typed p → saysMade (makePosition h p) ≡ answers f → PositionBack h p f
-  pub null : (h : Header) (f : Frame) → saysMade (makeNull h) ≡ answers f → NullBack h f
+  pub null : (h : Header) (n : ℕ) (f : Frame) → saysMade (makeNull h n) ≡ answers f → NullBack h n f
   pub text : (h : Header) (t : List ℕ) (f : Frame) → saysMade (makeText h t) ≡ answers f → TextBack h t f
   -- the journal: a frame that is kept is recalled with its length, whatever follows
   pub recalled : (f : Frame) (buffer rest : List ℕ) (k : ℕ) → length (f .words) ≡ 31 → saysKept (keptBy f buffer) ≡ answers k
@@ -69,15 +83,16 @@ pub record ReadsBackEqual : Type 0 where
 
 -- THE RECORD OF f IS READ, and m is the answer to making it anew under the same header
 pub data Remade (f : Frame) (m : Made) : Type 0 where
-  -- types 1 and 9: the count and every entry, with standard fill
+  -- types 1, 9, 31 and 34: the count and every entry, with standard fill
   ofCorrections : (es : List Correction) (c : ℕ) (d : Correction) → c ≤ length es → saysCount (countCorrections f) ≡ answers c
       → ((i : ℕ) → i < c → saysCorrectionRead (correctionAt f i) ≡ answers (getD es i d)) → StandardFill f c → m ≡ makeCorrections (f .header) es c → Remade f m
-  -- type 5: the count and every entry
+  -- types 5 and 33: the count and every entry
   ofHealths : (es : List SatelliteHealth) (c : ℕ) (d : SatelliteHealth) → c ≤ length es → saysCount (countHealths f) ≡ answers c
       → ((i : ℕ) → i < c → saysHealthRead (healthAt f i) ≡ answers (getD es i d)) → m ≡ makeHealths (f .header) es c → Remade f m
   ofPosition : (p : Position) → saysPositionRead (readPosition f) ≡ answers p → m ≡ makePosition (f .header) p → Remade f m
-  ofNull : saysNullRead (readNull f) ≡ answers tt → m ≡ makeNull (f .header) → Remade f m
-  -- type 16: the characters that the reader left in the buffer
+  -- types 6 and 34: N, with standard fill
+  ofNull : (n : ℕ) → saysNullRead (readNull f) ≡ answers n → nulls.StandardFill f → m ≡ makeNull (f .header) n → Remade f m
+  -- types 16 and 36: the characters that the reader left in the buffer
   ofText : (buffer : List ℕ) (c : ℕ) → saysCount (readText f buffer) ≡ answers c → m ≡ makeText (f .header) (take c (bufferAfter f buffer)) → Remade f m
 
 -- MADE ANEW AND WRITTEN: d is the stream from two bits before the frame; m, written after these two bits, gives its own bits and carries on its last two

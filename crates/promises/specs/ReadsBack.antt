@@ -22,6 +22,7 @@ use Rattle.record_healths.specs.Healths.{countHealths, healthAt, makeHealths, s
 use Rattle.record_positions.specs.Positions.{readPosition, makePosition, saysPositionRead, SendablePosition}
 use Rattle.record_positions.specs.Positions as positions
 use Rattle.record_nulls.specs.Nulls.{readNull, makeNull, saysNullRead, SendableNull}
+use Rattle.record_nulls.specs.Nulls as nulls
 use Rattle.record_texts.specs.Texts.{readText, bufferAfter, makeText, SendableText}
 use Rattle.writer.specs.Answer.{writtenBy, writtenTo, saysWritten}
 use Rattle.writer.specs.OneFrame.{lineAfter, Wrote}
@@ -51,11 +52,13 @@ pub record PositionBack (h : Header) (p : Position) (f : Frame) : Type 0 where
   pub reads : saysPositionRead (readPosition f) ≡ answers p
   pub n : f .n ≡ 4
 
-pub record NullBack (h : Header) (f : Frame) : Type 0 where
+-- the wanted N, and that many words of fill
+pub record NullBack (h : Header) (wanted : ℕ) (f : Frame) : Type 0 where
   pub header : f .header ≡ h
   pub inside : outside f ≡ false
-  pub reads : saysNullRead (readNull f) ≡ answers tt
-  pub n : f .n ≡ 0
+  pub reads : saysNullRead (readNull f) ≡ answers wanted
+  pub n : f .n ≡ wanted
+  pub fill : nulls.StandardFill f
 
 -- the characters, into every buffer with room for them
 pub record TextBack (h : Header) (t : List ℕ) (f : Frame) : Type 0 where
@@ -86,15 +89,15 @@ ReadsBack m Reads = (c : Carried) (buffer : List ℕ) → c .d29 ≤ 1 → c .d3
 
 -- EVERY RECORD THAT CAN BE SENT; `Typed` is what the types of the fields say
 pub record WhatCanBeSent : Type 0 where
-  -- types 1 and 9
+  -- types 1, 9, 31 and 34
   pub corrections : (h : Header) (es : List Correction) (c : ℕ) (d : Correction) → Each Typed (take c es) → SendableCorrections h es c d
       → ReadsBack (makeCorrections h es c) (CorrectionsBack h es c d)
-  -- type 5
+  -- types 5 and 33
   pub healths : (h : Header) (es : List SatelliteHealth) (c : ℕ) (d : SatelliteHealth) → SendableHealths h es c d
       → ReadsBack (makeHealths h es c) (HealthsBack h es c d)
-  -- type 3
+  -- types 3 and 32
   pub position : (h : Header) (p : Position) → positions.Typed p → SendablePosition h p → ReadsBack (makePosition h p) (PositionBack h p)
-  -- type 6
-  pub null : (h : Header) → SendableNull h → ReadsBack (makeNull h) (NullBack h)
-  -- type 16
+  -- types 6 and 34
+  pub null : (h : Header) (n : ℕ) → SendableNull h n → ReadsBack (makeNull h n) (NullBack h n)
+  -- types 16 and 36
   pub text : (h : Header) (t : List ℕ) → SendableText h t → ReadsBack (makeText h t) (TextBack h t)

@@ -2,22 +2,25 @@
 use Prim.Native.Nat.{_%_}
 use denote.Ref.{now}
 use Rattle.record_fields.specs.Packing.{fieldIn, filledUp}
-use Rattle.record_fields.specs.Tables.{row, fieldsIn, noRows, putRow}
+use Rattle.record_fields.specs.Tables.{row, fieldsIn, noRows, putRow, rowOut}
 use Rattle.bits.specs.Signed.{signed as signedOf, code as codeOf}
 use Rattle.record_fields.specs.Satellites.{satelliteOf}
 use Rattle.record_stages.specs.Stages.{askedOf, countIn, placeBy, sizeOf, madeBy}
+use Rattle.record_corrections.specs.Issues.{issueIn}
 use Rattle.record_corrections.specs.Corrections.{countCorrections, correctionAt, makeCorrections}
+use Rattle.record_healths.specs.Conditions.{conditionOf}
 use Rattle.record_healths.specs.Healths.{countHealths, healthAt, makeHealths}
 use Rattle.record_positions.specs.Positions.{readPosition, makePosition}
 use Rattle.record_nulls.specs.Nulls.{readNull, makeNull}
 use Rattle.record_texts.specs.Texts.{readText, bufferAfter, makeText}
 use Rattle.record_values.specs.Values.{stopsUse}
-use Rattle.record_values.specs.Answer.{prcMm, rrcMmS, udreLimit, cn0DbHz, minutesOf, zTenths}
+use Rattle.record_values.specs.Answer.{prcMm, rrcMmS, udreLimit, cn0DbHz, minutesOf, zTenths, letterOf}
 use Rattle.record_fields.proofs.field
 use Rattle.record_fields.proofs.fields
 use Rattle.record_fields.proofs.no_rows
 use Rattle.record_fields.proofs.put_row
 use Rattle.record_fields.proofs.fill_up
+use Rattle.record_fields.proofs.table.row_out
 use Rattle.record_fields.proofs.signed8
 use Rattle.record_fields.proofs.signed16
 use Rattle.record_fields.proofs.signed32
@@ -30,9 +33,11 @@ use Rattle.record_stages.proofs.count_in
 use Rattle.record_stages.proofs.entry_place
 use Rattle.record_stages.proofs.size_of
 use Rattle.record_stages.proofs.make_frame
+use Rattle.record_corrections.proofs.issue_of
 use Rattle.record_corrections.proofs.count_corrections
 use Rattle.record_corrections.proofs.correction_at
 use Rattle.record_corrections.proofs.make_corrections
+use Rattle.record_healths.proofs.condition_of
 use Rattle.record_healths.proofs.count_healths
 use Rattle.record_healths.proofs.health_at
 use Rattle.record_healths.proofs.make_healths
@@ -49,6 +54,7 @@ use Rattle.record_values.proofs.udre_limit
 use Rattle.record_values.proofs.cn0_dbhz
 use Rattle.record_values.proofs.minutes as value-minutes
 use Rattle.record_values.proofs.z_tenths
+use Rattle.record_values.proofs.letter_of
 use Rattle.promises.specs.Answered.{Answered, AnsweredLent}
 
 pub record RecordCalls : Type 2 where
@@ -63,6 +69,8 @@ pub record RecordCalls : Type 2 where
       (λ κs (rows, (values, (widths, (least, (most, _))))). putRow (now widths) (now least) (now most) values rows)
   pub fill-up : Answered fill_up.Reads.Asked fill_up.Reads.Learnt fill_up.Statement.statement
       (λ κs (packer, (pattern, _)). filledUp pattern packer)
+  pub row-out : Answered row_out.Reads.Asked row_out.Reads.Learnt row_out.Statement.statement
+      (λ κs (values, (least, (most, _))). rowOut (now least) (now most) values)
   pub signed8 : Answered signed8.Reads.Asked signed8.Reads.Learnt signed8.Statement.statement
       (λ κs (n, _). signedOf 7 (n % 256))
   pub signed16 : Answered signed16.Reads.Asked signed16.Reads.Learnt signed16.Statement.statement
@@ -89,6 +97,8 @@ pub record RecordCalls : Type 2 where
   pub make-frame : Answered make_frame.Reads.Asked make_frame.Reads.Learnt make_frame.Statement.statement
       (λ κs (layout, (most, (fill, (header, (count, (rows, _)))))). madeBy layout most fill header count rows)
   -- record_corrections
+  pub issue-of : Answered issue_of.Reads.Asked issue_of.Reads.Learnt issue_of.Statement.statement
+      (λ κs (system, (last, _)). issueIn system last)
   pub count-corrections : Answered count_corrections.Reads.Asked count_corrections.Reads.Learnt count_corrections.Statement.statement
       (λ κs (frame, _). countCorrections frame)
   pub correction-at : Answered correction_at.Reads.Asked correction_at.Reads.Learnt correction_at.Statement.statement
@@ -96,6 +106,8 @@ pub record RecordCalls : Type 2 where
   pub make-corrections : Answered make_corrections.Reads.Asked make_corrections.Reads.Learnt make_corrections.Statement.statement
       (λ κs (header, (entries, (count, _))). makeCorrections header entries count)
   -- record_healths
+  pub condition-of : Answered condition_of.Reads.Asked condition_of.Reads.Learnt condition_of.Statement.statement
+      (λ κs (system, (three, _)). conditionOf system three)
   pub count-healths : Answered count_healths.Reads.Asked count_healths.Reads.Learnt count_healths.Statement.statement
       (λ κs (frame, _). countHealths frame)
   pub health-at : Answered health_at.Reads.Asked health_at.Reads.Learnt health_at.Statement.statement
@@ -111,7 +123,7 @@ pub record RecordCalls : Type 2 where
   pub read-null : Answered read_null.Reads.Asked read_null.Reads.Learnt read_null.Statement.statement
       (λ κs (frame, _). readNull frame)
   pub make-null : Answered make_null.Reads.Asked make_null.Reads.Learnt make_null.Statement.statement
-      (λ κs (header, _). makeNull header)
+      (λ κs (header, (n, _)). makeNull header n)
   -- record_texts
   pub read-text : AnsweredLent read_text.Reads.Asked read_text.Reads.Learnt read_text.Statement.statement
       (λ κs (frame, (buffer, _)). readText frame (now buffer))
@@ -133,3 +145,5 @@ pub record RecordCalls : Type 2 where
       (λ κs (code, _). minutesOf code)
   pub z-tenths : Answered z_tenths.Reads.Asked z_tenths.Reads.Learnt z_tenths.Statement.statement
       (λ κs (z, _). zTenths z)
+  pub letter-of : Answered letter_of.Reads.Asked letter_of.Reads.Learnt letter_of.Statement.statement
+      (λ κs (code, _). letterOf code)

@@ -23,19 +23,25 @@ use Rattle.frame.specs.declared.State.{State}
 use Rattle.frame.specs.declared.State.the-variants.{Factor, Unmonitored, Down}
 use Rattle.frame.specs.declared.Header.{Header}
 use Rattle.frame.specs.declared.Frame.{Frame}
+use Rattle.frame.specs.declared.System.the-variants.{Gps, Glonass}
+use Rattle.frame.specs.Layout.{systemOf}
 use Rattle.stream.specs.Standing.{size, Stands, frameAt}
 use Rattle.record_stages.specs.Stages.{saysCount}
 use Rattle.record_corrections.specs.Corrections.{countCorrections}
 use Rattle.record_corrections.specs.declared.Correction.{Correction}
+use Rattle.record_corrections.specs.declared.Issue.the-variants.{Iod, Age}
+use Rattle.record_corrections.specs.Issues.{issueIn}
 use Rattle.record_healths.specs.Healths.{countHealths}
+use Rattle.record_healths.specs.declared.Condition.the-variants.{Code, Data}
+use Rattle.record_healths.specs.Conditions.{conditionOf}
 use Rattle.record_positions.specs.Positions.{readPosition, saysPositionRead}
-use Rattle.record_nulls.specs.Nulls.{readNull, saysNullRead}
+use Rattle.record_nulls.specs.Nulls.{mostWords, readNull, saysNullRead}
 use Rattle.record_texts.specs.Texts.{readText}
 use Rattle.record_positions.specs.declared.Position.{Position}
 use Rattle.record_fields.specs.Satellites.{satelliteOf, satelliteCode}
 use Rattle.record_values.specs.Values.{Reading, exactly, stop, upTo, noLimit, dbHz, notTracked, stepOf, stopsUse, hundredthsOf}
-use Rattle.record_values.specs.Answer.{prcMm, rrcMmS, udreLimit, cn0DbHz, minutesOf, zTenths}
-use Rattle.record_values.specs.Answer.{saysDistance, saysRate, saysLimit, saysStrength, saysTime, saysSinceHour}
+use Rattle.record_values.specs.Answer.{prcMm, rrcMmS, udreLimit, cn0DbHz, minutesOf, zTenths, letterOf}
+use Rattle.record_values.specs.Answer.{saysDistance, saysRate, saysLimit, saysStrength, saysTime, saysSinceHour, saysLetter}
 use Rattle.writer.specs.Answer.{writtenBy, saysWritten}
 use Rattle.writer.specs.OneFrame.{Wrote, itsBits, WritesBack}
 use Rattle.writer.specs.Streams.{AllWritable, streamBytes, StreamWritten}
@@ -104,10 +110,20 @@ pub record RecordsOfRtcm : Type 0 where
   -- 3k satellites take 5k words, 3k + 1 take 5k + 2, 3k + 2 take 5k + 4: every count is one of these, so N is
   pub corrections-n : (f : Frame) (c k : ℕ) → saysCount (countCorrections f) ≡ answers c
       → ((c ≡ 3 * k) ↔ (f .n ≡ 5 * k)) × ((c ≡ 3 * k + 1) ↔ (f .n ≡ 5 * k + 2)) × ((c ≡ 3 * k + 2) ↔ (f .n ≡ 5 * k + 4))
-  -- type 5 has one word per satellite, type 3 has N = 4, type 6 N = 0, type 16 N 1 to 30 with three characters a word, the last one or two fill
+  -- types 5 and 33 have one word per satellite, types 3 and 32 N = 4, a null frame N = 0, in type 34 also 1, types 16 and 36 N 1 to 30 with three
+  -- characters a word, the last one or two fill
   pub healths-n : (f : Frame) (c : ℕ) → saysCount (countHealths f) ≡ answers c → f .n ≡ c
   pub position-n : (f : Frame) (p : Position) → saysPositionRead (readPosition f) ≡ answers p → f .n ≡ 4
-  pub null-n : (f : Frame) → saysNullRead (readNull f) ≡ answers tt → f .n ≡ 0
+  pub null-n : (f : Frame) (n : ℕ) → saysNullRead (readNull f) ≡ answers n → (f .n ≡ n) × (n ≤ mostWords (systemOf (f .header .kind)))
+  pub null-most : (mostWords Gps ≡ 0) × (mostWords Glonass ≡ 1)
+  -- the last eight bits of a correction are an IOD, or a change bit and tb; three health bits are a code, or the data health and two reserved bits
+  pub issue-gps : (v : ℕ) → issueIn Gps v ≡ Iod v
+  pub issue-glonass : (change tb : ℕ) → tb < 2 ^ 7 → issueIn Glonass (change * 2 ^ 7 + tb) ≡ Age change tb
+  pub condition-gps : (v : ℕ) → conditionOf Gps v ≡ Code v
+  pub condition-glonass : (health reserved : ℕ) → reserved < 2 ^ 2 → conditionOf Glonass (health * 2 ^ 2 + reserved) ≡ Data health reserved
+  -- the characters of type 36 in Unicode: ASCII, then 64 letters from U+0410 on
+  pub letter-ascii : (c : ℕ) → 1 ≤ c → c ≤ 127 → saysLetter (letterOf c) ≡ answers c
+  pub letter-russian : (c : ℕ) → 128 ≤ c → c ≤ 191 → saysLetter (letterOf c) ≡ answers (0x0410 + (c - 128))
   pub text-n : (f : Frame) (buffer : List ℕ) (c : ℕ) → saysCount (readText f buffer) ≡ answers c
       → (1 ≤ f .n) × (f .n ≤ 30) × (c ≤ 3 * f .n) × (3 * f .n ≤ c + 2)
   -- PRC in steps of 20 mm, or 320 mm with scale 1; RRC in steps of 2 mm/s, or 32 mm/s

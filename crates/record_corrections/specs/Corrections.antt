@@ -1,4 +1,4 @@
--- Types 1 and 9: the layout as data, what its codes mean, and the answers in their orders. Assumes nothing.
+-- Types 1, 9, 31 and 34, over the system: the layout as data, what its codes mean, and the answers in their orders. Assumes nothing.
 use mathlib.Core.Bool.{Bool}
 use mathlib.Core.List.{List, [], _∷_}
 use Prim.Native.Nat.{ℕ, _*_, _^_, _≤_, _<_}
@@ -10,41 +10,44 @@ use Rattle.bits.specs.Signed.{signed, code}
 use Rattle.frame.specs.declared.Header.{Header}
 use Rattle.frame.specs.declared.Frame.{Frame}
 use Rattle.frame.specs.declared.Layout.the-variants as layout
+use Rattle.frame.specs.declared.System.{System}
+use Rattle.frame.specs.Layout.{systemOf}
 use Rattle.record_fields.specs.Coding.{Coding, frameBits}
 use Rattle.record_fields.specs.Tables.{row, codesOf, rowOut}
 use Rattle.record_fields.specs.Satellites.{satelliteOf}
 use Rattle.record_stages.specs.declared.Count.{Count}
 use Rattle.record_stages.specs.declared.Made.{Made}
-use Rattle.record_stages.specs.Lists.{listCount, listEntry, listMade, MadeReads, Sendable, Holding, ListRead}
+use Rattle.record_stages.specs.Lists.{listCount, listRanged, heldTo, listMade, MadeReads, Sendable, Holding, ListRead}
 use Rattle.record_corrections.specs.declared.Correction.{Correction}
 use Rattle.record_corrections.specs.declared.CorrectionRead.{CorrectionRead}
 use Rattle.record_corrections.specs.declared.CorrectionRead.the-variants as read
+use Rattle.record_corrections.specs.Issues.{issueOf, issueFirst, issueOthers, lastMost, IssueTyped, IssueInRange}
 
--- THE LAYOUT, 40 bits: scale 1, UDRE 2, satellite 5, PRC 16, RRC 8, IOD 8
+-- THE LAYOUT of both systems, 40 bits: scale 1, UDRE 2, satellite 5, PRC 16, RRC 8, then 1 and 7 that are the system's own
 abbrev pub widths : List ℕ
-widths = 1 ∷ 2 ∷ 5 ∷ 16 ∷ 8 ∷ 8 ∷ []
+widths = 1 ∷ 2 ∷ 5 ∷ 16 ∷ 8 ∷ 1 ∷ 7 ∷ []
 
 -- PRC and RRC are two's complement
-abbrev pub meant : List ℕ → Correction
-meant vs = record {
+abbrev pub meant : System → List ℕ → Correction
+meant s vs = record {
   scale = getD vs 0 0;
   udre = getD vs 1 0;
   satellite = satelliteOf (getD vs 2 0);
   prc = signed 15 (getD vs 3 0);
   rrc = signed 7 (getD vs 4 0);
-  iod = getD vs 5 0;
+  issue = issueOf s (getD vs 5 0) (getD vs 6 0);
 }
 
 -- an entry's numbers, in the order of the fields
-abbrev pub numbers : Correction → List ℕ
-numbers e = row (e .scale ∷ e .udre ∷ e .satellite ∷ code 15 (e .prc) ∷ code 7 (e .rrc) ∷ e .iod ∷ [])
+abbrev pub numbers : System → Correction → List ℕ
+numbers s e = row (e .scale ∷ e .udre ∷ e .satellite ∷ code 15 (e .prc) ∷ code 7 (e .rrc) ∷ issueFirst s (e .issue) ∷ issueOthers s (e .issue) ∷ [])
 
 -- what is sent of them, their low bits: satellite 32 is sent as 0
-abbrev pub codes : Correction → List ℕ
-codes e = codesOf widths (numbers e)
+abbrev pub codes : System → Correction → List ℕ
+codes s e = codesOf widths (numbers s e)
 
-abbrev pub coding : Coding Correction
-coding = record { widths = widths; meant = meant; codes = codes }
+abbrev pub coding : System → Coding Correction
+coding s = record { widths = widths; meant = meant s; codes = codes s }
 
 -- the fill: 10101010 once per 8 bits
 abbrev pub fill : ℕ
@@ -54,29 +57,31 @@ fill = 0xAAAAAA
 abbrev pub StandardFill : Frame → ℕ → Type 0
 StandardFill f c = FillAfter fill (c * 40) (frameBits f)
 
--- REFUSAL 10: scale over 1, UDRE over 3, satellite not 1 to 32; any PRC, RRC and IOD may be sent
+-- REFUSAL 10: scale over 1, UDRE over 3, satellite not 1 to 32, the other system's issue, tb over 119; any PRC, RRC and IOD may be sent
 abbrev pub least : List ℕ
 least = 0 ∷ 0 ∷ 1 ∷ []
 
-abbrev pub most : List ℕ
-most = 1 ∷ 3 ∷ 32 ∷ []
+abbrev pub most : System → List ℕ
+most s = 1 ∷ 3 ∷ 32 ∷ 65535 ∷ 255 ∷ 1 ∷ lastMost s ∷ []
 
-abbrev pub outOfRange : Correction → Bool
-outOfRange e = rowOut least most (numbers e)
+abbrev pub outOfRange : System → Correction → Bool
+outOfRange s e = rowOut least (most s) (numbers s e)
 
--- ---- the answers
+-- ---- the answers; a frame's system is that of its type
 
 -- COUNT: 5, 6, 7, 8
 unfoldable pub countCorrections : Frame → Count
-countCorrections = listCount layout.Correction coding
+countCorrections f = listCount layout.Correction (coding (systemOf (f .header .kind))) f
 
--- ENTRY: 5, 6, 7, 8, 9
+-- ENTRY: 5, 6, 7, 8, 9, 10
 unfoldable pub correctionAt : Frame → ℕ → CorrectionRead
-correctionAt = listEntry layout.Correction coding read.Refused read.Entry
+correctionAt f =
+    let s = systemOf (f .header .kind) in
+    listRanged layout.Correction (coding s) (outOfRange s) read.Refused read.Entry f
 
 -- MAKING: 5, 6, 7, 12, 10; at most 18 entries
 unfoldable pub makeCorrections : Header → List Correction → ℕ → Made
-makeCorrections = listMade layout.Correction coding fill 18 outOfRange
+makeCorrections h = let s = systemOf (h .kind) in listMade layout.Correction (coding s) fill 18 (outOfRange s) h
 
 -- ---- in the table's terms
 
@@ -90,26 +95,29 @@ saysCorrectionRead (read.Refused n) = refuses n
 pub record Typed (e : Correction) : Type 0 where
   pub prc : mag (e .prc) < 2 ^ 15
   pub rrc : mag (e .rrc) < 2 ^ 7
-  pub iod : e .iod < 2 ^ 8
+  pub issue : IssueTyped (e .issue)
 
--- made, then read
-abbrev pub CorrectionsMade : Header → List Correction → ℕ → Correction → Frame → Type 0
-CorrectionsMade = MadeReads coding fill countCorrections correctionAt read.Entry
-
--- IN RANGE: scale 0 or 1, UDRE 0 to 3, satellite 1 to 32; any PRC, RRC and IOD of their types may be sent
-pub record InRange (e : Correction) : Type 0 where
+-- IN RANGE: scale 0 or 1, UDRE 0 to 3, satellite 1 to 32, the system's own issue; any PRC and RRC of their types may be sent
+pub record InRange (s : System) (e : Correction) : Type 0 where
   pub scale : e .scale ≤ 1
   pub udre : e .udre ≤ 3
   pub least : 1 ≤ e .satellite
   pub most : e .satellite ≤ 32
+  pub issue : IssueInRange s (e .issue)
+
+-- made, then read; the header's type has the system
+abbrev pub CorrectionsMade : Header → List Correction → ℕ → Correction → Frame → Type 0
+CorrectionsMade h = MadeReads (coding (systemOf (h .kind))) fill countCorrections correctionAt read.Entry h
 
 -- c corrections that can be sent: 1 to 18
 abbrev pub SendableCorrections : Header → List Correction → ℕ → Correction → Type 0
-SendableCorrections = Sendable layout.Correction 18 InRange
+SendableCorrections h = Sendable layout.Correction 18 (InRange (systemOf (h .kind))) h
 
--- a frame that holds c corrections, and what is read of it
+-- a frame that holds c corrections, and what is read of it: each entry, or 10 where its tb is over 119
 abbrev pub HoldsCorrections : Frame → ℕ → Type 0
-HoldsCorrections = Holding layout.Correction coding 18
+HoldsCorrections f = Holding layout.Correction (coding (systemOf (f .header .kind))) 18 f
 
 abbrev pub ReadsCorrections : Frame → ℕ → Type 0
-ReadsCorrections = ListRead coding countCorrections correctionAt read.Entry
+ReadsCorrections f =
+    let s = systemOf (f .header .kind) in
+    ListRead (coding s) countCorrections correctionAt (heldTo (outOfRange s) read.Refused read.Entry) f

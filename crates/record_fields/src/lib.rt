@@ -1,6 +1,6 @@
 // Fields in data words: read at any bit or row by row, and put one after the other by a packer; two's complement, and satellite numbers.
 mod number;
-mod table;
+pub mod table;
 
 ghost use mathlib.Core.Path.{_≡_};
 ghost use Prim.Native.Nat.{_≤_, _<_, _%_, _^_};

@@ -30,7 +30,7 @@ pub(crate) fn push_all(packer: Packer, values: [u32; 12], widths: &[u32]) -> Pac
 }
 
 // A value is under its least or over its most; a value past the table of the most has no range.
-pub(crate) fn row_out(values: [u32; 12], least: &[u32], most: &[u32]) -> bool
+pub fn row_out(values: [u32; 12], least: &[u32], most: &[u32]) -> bool
     ensures { λ r. ⌜ r ≡ rowOut (now (least .entry)) (now (most .entry)) values ⌝ }
 {
     let mut i = 0;

@@ -1,4 +1,4 @@
--- Type 5: the layout as data, what its codes mean, and the answers in their orders. Assumes nothing.
+-- Types 5 and 33, over the system: the layout as data, what its codes mean, and the answers in their orders. Assumes nothing.
 use mathlib.Core.Bool.{Bool}
 use mathlib.Core.List.{List, [], _∷_}
 use Prim.Native.Nat.{ℕ, _^_, _≤_, _<_}
@@ -7,6 +7,8 @@ use Rattle.answer.specs.Order.{Says, refuses, answers}
 use Rattle.frame.specs.declared.Header.{Header}
 use Rattle.frame.specs.declared.Frame.{Frame}
 use Rattle.frame.specs.declared.Layout.the-variants as layout
+use Rattle.frame.specs.declared.System.{System}
+use Rattle.frame.specs.Layout.{systemOf}
 use Rattle.record_fields.specs.Coding.{Coding}
 use Rattle.record_fields.specs.Tables.{row, codesOf, rowOut}
 use Rattle.record_fields.specs.Satellites.{satelliteOf}
@@ -16,17 +18,18 @@ use Rattle.record_stages.specs.Lists.{listCount, listEntry, listMade, MadeReads
 use Rattle.record_healths.specs.declared.SatelliteHealth.{SatelliteHealth}
 use Rattle.record_healths.specs.declared.HealthRead.{HealthRead}
 use Rattle.record_healths.specs.declared.HealthRead.the-variants as read
+use Rattle.record_healths.specs.Conditions.{conditionOf, conditionNumber, ConditionInRange}
 
--- THE LAYOUT, 24 bits: reserved, satellite, IOD link, health, C/N0, enable, new data, loss warning, time, reserved
+-- THE LAYOUT of both systems, 24 bits: reserved, satellite, link to IOD or tb, health, C/N0, enable, new data, loss warning, time, reserved
 abbrev pub widths : List ℕ
 widths = 1 ∷ 5 ∷ 1 ∷ 3 ∷ 5 ∷ 1 ∷ 1 ∷ 1 ∷ 4 ∷ 2 ∷ []
 
-abbrev pub meant : List ℕ → SatelliteHealth
-meant vs = record {
+abbrev pub meant : System → List ℕ → SatelliteHealth
+meant s vs = record {
   reserved = getD vs 0 0;
   satellite = satelliteOf (getD vs 1 0);
   link = getD vs 2 0;
-  health = getD vs 3 0;
+  health = conditionOf s (getD vs 3 0);
   cn0 = getD vs 4 0;
   enable = getD vs 5 0;
   new_data = getD vs 6 0;
@@ -36,44 +39,44 @@ meant vs = record {
 }
 
 -- an entry's numbers, in the order of the fields
-abbrev pub numbers : SatelliteHealth → List ℕ
-numbers e =
-    row (e .reserved ∷ e .satellite ∷ e .link ∷ e .health ∷ e .cn0 ∷ e .enable ∷ e .new_data ∷ e .loss ∷ e .time ∷ e .spare ∷ [])
+abbrev pub numbers : System → SatelliteHealth → List ℕ
+numbers s e =
+    row (e .reserved ∷ e .satellite ∷ e .link ∷ conditionNumber s (e .health) ∷ e .cn0 ∷ e .enable ∷ e .new_data ∷ e .loss ∷ e .time ∷ e .spare ∷ [])
 
 -- what is sent of them, their low bits: satellite 32 is sent as 0
-abbrev pub codes : SatelliteHealth → List ℕ
-codes e = codesOf widths (numbers e)
+abbrev pub codes : System → SatelliteHealth → List ℕ
+codes s e = codesOf widths (numbers s e)
 
-abbrev pub coding : Coding SatelliteHealth
-coding = record { widths = widths; meant = meant; codes = codes }
+abbrev pub coding : System → Coding SatelliteHealth
+coding s = record { widths = widths; meant = meant s; codes = codes s }
 
 -- entries end with a word: no bit is left to fill
 abbrev pub fill : ℕ
 fill = 0
 
--- REFUSAL 10: a field over its width, satellite not 1 to 32
+-- REFUSAL 10: a field over its width, satellite not 1 to 32, the other system's condition
 abbrev pub least : List ℕ
 least = 0 ∷ 1 ∷ 0 ∷ 0 ∷ 0 ∷ 0 ∷ 0 ∷ 0 ∷ 0 ∷ 0 ∷ []
 
 abbrev pub most : List ℕ
 most = 1 ∷ 32 ∷ 1 ∷ 7 ∷ 31 ∷ 1 ∷ 1 ∷ 1 ∷ 15 ∷ 3 ∷ []
 
-abbrev pub outOfRange : SatelliteHealth → Bool
-outOfRange e = rowOut least most (numbers e)
+abbrev pub outOfRange : System → SatelliteHealth → Bool
+outOfRange s e = rowOut least most (numbers s e)
 
--- ---- the answers
+-- ---- the answers; a frame's system is that of its type
 
 -- COUNT: 5, 6, 7, 8
 unfoldable pub countHealths : Frame → Count
-countHealths = listCount layout.Health coding
+countHealths f = listCount layout.Health (coding (systemOf (f .header .kind))) f
 
 -- ENTRY: 5, 6, 7, 8, 9
 unfoldable pub healthAt : Frame → ℕ → HealthRead
-healthAt = listEntry layout.Health coding read.Refused read.Entry
+healthAt f = listEntry layout.Health (coding (systemOf (f .header .kind))) read.Refused read.Entry f
 
 -- MAKING: 5, 6, 7, 12, 10; at most 31 entries
 unfoldable pub makeHealths : Header → List SatelliteHealth → ℕ → Made
-makeHealths = listMade layout.Health coding fill 31 outOfRange
+makeHealths h = let s = systemOf (h .kind) in listMade layout.Health (coding s) fill 31 (outOfRange s) h
 
 -- ---- in the table's terms
 
@@ -83,15 +86,11 @@ saysHealthRead (read.Refused n) = refuses n
 
 -- ---- what the round trip says
 
--- made, then read
-abbrev pub HealthsMade : Header → List SatelliteHealth → ℕ → SatelliteHealth → Frame → Type 0
-HealthsMade = MadeReads coding fill countHealths healthAt read.Entry
-
--- IN RANGE: every field within its width, satellite 1 to 32
-pub record InRange (e : SatelliteHealth) : Type 0 where
+-- IN RANGE: every field within its width, satellite 1 to 32, the system's own condition
+pub record InRange (s : System) (e : SatelliteHealth) : Type 0 where
   pub reserved : e .reserved < 2 ^ 1
   pub link : e .link < 2 ^ 1
-  pub health : e .health < 2 ^ 3
+  pub health : ConditionInRange s (e .health)
   pub cn0 : e .cn0 < 2 ^ 5
   pub enable : e .enable < 2 ^ 1
   pub new : e .new_data < 2 ^ 1
@@ -101,13 +100,17 @@ pub record InRange (e : SatelliteHealth) : Type 0 where
   pub some : 0 < e .satellite
   pub few : e .satellite ≤ 32
 
+-- made, then read; the header's type has the system
+abbrev pub HealthsMade : Header → List SatelliteHealth → ℕ → SatelliteHealth → Frame → Type 0
+HealthsMade h = MadeReads (coding (systemOf (h .kind))) fill countHealths healthAt read.Entry h
+
 -- c healths that can be sent: 1 to 31
 abbrev pub SendableHealths : Header → List SatelliteHealth → ℕ → SatelliteHealth → Type 0
-SendableHealths = Sendable layout.Health 31 InRange
+SendableHealths h = Sendable layout.Health 31 (InRange (systemOf (h .kind))) h
 
 -- a frame that holds c healths, and what is read of it
 abbrev pub HoldsHealths : Frame → ℕ → Type 0
-HoldsHealths = Holding layout.Health coding 31
+HoldsHealths f = Holding layout.Health (coding (systemOf (f .header .kind))) 31 f
 
 abbrev pub ReadsHealths : Frame → ℕ → Type 0
-ReadsHealths = ListRead coding countHealths healthAt read.Entry
+ReadsHealths f = ListRead (coding (systemOf (f .header .kind))) countHealths healthAt read.Entry f

@@ -36,7 +36,7 @@ pub each-any : {A : Type 0} (P : A → Type 0) → ((e : A) → P e) → (es : L
 each-any P p [] = tt
 each-any P p (e ∷ es) = (p e, each-any P p es)
 
-each-at : {A : Type 0} (P : A → Type 0) (es : List A) (i : ℕ) (d : A) → Each P es → i < length es → P (getD es i d)
+pub each-at : {A : Type 0} (P : A → Type 0) (es : List A) (i : ℕ) (d : A) → Each P es → i < length es → P (getD es i d)
 each-at P [] i d p h = absurd (omega arith)
 each-at P (e ∷ es) zero d p h = p .0
 each-at P (e ∷ es) (suc i) d p h = each-at P es i d (p .1) (omega arith)

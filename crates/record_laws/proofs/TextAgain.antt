@@ -1,4 +1,4 @@
--- Read then made, for type 16. Assumes nothing.
+-- Read then made, for types 16 and 36. Assumes nothing.
 use mathlib.Core.Path.{_≡_, refl, sym, ap, ap₂, _∙_}
 use mathlib.Core.Bool.{Bool, false}
 use mathlib.Core.List.{List, [], _∷_, _++_}
@@ -17,6 +17,7 @@ use Rattle.frame.specs.Frames.{dataWords}
 use Rattle.frame.specs.Widths.{anyOf, outside}
 use Rattle.frame.specs.declared.Frame.{Frame}
 use Rattle.frame.specs.declared.Layout.the-variants as layout
+use Rattle.frame.specs.Layout.{systemOf}
 use Rattle.frame.proofs.FrameLaws.{header-within, length-data as length-data-words}
 use Rattle.record_fields.specs.Coding.{frameBits, entryIn, rowsOf, frameWith}
 use Rattle.record_fields.proofs.Round.{made-again}
@@ -81,7 +82,8 @@ unfolding makeText readText bufferAfter
 text-read-made f buffer c full e =
     ap (makeText (f .header)) text-is
     ∙ order-answers refusedMade (doneMade (frameWith fill coding (f .header) (textIn f)))
-    (makeOrder layout.Text (f .header) ((wrongCount 90 (length (textIn f)), 12) ∷ (anyOf forbidden (textIn f), 11) ∷ []))
+    (makeOrder layout.Text (f .header)
+    ((wrongCount 90 (length (textIn f)), 12) ∷ (anyOf (forbidden (systemOf (f .header .kind))) (textIn f), 11) ∷ []))
     (header-within f (o .0 .0), (o .0 .1 .0, (o .0 .1 .1 .0, (sizes, (o .0 .1 .1 .1 .1 .0, tt)))))
     ∙ ap doneMade (text-again f full (o .0 .0) n)
   where

@@ -15,11 +15,13 @@ use Rattle.answer.proofs.OrderLaws.{order-answers, order-told}
 use Rattle.frame.specs.Widths.{anyOf}
 use Rattle.frame.specs.declared.Frame.{Frame}
 use Rattle.frame.specs.declared.Layout.the-variants as layout
+use Rattle.frame.specs.declared.System.{System}
+use Rattle.frame.specs.Layout.{systemOf}
 use Rattle.record_fields.specs.Coding.{frameBits, entryIn}
 use Rattle.record_stages.specs.declared.Count.the-variants as count
 use Rattle.record_stages.proofs.StageLaws.{of-apart, of-inj}
 use Rattle.record_stages.proofs.ListCode.{some-few, told-some-few}
-use Rattle.record_texts.specs.Texts.{coding, characters, textLength, lengthIn, textIn, wrongWords, forbidden}
+use Rattle.record_texts.specs.Texts.{coding, characters, textLength, lengthIn, textIn, wrongWords, lastCode, forbidden}
 use Rattle.record_texts.specs.Texts.{textOrder, readText, bufferAfter, Allowed, HoldsText, ReadsText}
 use Rattle.record_texts.proofs.TextCode.{length-characters, character-at, length-all, length-less, length-least, Ends, none, one, two, ends}
 use Rattle.record_laws.proofs.SentLaws.{read-passes, read-passed, none-entry, told-entry}
@@ -27,14 +29,15 @@ use Rattle.record_laws.proofs.TextLaws.{allowed, not-zero}
 
 -- ---- what refusal 11 says of a text, both ways
 
-pub allowed-fine : (t : List ℕ) → Allowed t → anyOf forbidden t ≡ false
-allowed-fine t a = none-entry forbidden t 0 (λ i l. fine (getD t i 0) (a i l))
-  where
-    fine : (c : ℕ) → (1 ≤ c) × (c ≤ 127) → forbidden c ≡ false
-    fine c b = rw (le-ltb c 1 (b .0), le-ltb 127 c (b .1))
+module _ (s : System) (t : List ℕ) where
+  pub allowed-fine : Allowed s t → anyOf (forbidden s) t ≡ false
+  allowed-fine a = none-entry (forbidden s) t 0 (λ i l. fine (getD t i 0) (a i l))
+    where
+      fine : (c : ℕ) → (1 ≤ c) × (c ≤ lastCode s) → forbidden s c ≡ false
+      fine c b = rw (le-ltb c 1 (b .0), le-ltb (lastCode s) c (b .1))
 
-pub allowed-told : (t : List ℕ) → anyOf forbidden t ≡ false → Allowed t
-allowed-told t e i l = allowed (getD t i 0) (told-entry forbidden t 0 i e l)
+  pub allowed-told : anyOf (forbidden s) t ≡ false → Allowed s t
+  allowed-told e i l = allowed s (getD t i 0) (told-entry (forbidden s) t 0 i e l)
 
 -- ---- characters: a text, and the zeros behind it
 
@@ -106,7 +109,7 @@ characters-zeros m k bs z =
 
 -- the checks of reading after 8
 abbrev lastChecks : Frame → List ℕ → List Check
-lastChecks f buffer = (anyOf forbidden (textIn f), 11) ∷ (ltb (length buffer) (lengthIn f), 13) ∷ []
+lastChecks f buffer = (anyOf (forbidden (systemOf (f .header .kind))) (textIn f), 11) ∷ (ltb (length buffer) (lengthIn f), 13) ∷ []
 
 module _ (f : Frame) (t : List ℕ) (k : ℕ) (s : HoldsText f t k) where
   size : 3 * f .n ≡ length t + k
@@ -123,8 +126,12 @@ module _ (f : Frame) (t : List ℕ) (k : ℕ) (s : HoldsText f t k) where
   at-zero : (j : ℕ) → j < k → entryIn coding (length t + j) (frameBits f) ≡ 0
   at-zero j l = at (length t + j) (omega (arith, size)) ∙ getD-append-add t (replicate k 0) j 0 ∙ getD-replicate k j 0 0 l
 
-  right : anyOf forbidden t ≡ false
-  right = allowed-fine t (s .allowed)
+  -- the system of the frame's type
+  abbrev asked : System
+  asked = systemOf (f .header .kind)
+
+  right : anyOf (forbidden asked) t ≡ false
+  right = allowed-fine asked t (s .allowed)
 
   some : 0 < length t
   some = omega (arith, size, s .some, s .zeros)
@@ -139,7 +146,7 @@ module _ (f : Frame) (t : List ℕ) (k : ℕ) (s : HoldsText f t k) where
       D = frameBits f
 
       last : (i : ℕ) → suc i ≡ length t → entryIn coding i D ≡ 0 → ⊥
-      last i e z = not-zero t i right (omega arith) (sym (at-text i (omega arith)) ∙ z)
+      last i e z = not-zero asked t i right (omega arith) (sym (at-text i (omega arith)) ∙ z)
 
       go : (k : ℕ) → m ≡ length t + k → k ≤ 2 → ((j : ℕ) → j < k → entryIn coding (length t + j) D ≡ 0) → textLength m D ≡ length t
       go zero e l z = length-all m D (last (m - 1) (omega (arith, some))) ∙ rest
@@ -172,7 +179,7 @@ module _ (f : Frame) (t : List ℕ) (k : ℕ) (s : HoldsText f t k) where
   stages : (buffer : List ℕ) → length t ≤ length buffer → NoneApplies (textOrder f buffer)
   stages buffer l =
       read-passes layout.Text f (wrongWords (f .n)) (lastChecks f buffer) (s .frame) (some-few (f .n) 30 (s .some) (s .few))
-      (ap (anyOf forbidden) text-is ∙ right, (ap (ltb (length buffer)) length-is ∙ le-ltb (length buffer) (length t) l, tt))
+      (ap (anyOf (forbidden asked)) text-is ∙ right, (ap (ltb (length buffer)) length-is ∙ le-ltb (length buffer) (length t) l, tt))
 
   pub text-read : ReadsText f t
   unfolding readText bufferAfter
@@ -196,7 +203,7 @@ text-held f buffer c e = (
       few = n .1;
       zeros = z .few;
       says = ap (λ m. characters m (frameBits f)) (sym (z .size)) ∙ characters-zeros (lengthIn f) (z .zeros) (frameBits f) (z .at);
-      allowed = allowed-told (textIn f) (o .0 .1 .1 .1 .1 .0);
+      allowed = allowed-told (systemOf (f .header .kind)) (textIn f) (o .0 .1 .1 .1 .1 .0);
     },
   ),
   length-characters (lengthIn f) (frameBits f) ∙ of-inj (lengthIn f) c (o .1),

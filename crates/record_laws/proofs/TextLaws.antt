@@ -1,4 +1,5 @@
--- What the layout of type 16 owes: the three laws on codes, what the check for 11 says of a text, and zeros at the end. Assumes nothing.
+-- What the layout of types 16 and 36 owes: the three laws on codes, what the check for 11 says of a text of either system, and zeros at the
+-- end. Assumes nothing.
 use mathlib.Core.Path.{_≡_, refl}
 use mathlib.Core.Bool.{false}
 use mathlib.Core.List.{List, [], _∷_}
@@ -10,11 +11,13 @@ use borrow.Author.Tests.{ltb-false}
 use Rattle.bits.specs.Bits.{bits}
 use Rattle.bits.specs.Rows.{packedRows, AllFit, fillOf}
 use Rattle.frame.specs.Widths.{anyOf}
+use Rattle.frame.specs.declared.System.{System}
+use Rattle.frame.specs.declared.System.the-variants.{Gps, Glonass}
 use Rattle.frame.proofs.WidthLaws.{both-false}
 use Rattle.record_fields.specs.Coding.{rowsOf, Each}
 use Rattle.record_fields.proofs.Round.{Faithful}
 use Rattle.record_fields.proofs.TableRound.{fit-places}
-use Rattle.record_texts.specs.Texts.{widths, coding, fill, forbidden}
+use Rattle.record_texts.specs.Texts.{widths, coding, fill, lastCode, forbidden}
 
 -- ---- the three laws on codes
 
@@ -24,18 +27,27 @@ Good c = c < 2 ^ 8
 pub faithful : Faithful coding Good
 faithful = record { meant-codes = λ c g. refl; fit-codes = λ c g. (g, tt); codes-meant = fit-places widths }
 
-pub allowed : (c : ℕ) → forbidden c ≡ false → (1 ≤ c) × (c ≤ 127)
-allowed c e = let s = both-false (ltb c 1) (ltb 127 c) e in (ltb-false c 1 (s .0), ltb-false 127 c (s .1))
+-- every last code is of eight bits
+last-fits : (s : System) → lastCode s < 2 ^ 8
+unfolding lastCode
+last-fits Gps = omega arith
+last-fits Glonass = omega arith
 
-pub all-good : (t : List ℕ) → anyOf forbidden t ≡ false → Each Good t
-all-good [] e = tt
-all-good (c ∷ t) e = let s = both-false (forbidden c) (anyOf forbidden t) e in (omega (arith, allowed c (s .0) .1), all-good t (s .1))
+module _ (s : System) where
+  pub allowed : (c : ℕ) → forbidden s c ≡ false → (1 ≤ c) × (c ≤ lastCode s)
+  allowed c e = let b = both-false (ltb c 1) (ltb (lastCode s) c) e in (ltb-false c 1 (b .0), ltb-false (lastCode s) c (b .1))
 
--- a character of an allowed text is not 0
-pub not-zero : (t : List ℕ) (i : ℕ) → anyOf forbidden t ≡ false → i < length t → getD t i 0 ≡ 0 → ⊥
-not-zero [] i e h z = omega arith
-not-zero (c ∷ t) zero e h z = let s = both-false (forbidden c) (anyOf forbidden t) e in omega (arith, allowed c (s .0) .0, z)
-not-zero (c ∷ t) (suc i) e h z = let s = both-false (forbidden c) (anyOf forbidden t) e in not-zero t i (s .1) (omega arith) z
+  pub all-good : (t : List ℕ) → anyOf (forbidden s) t ≡ false → Each Good t
+  all-good [] e = tt
+  all-good (c ∷ t) e =
+      let b = both-false (forbidden s c) (anyOf (forbidden s) t) e in
+      (omega (arith, allowed c (b .0) .1, last-fits s), all-good t (b .1))
+
+  -- a character of an allowed text is not 0
+  pub not-zero : (t : List ℕ) (i : ℕ) → anyOf (forbidden s) t ≡ false → i < length t → getD t i 0 ≡ 0 → ⊥
+  not-zero [] i e h z = omega arith
+  not-zero (c ∷ t) zero e h z = let b = both-false (forbidden s c) (anyOf (forbidden s) t) e in omega (arith, allowed c (b .0) .0, z)
+  not-zero (c ∷ t) (suc i) e h z = let b = both-false (forbidden s c) (anyOf (forbidden s) t) e in not-zero t i (b .1) (omega arith) z
 
 -- ---- zeros at the end
 

@@ -1,4 +1,4 @@
--- Type 16: what can be sent is made, and made then read. Assumes nothing.
+-- Types 16 and 36: what can be sent is made, and made then read. Assumes nothing.
 use mathlib.Core.Path.{_≡_, refl, sym, ap, subst, _∙_}
 use mathlib.Core.Bool.{false}
 use mathlib.Core.List.{List, [], _∷_, _++_, append-nil}
@@ -15,12 +15,13 @@ use Rattle.frame.specs.Widths.{anyOf, outside}
 use Rattle.frame.specs.declared.Header.{Header}
 use Rattle.frame.specs.declared.Frame.{Frame}
 use Rattle.frame.specs.declared.Layout.the-variants as layout
+use Rattle.frame.specs.Layout.{systemOf}
 use Rattle.record_fields.specs.Coding.{frameBits, entryIn, rowsOf, entryBits, frameWith}
 use Rattle.record_fields.proofs.Round.{fill-left, length-entries, made-bits, made-n, made-inside, made-fill, made-entry}
 use Rattle.record_stages.specs.Stages.{wrongCount, makeOrder, refusedMade, doneMade, IsMade}
 use Rattle.record_stages.proofs.StageLaws.{done-apart, done-frame}
 use Rattle.record_stages.proofs.ListCode.{some-few, told-some-few}
-use Rattle.record_texts.specs.Texts.{widths, meant, codes, coding, fill, characters, forbidden, makeText, TextMade, SendableText, HoldsText}
+use Rattle.record_texts.specs.Texts.{widths, meant, codes, coding, fill, characters, forbidden, makeText, TextMade, Allowed, SendableText, HoldsText}
 use Rattle.record_laws.proofs.SentLaws.{make-passes, make-passed, frame-for}
 use Rattle.record_laws.proofs.TextHeld.{allowed-fine, allowed-told, characters-are, characters-zeros, text-read}
 use Rattle.record_laws.proofs.TextLaws.{Good, faithful, all-good, zeros-fit, zeros-at, zeros-fill}
@@ -31,7 +32,7 @@ made h t = frameWith fill coding h t
 module _ (h : Header) (t : List ℕ) where
   -- the checks of making after 7
   abbrev checks : List Check
-  checks = (wrongCount 90 (length t), 12) ∷ (anyOf forbidden t, 11) ∷ []
+  checks = (wrongCount 90 (length t), 12) ∷ (anyOf (forbidden (systemOf (h .kind))) t, 11) ∷ []
 
   told : (f : Frame) → makeText h t ≡ doneMade f → NoneApplies (makeOrder layout.Text h checks) × (doneMade (made h t) ≡ doneMade f)
   unfolding makeText
@@ -46,7 +47,7 @@ module _ (h : Header) (t : List ℕ) where
         header = make-passed layout.Text h checks o;
         some = s .0;
         few = s .1;
-        allowed = allowed-told t (o .1 .1 .1 .1 .0);
+        allowed = allowed-told (systemOf (h .kind)) t (o .1 .1 .1 .1 .0);
       }
 
 module _ (h : Header) (t : List ℕ) (s : SendableText h t) where
@@ -54,11 +55,14 @@ module _ (h : Header) (t : List ℕ) (s : SendableText h t) where
   unfolding frameWith framed
   header-is = refl
 
+  right : anyOf (forbidden (systemOf (h .kind))) t ≡ false
+  right = allowed-fine (systemOf (h .kind)) t (s .allowed)
+
   n-is : made h t .n ≡ (length t * 8 + 23) / 24
   n-is = made-n coding fill h t
 
   at-text : (i : ℕ) → i < length t → entryIn coding i (frameBits (made h t)) ≡ getD t i 0
-  at-text i l = made-entry coding Good faithful fill h t i 0 (all-good t (allowed-fine t (s .allowed))) l
+  at-text i l = made-entry coding Good faithful fill h t i 0 (all-good (systemOf (h .kind)) t right) l
 
   at-fill : (k j : ℕ) → 3 * made h t .n ≡ length t + k → k ≤ 2 → j < k → entryIn coding (length t + j) (frameBits (made h t)) ≡ 0
   unfolding filled
@@ -107,7 +111,7 @@ module _ (h : Header) (t : List ℕ) (s : SendableText h t) where
     says = ap (λ m. characters m (frameBits (made h t))) size
         ∙ characters-zeros (length t) zeros (frameBits (made h t)) (λ j l. at-fill zeros j size two l)
         ∙ ap (λ cs. cs ++ replicate zeros 0) (characters-are t (frameBits (made h t)) at-text);
-    allowed = s .allowed;
+    allowed = subst (λ (x : Header). Allowed (systemOf (x .kind)) t) (sym header-is) (s .allowed);
   }
 
   made-reads : TextMade h t (made h t)
@@ -126,7 +130,7 @@ module _ (h : Header) (t : List ℕ) (s : SendableText h t) where
   text-sent = record {
     frame = made h t;
     done = order-answers refusedMade (doneMade (made h t)) (makeOrder layout.Text h (checks h t))
-        (make-passes layout.Text h (checks h t) (s .header) (some-few (length t) 90 (s .some) (s .few), (allowed-fine t (s .allowed), tt)));
+        (make-passes layout.Text h (checks h t) (s .header) (some-few (length t) 90 (s .some) (s .few), (right, tt)));
     reads = made-reads;
   }
 

@@ -1,43 +1,82 @@
--- Type 6, the null frame: N = 0, and the answers in their orders. Assumes nothing.
-use mathlib.Core.Bool.{false}
+-- Types 6 and 34, the null frame: no record, and N says so. The answers in their orders. Assumes nothing.
+use mathlib.Core.Bool.{Bool, false, cond}
 use mathlib.Core.Path.{_≡_}
-use mathlib.Core.List.{[]}
+use mathlib.Core.List.{[], _∷_}
+use Prim.Native.Nat.{ℕ, _≤_}
+use lib.Dec.{ltb, eqb}
+use lib.ListN.{replicate}
 use Rattle.answer.specs.Order.{Says, refuses, answers, inOrder}
 use Rattle.frame.specs.Widths.{outside}
-use Rattle.frame.specs.Frames.{framed}
+use Rattle.frame.specs.Frames.{framed, dataWords}
+use Rattle.frame.specs.Layout.{systemOf}
 use Rattle.frame.specs.declared.Header.{Header}
 use Rattle.frame.specs.declared.Frame.{Frame}
 use Rattle.frame.specs.declared.Layout.the-variants as layout
+use Rattle.frame.specs.declared.System.{System}
+use Rattle.frame.specs.declared.System.the-variants.{Gps, Glonass}
+use Rattle.record_fields.specs.declared.Rows.{Rows}
+use Rattle.record_fields.specs.Tables.{row, noRows, putRow}
 use Rattle.record_stages.specs.declared.Made.{Made}
-use Rattle.record_stages.specs.Stages.{wrongSize, readOrder, makeOrder, refusedMade, doneMade, HeaderFor, FrameFor}
+use Rattle.record_stages.specs.declared.Size.{Size}
+use Rattle.record_stages.specs.declared.Size.the-variants.{Right, Wrong}
+use Rattle.record_stages.specs.Stages.{readOrder, makeOrder, refusedMade, doneMade, HeaderFor, FrameFor}
 use Rattle.record_nulls.specs.declared.NullRead.{NullRead}
 use Rattle.record_nulls.specs.declared.NullRead.the-variants as read
 
--- READING: 5, 6, 7, 8
-unfoldable pub readNull : Frame → NullRead
-readNull f = inOrder (readOrder layout.Null f (wrongSize 0 (f .n)) []) read.Refused read.Null
+-- THE MOST DATA WORDS: type 6 has none, type 34 none or one
+unfoldable pub mostWords : System → ℕ
+mostWords Gps = 0
+mostWords Glonass = 1
 
--- MAKING: 5, 6, 7
-unfoldable pub makeNull : Header → Made
-makeNull h = inOrder (makeOrder layout.Null h []) refusedMade (doneMade (framed h []))
+abbrev pub tooMany : System → ℕ → Bool
+tooMany s n = ltb (mostWords s) n
+
+abbrev pub nullSize : System → ℕ → Size
+nullSize s n = cond (tooMany s n) Wrong Right
+
+-- the fill of a word: 10101010 three times
+abbrev pub fill : ℕ
+fill = 0xAAAAAA
+
+-- STANDARD FILL: every data word is filled
+abbrev pub StandardFill : Frame → Type 0
+StandardFill f = dataWords f ≡ replicate (f .n) fill
+
+-- READING: 5, 6, 7, 8; the record is N
+unfoldable pub readNull : Frame → NullRead
+readNull f = inOrder (readOrder layout.Null f (tooMany (systemOf (f .header .kind)) (f .n)) []) read.Refused (read.Null (f .n))
+
+-- MAKING with N words: 5, 6, 7, 12
+unfoldable pub makeNull : Header → ℕ → Made
+makeNull h n =
+    inOrder (makeOrder layout.Null h ((tooMany (systemOf (h .kind)) n, 12) ∷ [])) refusedMade (doneMade (framed h (replicate n fill)))
+
+-- what is made: one frame or none, of the filled word or of no field
+abbrev pub nullCount : System → ℕ → ℕ
+nullCount s n = cond (tooMany s n) 0 1
+
+abbrev pub nullRows : ℕ → Rows
+nullRows n = cond (eqb n 0) noRows (putRow (24 ∷ []) [] [] (row (fill ∷ [])) noRows)
 
 -- in the table's terms
-abbrev pub saysNullRead : NullRead → Says (Unit {0})
-saysNullRead read.Null = answers tt
+abbrev pub saysNullRead : NullRead → Says ℕ
+saysNullRead (read.Null n) = answers n
 saysNullRead (read.Refused n) = refuses n
 
--- A made frame reads back: its header, and that it is null; it is within its widths, N is 0
-pub record NullMade (h : Header) (f : Frame) : Type 0 where
+-- A made frame reads back: its header, and N; it is within its widths, its fill is standard
+pub record NullMade (h : Header) (wanted : ℕ) (f : Frame) : Type 0 where
   pub header : f .header ≡ h
   pub inside : outside f ≡ false
-  pub reads : readNull f ≡ read.Null
-  pub n : f .n ≡ 0
+  pub reads : readNull f ≡ read.Null wanted
+  pub n : f .n ≡ wanted
+  pub fill : StandardFill f
 
--- A NULL FRAME CAN BE SENT under every header that is for it
-abbrev pub SendableNull : Header → Type 0
-SendableNull = HeaderFor layout.Null
+-- A NULL FRAME CAN BE SENT under every header that is for it, with as many words as its type may have
+pub record SendableNull (h : Header) (n : ℕ) : Type 0 where
+  pub header : HeaderFor layout.Null h
+  pub few : n ≤ mostWords (systemOf (h .kind))
 
--- A FRAME THAT IS NULL: it is for the layout, and N is 0
+-- A FRAME THAT IS NULL: it is for the layout, and N is no more than its type may have
 pub record HoldsNull (f : Frame) : Type 0 where
   pub frame : FrameFor layout.Null f
-  pub n : f .n ≡ 0
+  pub few : f .n ≤ mostWords (systemOf (f .header .kind))

@@ -1,22 +1,49 @@
-// Type 6: the null frame, no data words.
+// The null frame, no record: type 6 without data words, type 34 with none or one, which is filled.
 ghost use mathlib.Core.Path.{_≡_};
-ghost use Rattle.record_nulls.specs.Nulls.{readNull, makeNull};
+ghost use Rattle.record_nulls.specs.Nulls.{mostWords, nullSize, nullCount, nullRows, readNull, makeNull};
 use frame::Clock;
 use frame::Frame;
 use frame::Header;
 use frame::Layout;
+use frame::System;
 use frame::Widths;
+use record_fields::Rows;
 use record_stages::Asked;
 use record_stages::Made;
 use record_stages::Size;
 
-// A null frame, or the refusal's number.
+// A null frame of this many data words, or the refusal's number.
 pub enum NullRead {
-    Null,
+    Null(usize),
     Refused(u8),
 }
 
-// Whether a frame is a null frame: 5, 6, 7, 8.
+// The fill of a word: 10101010 three times.
+const FILL: u32 = 0xAAAAAA;
+
+const WORD: [u32; 1] = [24];
+
+// The most data words of a null frame.
+fn most_words(system: System) -> usize
+    ensures { λ r. ⌜ r ≡ mostWords system ⌝ }
+{
+    match system {
+        System::Gps => 0,
+        System::Glonass => 1,
+    }
+}
+
+// Whether a null frame may have N data words.
+fn null_size(system: System, n: usize) -> Size
+    ensures { λ r. ⌜ r ≡ nullSize system n ⌝ }
+{
+    if n > most_words(system) {
+        return Size::Wrong;
+    }
+    Size::Right
+}
+
+// Whether a frame is a null frame, and its N: 5, 6, 7, 8. Its word may have any bits.
 pub fn read_null(frame: Frame) -> NullRead
     ensures { λ r. ⌜ r ≡ readNull frame ⌝ }
 {
@@ -30,15 +57,41 @@ pub fn read_null(frame: Frame) -> NullRead
     let Clock::Hour = frame::clock_of(header.z) else {
         return NullRead::Refused(7);
     };
-    let Size::Right = record_stages::size_of(0, frame.n) else {
+    let system = frame::system_of(header.kind);
+    let Size::Right = null_size(system, frame.n) else {
         return NullRead::Refused(8);
     };
-    NullRead::Null
+    NullRead::Null(frame.n)
 }
 
-// A null frame, of one row without fields: 5, 6, 7.
-pub fn make_null(header: Header) -> Made
-    ensures { λ r. ⌜ r ≡ makeNull header ⌝ }
+// One null frame of N words to be made, or none, where it can't have as many.
+fn null_count(system: System, n: usize) -> usize
+    ensures { λ r. ⌜ r ≡ nullCount system n ⌝ }
 {
-    record_stages::make_frame(Layout::Null, 1, 0, header, 1, record_fields::no_rows())
+    if n > most_words(system) {
+        return 0;
+    }
+    1
+}
+
+// The filled word, where there is one.
+fn null_rows(n: usize) -> Rows
+    ensures { λ r. ⌜ r ≡ nullRows n ⌝ }
+{
+    let none = record_fields::no_rows();
+    if n == 0 {
+        return none;
+    }
+    let values = [FILL, 0, 0, 0, 0, 0, 0, 0, 0, 0, 0, 0];
+    record_fields::put_row(none, values, &WORD, &[], &[])
+}
+
+// A null frame of N data words: 5, 6, 7, 12.
+pub fn make_null(header: Header, n: usize) -> Made
+    ensures { λ r. ⌜ r ≡ makeNull header n ⌝ }
+{
+    let system = frame::system_of(header.kind);
+    let count = null_count(system, n);
+    let rows = null_rows(n);
+    record_stages::make_frame(Layout::Null, 1, FILL, header, count, rows)
 }

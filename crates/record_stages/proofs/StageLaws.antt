@@ -1,10 +1,11 @@
 -- The stages, each with the fact that decides it: what a stage answered says which check applies, and so what the order says.
 -- Assumes nothing.
-use mathlib.Core.Path.{_≡_, refl, sym, ap, _∙_}
-use mathlib.Core.Bool.{Bool, true, false, cond}
+use mathlib.Core.Path.{_≡_, refl, sym, ap, _∙_, ap₂}
+use mathlib.Core.Bool.{Bool, true, false, cond, not, _||_, _&&_}
 use mathlib.Core.List.{List, [], _∷_, _++_}
 use Prim.Native.Nat.{ℕ}
 use native.Mathlib.Omega.{arith}
+use lib.Dec.{eqb}
 use borrow.Author.Tests.{eq-eqb, ne-eqb}
 use Rattle.answer.specs.Order.{Check, inOrder}
 use Rattle.answer.proofs.OrderLaws.{order-map, order-append}
@@ -17,6 +18,7 @@ use Rattle.frame.specs.declared.Frame.{Frame}
 use Rattle.frame.specs.declared.Layout.{Layout}
 use Rattle.frame.specs.declared.Widths.the-variants.{Within, Outside}
 use Rattle.frame.specs.declared.Clock.the-variants.{Hour, Late}
+use Rattle.record_stages.specs.declared.Asked.{Asked}
 use Rattle.record_stages.specs.declared.Asked.the-variants.{Same, Other}
 use Rattle.record_stages.specs.declared.Counted.the-variants.{Entries, Misfit}
 use Rattle.record_stages.specs.declared.Size.the-variants.{Right, Wrong}
@@ -71,13 +73,24 @@ told-in false e = refl
 
 -- ---- the layout asked for
 
-pub asked-same : (l : Layout) (kind : ℕ) → layoutNumber (layoutOf kind) ≡ layoutNumber l → Same ≡ askedOf l kind
-unfolding otherLayout
-asked-same l kind e = rw (eq-eqb (layoutNumber (layoutOf kind)) (layoutNumber l) e)
+-- by the numbers of the layout that is found and of the one that is asked for
+abbrev byNumbers : ℕ → ℕ → Asked
+byNumbers f a = cond (not (eqb f a || (eqb f 6 && (eqb a 0 || eqb a 3)))) Other Same
 
-pub asked-other : (l : Layout) (kind : ℕ) → (layoutNumber (layoutOf kind) ≡ layoutNumber l → ⊥) → Other ≡ askedOf l kind
-unfolding otherLayout
-asked-other l kind e = rw (ne-eqb (layoutNumber (layoutOf kind)) (layoutNumber l) e)
+pub asked-by : (l : Layout) (kind f a : ℕ) (r : Asked) → f ≡ layoutNumber (layoutOf kind) → a ≡ layoutNumber l → r ≡ byNumbers f a → r ≡ askedOf l kind
+unfolding otherLayout layoutNumber
+asked-by l kind f a r ef ea e = e ∙ ap₂ byNumbers ef ea
+
+module _ (f a : ℕ) where
+  pub one-layout : f ≡ a → Same ≡ byNumbers f a
+  one-layout e = rw (eq-eqb f a e)
+
+  module _ (ne : f ≡ a → ⊥) where
+    pub one-other : (f ≡ 6 → ⊥) → Other ≡ byNumbers f a
+    one-other n = rw (ne-eqb f a ne, ne-eqb f 6 n)
+
+    pub either : f ≡ 6 → (b : Bool) → eqb a 0 || eqb a 3 ≡ b → cond (not b) Other Same ≡ byNumbers f a
+    either e b s = rw (ne-eqb f a ne, eq-eqb f 6 e, s)
 
 -- ---- reading: 5, 6, 7, 8
 

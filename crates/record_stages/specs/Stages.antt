@@ -1,7 +1,7 @@
 -- The orders of refusals that reading and making share, what passes their first checks, and what each answer says in the table's terms.
 -- Assumes nothing.
 use mathlib.Core.Path.{_≡_}
-use mathlib.Core.Bool.{Bool, false, not, _||_, cond}
+use mathlib.Core.Bool.{Bool, false, not, _||_, _&&_, cond}
 use mathlib.Core.List.{List, [], _∷_}
 use Prim.Native.Nat.{ℕ, _+_, _*_, _/_, _<_}
 use lib.Dec.{ltb, leb, eqb}
@@ -46,10 +46,16 @@ layoutNumber layout.Health = 2
 layoutNumber layout.Null = 3
 layoutNumber layout.Text = 4
 layoutNumber layout.Plain = 5
+layoutNumber layout.CorrectionOrNull = 6
 
--- a frame of the layout that is found is one of the layout that is asked for
+abbrev pub sameLayout : Layout → Layout → Bool
+sameLayout a b = eqb (layoutNumber a) (layoutNumber b)
+
+-- a frame of the layout that is found is one of the layout that is asked for: the same, or corrections or null where N decides
 abbrev pub isOf : Layout → Layout → Bool
-isOf found asked = eqb (layoutNumber found) (layoutNumber asked)
+isOf found asked =
+    sameLayout found asked
+    || (sameLayout found layout.CorrectionOrNull && (sameLayout asked layout.Correction || sameLayout asked layout.Null))
 
 -- a type number does not have the layout that is asked for
 unfoldable pub otherLayout : Layout → ℕ → Bool

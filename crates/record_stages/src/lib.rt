@@ -79,6 +79,7 @@ fn layout_number(layout: Layout) -> u8
         Layout::Null => 3,
         Layout::Text => 4,
         Layout::Plain => 5,
+        Layout::CorrectionOrNull => 6,
     }
 }
 
@@ -86,8 +87,19 @@ fn layout_number(layout: Layout) -> u8
 pub fn asked_of(layout: Layout, kind: u8) -> Asked
     ensures { λ r. ⌜ r ≡ askedOf layout kind ⌝ }
 {
-    let found = frame::layout_of(kind);
-    if layout_number(found) == layout_number(layout) {
+    let found = layout_number(frame::layout_of(kind));
+    let asked = layout_number(layout);
+    if found == asked {
+        return Asked::Same;
+    }
+    // Else only corrections or null, the layout of number 6, have a second one: corrections, 0, and null, 3.
+    if found != 6 {
+        return Asked::Other;
+    }
+    if asked == 0 {
+        return Asked::Same;
+    }
+    if asked == 3 {
         return Asked::Same;
     }
     Asked::Other

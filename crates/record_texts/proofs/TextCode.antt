@@ -17,6 +17,7 @@ use Rattle.bits.specs.Rows.{dataBits, rowsAt}
 use Rattle.bits.proofs.RowLaws.{length-rows-at, rows-at}
 use Rattle.frame.specs.Widths.{anyOf, outside}
 use Rattle.frame.specs.Answer.{frameWidths, clockOf}
+use Rattle.frame.specs.Layout.{systemOf}
 use Rattle.frame.specs.declared.Frame.{Frame}
 use Rattle.frame.specs.declared.Widths.the-variants.{Within, Outside}
 use Rattle.frame.specs.declared.Clock.the-variants.{Hour, Late}
@@ -156,7 +157,7 @@ module _ (f : Frame) (buffer : List ℕ) where
   Answers r after = (r ≡ readText f buffer) × (after ≡ bufferAfter f buffer)
 
   abbrev last : List Check
-  last = (anyOf forbidden (textIn f), 11) ∷ (ltb (length buffer) (lengthIn f), 13) ∷ []
+  last = (anyOf (forbidden (systemOf (f .header .kind))) (textIn f), 11) ∷ (ltb (length buffer) (lengthIn f), 13) ∷ []
 
   -- one fact on the order says what is answered and what the buffer holds
   refuses : (n : ℕ) → ((A : Type 0) (refuse : ℕ → A) (answer : A) → refuse n ≡ inOrder (textOrder f buffer) refuse answer)
@@ -183,13 +184,13 @@ module _ (f : Frame) (buffer : List ℕ) where
           left : {A : Type 0} (refuse : ℕ → A) (answer : A) → inOrder last refuse answer ≡ inOrder (textOrder f buffer) refuse answer
           left refuse answer = read-on layout.Text f (wrongWords (f .n)) last refuse answer w a z e
 
-          pub text11 : anyOf forbidden (textIn f) ≡ true → Answers (count.Refused 11) buffer
+          pub text11 : anyOf (forbidden (systemOf (f .header .kind))) (textIn f) ≡ true → Answers (count.Refused 11) buffer
           text11 b = refuses 11 (λ A refuse answer. at refuse answer ∙ left refuse answer)
             where
               at : {A : Type 0} (refuse : ℕ → A) (answer : A) → refuse 11 ≡ inOrder last refuse answer
               at refuse answer = rw b
 
-          module _ (b : anyOf forbidden (textIn f) ≡ false) where
+          module _ (b : anyOf (forbidden (systemOf (f .header .kind))) (textIn f) ≡ false) where
             pub text13 : ltb (length buffer) (lengthIn f) ≡ true → Answers (count.Refused 13) buffer
             text13 l = refuses 13 (λ A refuse answer. at refuse answer ∙ left refuse answer)
               where

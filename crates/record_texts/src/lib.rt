@@ -1,17 +1,19 @@
-// Type 16: text, 1 to 90 characters of eight bits, three a word.
+// Text, 1 to 90 characters of eight bits, three a word: type 16 of GPS, 36 of GLONASS. The last code of a character alone differs.
 ghost use mathlib.Core.Path.{_≡_};
-ghost use mathlib.Core.List.{[], _∷_, _++_, map};
+ghost use mathlib.Core.List.{_++_, map};
 ghost use Prim.Native.Nat.{_*_, _≤_, _<_};
 ghost use lib.ListN.{length, take, drop};
 ghost use Rattle.bits.specs.Rows.{dataBits};
 ghost use Rattle.record_fields.specs.Tables.{noRows, putRows};
 ghost use Rattle.record_fields.specs.Coding.{entryIn};
-ghost use Rattle.record_texts.specs.Texts.{widths, coding, numbers, characters, textLength, wordsSize, forbidden, charactersOf, roomOf};
+ghost use Rattle.record_texts.specs.Texts.{widths, coding, least, most, numbers, characters, textLength, wordsSize};
+ghost use Rattle.record_texts.specs.Texts.{lastCode, forbidden, charactersOf, roomOf};
 ghost use Rattle.record_texts.specs.Texts.{readText, bufferAfter, makeText};
 use frame::Clock;
 use frame::Frame;
 use frame::Header;
 use frame::Layout;
+use frame::System;
 use frame::Widths;
 use record_fields::Rows;
 use record_stages::Asked;
@@ -31,21 +33,29 @@ enum Room {
     Short,
 }
 
-// THE LAYOUT: the width of a character, its least and its most; the last word is filled with zeros.
+// THE LAYOUT of both systems: the width of a character and its least; its most is the system's; the last word is filled with zeros.
 const WIDTHS: [u32; 1] = [8];
 
 const LEAST: [u32; 1] = [1];
 
-const MOST: [u32; 1] = [127];
+// The last code of a character: GPS has ASCII, GLONASS the Russian letters of annex G behind it.
+fn last_code(system: System) -> u32
+    ensures { λ r. ⌜ r ≡ lastCode system ⌝ }
+{
+    match system {
+        System::Gps => 127,
+        System::Glonass => 191,
+    }
+}
 
-// A character is not 1 to 127.
-fn is_forbidden(character: u32) -> bool
-    ensures { λ r. ⌜ r ≡ forbidden character ⌝ }
+// A character is not 1 to the last code.
+fn is_forbidden(system: System, character: u32) -> bool
+    ensures { λ r. ⌜ r ≡ forbidden system character ⌝ }
 {
     if character < 1 {
         return true;
     }
-    character > 127
+    character > last_code(system)
 }
 
 // Whether a text has N words: 1 to 30.
@@ -85,13 +95,13 @@ fn text_length(words: [u32; 31], n: usize) -> usize
 }
 
 // Whether the first `count` characters of the data are allowed.
-fn characters_of(words: [u32; 31], count: usize) -> Characters
+fn characters_of(system: System, words: [u32; 31], count: usize) -> Characters
     requires { ⌜ count ≤ 93 ⌝ }
-    ensures { λ r. ⌜ r ≡ charactersOf (characters count (dataBits words)) ⌝ }
+    ensures { λ r. ⌜ r ≡ charactersOf system (characters count (dataBits words)) ⌝ }
 {
     let mut i = 0;
     while i < count {
-        if is_forbidden(character(words, i)) {
+        if is_forbidden(system, character(words, i)) {
             return Characters::Forbidden;
         }
         i += 1;
@@ -140,7 +150,8 @@ pub fn read_text(frame: Frame, buffer: &mut [u8]) -> Count
     };
     let words = frame.words;
     let count = text_length(words, frame.n);
-    let Characters::Permitted = characters_of(words, count) else {
+    let system = frame::system_of(header.kind);
+    let Characters::Permitted = characters_of(system, words, count) else {
         return Count::Refused(11);
     };
     let Room::Enough = room_of(buffer.len(), count) else {
@@ -151,9 +162,10 @@ pub fn read_text(frame: Frame, buffer: &mut [u8]) -> Count
 }
 
 // The rows of the characters, of 90 at most, a row a character.
-fn rows_of(text: &[u8]) -> Rows
-    ensures { λ r. ⌜ r ≡ putRows widths (1 ∷ []) (127 ∷ []) (map numbers (take 90 (now (text .entry)))) noRows ⌝ }
+fn rows_of(system: System, text: &[u8]) -> Rows
+    ensures { λ r. ⌜ r ≡ putRows widths least (most system) (map numbers (take 90 (now (text .entry)))) noRows ⌝ }
 {
+    let most = [last_code(system)];
     let mut rows = record_fields::no_rows();
     let mut i = 0;
     while i < 90 {
@@ -161,7 +173,7 @@ fn rows_of(text: &[u8]) -> Rows
             return rows;
         }
         let row = [text[i] as u32, 0, 0, 0, 0, 0, 0, 0, 0, 0, 0, 0];
-        rows = record_fields::put_row(rows, row, &WIDTHS, &LEAST, &MOST);
+        rows = record_fields::put_row(rows, row, &WIDTHS, &LEAST, &most);
         i += 1;
     }
     rows
@@ -171,6 +183,7 @@ fn rows_of(text: &[u8]) -> Rows
 pub fn make_text(header: Header, text: &[u8]) -> Made
     ensures { λ r. ⌜ r ≡ makeText header (now (text .entry)) ⌝ }
 {
-    let rows = rows_of(text);
+    let system = frame::system_of(header.kind);
+    let rows = rows_of(system, text);
     record_stages::make_frame(Layout::Text, 90, 0, header, text.len(), rows)
 }

@@ -12,15 +12,16 @@ use Rattle.answer.proofs.OrderLaws.{says-order, order-answers}
 use Rattle.frame.specs.Widths.{stateOutside, late}
 use Rattle.frame.specs.declared.State.{State}
 use Rattle.record_values.specs.Values.{Reading, exactly, stop, Bound, upTo, noLimit, Signal, dbHz, notTracked}
-use Rattle.record_values.specs.Values.{stepOf, prcValue, rrcValue, stopsUse, udreValue, cn0Value}
-use Rattle.record_values.specs.Answer.{distanceOf, rateOf, limitOf, strengthOf, prcMm, rrcMmS, udreLimit, cn0DbHz, minutesOf, zTenths}
-use Rattle.record_values.specs.Answer.{saysDistance, saysRate, saysLimit, saysStrength, saysTime, saysSinceHour}
+use Rattle.record_values.specs.Values.{stepOf, prcValue, rrcValue, stopsUse, udreValue, cn0Value, noLetter, letterValue}
+use Rattle.record_values.specs.Answer.{distanceOf, rateOf, limitOf, strengthOf, prcMm, rrcMmS, udreLimit, cn0DbHz, minutesOf, zTenths, letterOf}
+use Rattle.record_values.specs.Answer.{saysDistance, saysRate, saysLimit, saysStrength, saysTime, saysSinceHour, saysLetter}
 use Rattle.record_values.specs.declared.Distance.the-variants as distance
 use Rattle.record_values.specs.declared.Rate.the-variants as rate
 use Rattle.record_values.specs.declared.Limit.the-variants as limit
 use Rattle.record_values.specs.declared.Strength.the-variants as strength
 use Rattle.record_values.specs.declared.Time.the-variants as time
 use Rattle.record_values.specs.declared.SinceHour.the-variants as since
+use Rattle.record_values.specs.declared.Letter.the-variants as letter
 use Rattle.record_values.proofs.Readings.{exact-other, neither-lowest}
 
 as-distance : (x : Reading) → saysDistance (distanceOf x) ≡ answers x
@@ -70,3 +71,6 @@ minutes-says code = says-order saysTime time.Refused (λ n. refl) _ ((ltb 15 cod
 
 pub z-says : (z : ℕ) → saysSinceHour (zTenths z) ≡ inOrder ((ltb 8191 z, 5) ∷ (late z, 7) ∷ []) refuses (answers (6 * z))
 z-says z = says-order saysSinceHour since.Refused (λ n. refl) _ ((ltb 8191 z, 5) ∷ (late z, 7) ∷ []) refl
+
+pub letter-says : (code : ℕ) → saysLetter (letterOf code) ≡ inOrder ((noLetter code, 11) ∷ []) refuses (answers (letterValue code))
+letter-says code = says-order saysLetter letter.Refused (λ n. refl) _ ((noLetter code, 11) ∷ []) refl

@@ -7,6 +7,7 @@ use Rattle.answer.specs.Order.{Says, refuses, answers, inOrder}
 use Rattle.frame.specs.Widths.{stateOutside, late}
 use Rattle.frame.specs.declared.State.{State}
 use Rattle.record_values.specs.Values.{Reading, exactly, stop, Bound, upTo, noLimit, Signal, dbHz, notTracked, prcValue, rrcValue, udreValue, cn0Value}
+use Rattle.record_values.specs.Values.{noLetter, letterValue}
 use Rattle.record_values.specs.declared.Distance.{Distance}
 use Rattle.record_values.specs.declared.Distance.the-variants as distance
 use Rattle.record_values.specs.declared.Rate.{Rate}
@@ -19,6 +20,8 @@ use Rattle.record_values.specs.declared.Time.{Time}
 use Rattle.record_values.specs.declared.Time.the-variants as time
 use Rattle.record_values.specs.declared.SinceHour.{SinceHour}
 use Rattle.record_values.specs.declared.SinceHour.the-variants as since
+use Rattle.record_values.specs.declared.Letter.{Letter}
+use Rattle.record_values.specs.declared.Letter.the-variants as letter
 
 -- ---- a value as an answer
 
@@ -63,6 +66,10 @@ minutesOf code = inOrder ((ltb 15 code, 10) ∷ []) time.Refused (time.Minutes (
 abbrev pub zTenths : ℕ → SinceHour
 zTenths z = inOrder ((ltb 8191 z, 5) ∷ (late z, 7) ∷ []) since.Refused (since.Tenths (6 * z))
 
+-- a character of types 16 and 36 in Unicode: 11 for a code that is no character
+abbrev pub letterOf : ℕ → Letter
+letterOf code = inOrder ((noLetter code, 11) ∷ []) letter.Refused (letter.Unicode (letterValue code))
+
 -- ---- in the table's terms
 
 abbrev pub saysDistance : Distance → Says Reading
@@ -92,3 +99,7 @@ saysTime (time.Refused n) = refuses n
 abbrev pub saysSinceHour : SinceHour → Says ℕ
 saysSinceHour (since.Tenths n) = answers n
 saysSinceHour (since.Refused n) = refuses n
+
+abbrev pub saysLetter : Letter → Says ℕ
+saysLetter (letter.Unicode n) = answers n
+saysLetter (letter.Refused n) = refuses n

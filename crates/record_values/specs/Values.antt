@@ -1,8 +1,9 @@
--- What the numbers of a record stand for: stop, no upper limit and not tracked are values of their own. Assumes nothing.
+-- What the numbers of a record stand for: stop, no upper limit and not tracked are values of their own; and which letters the characters of a
+-- text are. Assumes nothing.
 use mathlib.Core.Bool.{Bool, false, cond, _||_}
 use mathlib.Core.List.{List, [], _∷_}
-use Prim.Native.Nat.{ℕ, suc, _+_, _*_, _/_, _^_}
-use lib.Dec.{eqb}
+use Prim.Native.Nat.{ℕ, suc, _+_, _*_, _-_, _/_, _^_}
+use lib.Dec.{eqb, ltb}
 use lib.IntN.{ℤ, pos, negsuc, _*ℤ_}
 use lib.ListN.{getD}
 use Rattle.frame.specs.declared.State.{State}
@@ -71,3 +72,13 @@ pub data Signal : Type 0 where
 -- not tracked for code 0, for any other 24 more than the code
 abbrev pub cn0Value : ℕ → Signal
 cn0Value code = cond (eqb code 0) notTracked (dbHz (24 + code))
+
+-- ---- characters, of types 16 and 36
+
+-- no character: 0, and 192 to 255
+abbrev pub noLetter : ℕ → Bool
+noLetter code = ltb code 1 || ltb 191 code
+
+-- the number in Unicode: ASCII is itself; 128 to 191, annex G's Russian letters, without yo, stand in the same order from U+0410 on
+abbrev pub letterValue : ℕ → ℕ
+letterValue code = cond (ltb code 128) code (0x0410 + (code - 128))

@@ -1,8 +1,9 @@
-// What the numbers of a record and of a header stand for, in whole units: mm, mm/s, dBHz, minutes, tenths of a second.
+// What the numbers of a record and of a header stand for, in whole units: mm, mm/s, dBHz, minutes, tenths of a second; and which letters
+// the characters of a text are.
 ghost use mathlib.Core.Path.{_≡_};
 ghost use lib.IntN.{pos, _*ℤ_};
 ghost use Rattle.record_values.specs.Values.{stepOf, stopsUse, hundredthsOf};
-ghost use Rattle.record_values.specs.Answer.{prcMm, rrcMmS, udreLimit, cn0DbHz, minutesOf, zTenths};
+ghost use Rattle.record_values.specs.Answer.{prcMm, rrcMmS, udreLimit, cn0DbHz, minutesOf, zTenths, letterOf};
 use frame::Clock;
 use frame::HealthCode;
 use frame::State;
@@ -46,6 +47,12 @@ pub enum Time {
 // The time of a Z count, from the full hour on, or the refusal's number.
 pub enum SinceHour {
     Tenths(u16),
+    Refused(u8),
+}
+
+// A character's number in Unicode, or the refusal's number.
+pub enum Letter {
+    Unicode(u32),
     Refused(u8),
 }
 
@@ -163,4 +170,21 @@ pub fn z_tenths(z: u16) -> SinceHour
         return SinceHour::Refused(7);
     };
     SinceHour::Tenths(6 * z)
+}
+
+// What a character of types 16 and 36 is: 1 to 127 are ASCII. 128 to 191 are the table of annex G, the Russian capital and then the small
+// letters in the order of the alphabet, both without yo: the same 64 in the same order as in Unicode from U+0410 on.
+pub fn letter_of(code: u8) -> Letter
+    ensures { λ r. ⌜ r ≡ letterOf code ⌝ }
+{
+    if code < 1 {
+        return Letter::Refused(11);
+    }
+    if code > 191 {
+        return Letter::Refused(11);
+    }
+    if code < 128 {
+        return Letter::Unicode(code as u32);
+    }
+    Letter::Unicode(0x0410 + (code as u32 - 128))
 }

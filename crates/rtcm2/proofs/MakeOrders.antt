@@ -7,7 +7,7 @@ use Prim.Native.Nat.{ℕ, zero, suc, _+_, _*_, _/_, _%_, _≤_}
 use native.Mathlib.Omega.{arith}
 use lib.Dec.{ltb, eqb}
 use lib.IntN.{ℤ}
-use lib.ListN.{length, take, drop, length-take}
+use lib.ListN.{length, take, drop, replicate, length-take, length-replicate}
 use borrow.Author.Tests.{ltb-false}
 use Rattle.answer.specs.Order.{Says, refuses, answers, Check, inOrder, NoneApplies}
 use Rattle.answer.proofs.OrderLaws.{order-map, says-order}
@@ -18,6 +18,9 @@ use Rattle.frame.specs.declared.Frame.{Frame}
 use Rattle.frame.specs.declared.Header.{Header}
 use Rattle.frame.specs.declared.Layout.{Layout}
 use Rattle.frame.specs.declared.Layout.the-variants as layout
+use Rattle.frame.specs.declared.System.{System}
+use Rattle.frame.specs.declared.System.the-variants.{Gps, Glonass}
+use Rattle.frame.specs.Layout.{systemOf}
 use Rattle.frame.proofs.FrameLaws.{framed-inside}
 use Rattle.frame.proofs.WidthLaws.{both-false}
 use Rattle.journal.specs.Bytes.{wordsFrom}
@@ -113,19 +116,23 @@ module _ (kind station z sequence code : ℕ) (buffer : List ℕ) where
         (answers (3 * correctionsFrame kind station z sequence code bs .n + 9))
     unfolding correction.makeCorrections
     corrections-made =
-        let es = entriesFrom correction-bytes.row 18 bs in
-        let c = countOf (rowSize correction-bytes.row) (length bs) in
-        entries-order layout.Correction correction.coding correction.fill (take c es) (listChecks 18 correction.outOfRange es c)
-        (λ h. correction.makeCorrections h es c) refl (λ none. omega (arith, few es c 18 (none .0)))
+        let s = systemOf kind in
+        let es = entriesFrom (correction-bytes.row s) 18 bs in
+        let c = countOf (rowSize (correction-bytes.row s)) (length bs) in
+        entries-order layout.Correction (correction.coding s) correction.fill (take c es) (listChecks 18 (correction.outOfRange s) es c)
+        (λ h. correction.makeCorrections h (entriesFrom (correction-bytes.row (systemOf (h .kind))) 18 bs) c) refl
+        (λ none. omega (arith, few es c 18 (none .0)))
 
     pub healths-made : keptTo (healths.madeSaid (headed kind station z sequence code) bs) buffer
         ≡ inOrder (healthsOrder kind station z sequence code bs buffer) refuses (answers (3 * healthsFrame kind station z sequence code bs .n + 9))
     unfolding health.makeHealths
     healths-made =
-        let es = entriesFrom health-bytes.row 31 bs in
-        let c = countOf (rowSize health-bytes.row) (length bs) in
-        entries-order layout.Health health.coding health.fill (take c es) (listChecks 31 health.outOfRange es c)
-        (λ h. health.makeHealths h es c) refl (λ none. omega (arith, few es c 31 (none .0)))
+        let s = systemOf kind in
+        let es = entriesFrom (health-bytes.row s) 31 bs in
+        let c = countOf (rowSize (health-bytes.row s)) (length bs) in
+        entries-order layout.Health (health.coding s) health.fill (take c es) (listChecks 31 (health.outOfRange s) es c)
+        (λ h. health.makeHealths h (entriesFrom (health-bytes.row (systemOf (h .kind))) 31 bs) c) refl
+        (λ none. omega (arith, few es c 31 (none .0)))
 
   -- ---- a position: 5, 6, 7, 10, 13
 
@@ -144,15 +151,29 @@ module _ (kind station z sequence code : ℕ) (buffer : List ℕ) where
       ≡ inOrder (textMadeOrder kind station z sequence code t buffer) refuses (answers (3 * textFrame kind station z sequence code t .n + 9))
   unfolding text.makeText
   text-made t =
-      entries-order layout.Text text.coding text.fill t (textChecks t) (λ h. text.makeText h t) refl
+      entries-order layout.Text text.coding text.fill t (textChecks (systemOf kind) t) (λ h. text.makeText h t) refl
       (λ none. omega (arith, ltb-false 90 (length t) (both-false (eqb (length t) 0) (ltb 90 (length t)) (none .0) .1)))
 
-  -- ---- the null frame: 5, 6, 7, 13
+  -- ---- the null frame: 5, 6, 7, 12, 13
 
-  pub null-made : keptTo (nulls.makeSaid kind station z sequence code) buffer
-      ≡ inOrder (nullMadeOrder kind station z sequence code buffer) refuses (answers (3 * nullFrame kind station z sequence code .n + 9))
+  -- at most one word, and it is within its width
+  one-word : (s : System) → null.mostWords s ≤ 1
+  unfolding null.mostWords
+  one-word Gps = omega arith
+  one-word Glonass = omega arith
+
+  filled : (n : ℕ) → Below (replicate n null.fill)
+  filled zero = tt
+  filled (suc n) = (omega arith, filled n)
+
+  pub null-made : (n : ℕ) → keptTo (nulls.makeSaid kind station z sequence code n) buffer
+      ≡ inOrder (nullMadeOrder kind station z sequence code n buffer) refuses (answers (3 * nullFrame kind station z sequence code n .n + 9))
   unfolding null.makeNull
-  null-made = make-order layout.Null [] (framed H []) null.makeNull refl (λ none. framed-inside H [] (none .0) tt (omega arith))
+  null-made n =
+      let s = systemOf kind in
+      make-order layout.Null ((null.tooMany s n, 12) ∷ []) (framed H (replicate n null.fill)) (λ h. null.makeNull h n) refl
+      (λ none. framed-inside H (replicate n null.fill) (none .0) (filled n)
+      (omega (arith, length-replicate {A = ℕ} n null.fill, ltb-false (null.mostWords s) n (none .1 .1 .1 .0), one-word s)))
 
   -- ---- a frame of any type: 5, 13
 

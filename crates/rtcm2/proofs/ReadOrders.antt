@@ -13,10 +13,11 @@ use Rattle.frame.specs.Widths.{anyOf, outside}
 use Rattle.frame.specs.declared.Frame.{Frame}
 use Rattle.frame.specs.declared.Layout.{Layout}
 use Rattle.frame.specs.declared.Layout.the-variants as layout
+use Rattle.frame.specs.declared.System.the-variants.{Gps}
 use Rattle.journal.specs.Forms.{nByte, wordsAfter}
 use Rattle.journal.specs.Journal.{refusedRecall, recalled, recallOrder, saysRecalled}
 use Rattle.journal.proofs.RoundTrip.{reread}
-use Rattle.record_fields.specs.Coding.{Coding, frameBits, entryIn}
+use Rattle.record_fields.specs.Coding.{Coding}
 use Rattle.record_stages.specs.Stages.{entriesHeld, misfit, wrongSize, readOrder, saysCount}
 use Rattle.record_stages.specs.declared.Count.the-variants as count
 use Rattle.record_corrections.specs.Corrections as correction
@@ -40,7 +41,8 @@ use Rattle.rtcm2.specs.Healths as healths
 use Rattle.rtcm2.specs.Positions.{positionSaid}
 use Rattle.rtcm2.specs.Nulls.{nullSaid}
 use Rattle.rtcm2.specs.Texts.{textSaid}
-use Rattle.rtcm2.specs.Orders.{frameFrom, recordChecks, countOrder, entryChecks, entryOrder, positionOrder, nullOrder, textReadOrder}
+use Rattle.rtcm2.specs.Orders.{frameFrom, systemFrom, recordChecks, countOrder, entryChecks, entryOrder, correctionIn, correctionChecks, healthIn}
+use Rattle.rtcm2.specs.Orders.{positionOrder, nullOrder, textReadOrder}
 use Rattle.rtcm2.proofs.Orders.{pass-five}
 
 -- RECALL: 14, 15, 16, 15, 16; the last for either of two reasons
@@ -120,45 +122,45 @@ module _ (bs : List ℕ) (fits : AreBytes bs) where
       position-read.Refused (λ n. refl) position.readPosition (position-read.At (position.positionIn F)) refl refl
 
   -- NULL: 14, 15, 16, 15, 16, 6, 7, 8
-  pub null-order : nullSaid (frameSaid bs) ≡ inOrder (nullOrder bs) refuses (answers tt)
+  pub null-order : nullSaid (frameSaid bs) ≡ inOrder (nullOrder bs) refuses (answers (frameFrom bs .n))
   unfolding null.readNull
   null-order =
-      record-order bs fits layout.Null (wrongSize 0 (F .n)) [] null.saysNullRead null-read.Refused (λ n. refl) null.readNull null-read.Null refl refl
+      record-order bs fits layout.Null (null.tooMany (systemFrom bs) (F .n)) [] null.saysNullRead null-read.Refused (λ n. refl) null.readNull
+      (null-read.Null (F .n)) refl refl
 
   -- TEXT: 14, 15, 16, 15, 16, 6, 7, 8, 11, 13
   pub text-order : (buffer : List ℕ) → textSaid (frameSaid bs) buffer ≡ inOrder (textReadOrder bs buffer) refuses (answers (text.lengthIn (frameFrom bs)))
   unfolding text.readText
   text-order buffer =
       record-order bs fits layout.Text (text.wrongWords (F .n))
-      ((anyOf text.forbidden (text.textIn F), 11) ∷ (ltb (length buffer) (text.lengthIn F), 13) ∷ []) saysCount count.Refused (λ n. refl)
+      ((anyOf (text.forbidden (systemFrom bs)) (text.textIn F), 11) ∷ (ltb (length buffer) (text.lengthIn F), 13) ∷ []) saysCount count.Refused (λ n. refl)
       (λ f. text.readText f buffer) (count.Of (text.lengthIn F)) refl refl
 
-  -- ENTRY: 14, 15, 16, 15, 16, 6, 7, 8, 9, and 13 for its row
+  -- ENTRY: 14, 15, 16, 15, 16, 6, 7, 8, 9, a correction's 10, and 13 for its row
   module _ (i : ℕ) where
     pub correction-entry : corrections.entrySaid (frameSaid bs) i
-        ≡ inOrder (recallOrder bs ++ entryChecks layout.Correction 40 (frameFrom bs) i) refuses
-        (answers (entryIn correction.coding i (frameBits (frameFrom bs))))
+        ≡ inOrder (recallOrder bs ++ entryChecks layout.Correction 40 (frameFrom bs) i (correctionChecks bs i)) refuses (answers (correctionIn bs i))
     unfolding correction.correctionAt
     correction-entry =
-        record-order bs fits layout.Correction (misfit 40 (F .n)) ((leb (entriesHeld 40 (F .n)) i, 9) ∷ []) correction.saysCorrectionRead
-        correction-read.Refused (λ n. refl) (λ f. correction.correctionAt f i)
-        (correction-read.Entry (entryIn correction.coding i (frameBits F))) refl refl
+        record-order bs fits layout.Correction (misfit 40 (F .n)) ((leb (entriesHeld 40 (F .n)) i, 9) ∷ correctionChecks bs i)
+        correction.saysCorrectionRead correction-read.Refused (λ n. refl) (λ f. correction.correctionAt f i)
+        (correction-read.Entry (correctionIn bs i)) refl refl
 
     pub health-entry : healths.entrySaid (frameSaid bs) i
-        ≡ inOrder (recallOrder bs ++ entryChecks layout.Health 24 (frameFrom bs) i) refuses (answers (entryIn health.coding i (frameBits (frameFrom bs))))
+        ≡ inOrder (recallOrder bs ++ entryChecks layout.Health 24 (frameFrom bs) i []) refuses (answers (healthIn bs i))
     unfolding health.healthAt
     health-entry =
         record-order bs fits layout.Health (misfit 24 (F .n)) ((leb (entriesHeld 24 (F .n)) i, 9) ∷ []) health.saysHealthRead
-        health-read.Refused (λ n. refl) (λ f. health.healthAt f i) (health-read.Entry (entryIn health.coding i (frameBits F))) refl refl
+        health-read.Refused (λ n. refl) (λ f. health.healthAt f i) (health-read.Entry (healthIn bs i)) refl refl
 
-    pub correction-row-order : (lent : List ℕ) → rowTo correction-bytes.row (corrections.entrySaid (frameSaid bs) i) lent
-        ≡ inOrder (entryOrder layout.Correction 40 correction-bytes.row bs i lent) refuses (answers tt)
+    pub correction-row-order : (lent : List ℕ) → rowTo (correction-bytes.row Gps) (corrections.entrySaid (frameSaid bs) i) lent
+        ≡ inOrder (entryOrder layout.Correction 40 (correction-bytes.row Gps) bs i (correctionChecks bs i) lent) refuses (answers tt)
     correction-row-order lent =
-        ap (λ s. rowTo correction-bytes.row s lent) correction-entry
-        ∙ row-order correction-bytes.row (recallOrder bs ++ entryChecks layout.Correction 40 F i) (entryIn correction.coding i (frameBits F)) lent
+        ap (λ s. rowTo (correction-bytes.row Gps) s lent) correction-entry
+        ∙ row-order (correction-bytes.row Gps) (recallOrder bs ++ entryChecks layout.Correction 40 F i (correctionChecks bs i)) (correctionIn bs i) lent
 
-    pub health-row-order : (lent : List ℕ) → rowTo health-bytes.row (healths.entrySaid (frameSaid bs) i) lent
-        ≡ inOrder (entryOrder layout.Health 24 health-bytes.row bs i lent) refuses (answers tt)
+    pub health-row-order : (lent : List ℕ) → rowTo (health-bytes.row Gps) (healths.entrySaid (frameSaid bs) i) lent
+        ≡ inOrder (entryOrder layout.Health 24 (health-bytes.row Gps) bs i [] lent) refuses (answers tt)
     health-row-order lent =
-        ap (λ s. rowTo health-bytes.row s lent) health-entry
-        ∙ row-order health-bytes.row (recallOrder bs ++ entryChecks layout.Health 24 F i) (entryIn health.coding i (frameBits F)) lent
+        ap (λ s. rowTo (health-bytes.row Gps) s lent) health-entry
+        ∙ row-order (health-bytes.row Gps) (recallOrder bs ++ entryChecks layout.Health 24 F i []) (healthIn bs i) lent

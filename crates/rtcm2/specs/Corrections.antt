@@ -1,4 +1,4 @@
--- Corrections, types 1 and 9: what counting, reading and making say of the frame or the header that there was. Assumes nothing.
+-- Corrections, types 1, 9, 31 and 34: what counting, reading and making say of the frame or the header that there was. Assumes nothing.
 use mathlib.Core.List.{List}
 use Prim.Native.Nat.{ℕ}
 use Rattle.answer.specs.Order.{Says}
@@ -15,7 +15,7 @@ use Rattle.rtcm2.specs.Rows.{madeOf}
 abbrev pub countSaid : Says Frame → Says ℕ
 countSaid said = andThen said (λ f. saysCount (countCorrections f))
 
--- ENTRY: the refusal that there was, or 6, 7, 8, 9
+-- ENTRY: the refusal that there was, or 6, 7, 8, 9, 10
 abbrev pub entrySaid : Says Frame → ℕ → Says Correction
 entrySaid said i = andThen said (λ f. saysCorrectionRead (correctionAt f i))
 

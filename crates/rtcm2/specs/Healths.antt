@@ -1,4 +1,4 @@
--- Constellation health, type 5: what counting, reading and making say of the frame or the header that there was. Assumes nothing.
+-- Constellation health, types 5 and 33: what counting, reading and making say of the frame or the header that there was. Assumes nothing.
 use mathlib.Core.List.{List}
 use Prim.Native.Nat.{ℕ}
 use Rattle.answer.specs.Order.{Says}

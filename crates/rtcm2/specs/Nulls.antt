@@ -7,10 +7,10 @@ use Rattle.record_nulls.specs.Nulls.{readNull, saysNullRead, makeNull}
 use Rattle.rtcm2.specs.Answer.{andThen}
 use Rattle.rtcm2.specs.Header.{headed}
 
--- READING: the refusal that there was, then 6, 7, 8
-abbrev pub nullSaid : Says Frame → Says (Unit {0})
+-- READING: the refusal that there was, then 6, 7, 8, or N
+abbrev pub nullSaid : Says Frame → Says ℕ
 nullSaid said = andThen said (λ f. saysNullRead (readNull f))
 
--- MAKING: 5, 6, 7
-abbrev pub makeSaid : ℕ → ℕ → ℕ → ℕ → ℕ → Says Frame
-makeSaid kind station z sequence health = andThen (headed kind station z sequence health) (λ h. saysMade (makeNull h))
+-- MAKING with N words: 5, 6, 7, 12
+abbrev pub makeSaid : ℕ → ℕ → ℕ → ℕ → ℕ → ℕ → Says Frame
+makeSaid kind station z sequence health n = andThen (headed kind station z sequence health) (λ h. saysMade (makeNull h n))

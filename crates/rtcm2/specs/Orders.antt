@@ -3,27 +3,32 @@ use mathlib.Core.Bool.{Bool, not}
 use mathlib.Core.List.{List, [], _∷_, _++_}
 use Prim.Native.Nat.{ℕ, _+_, _*_, _/_, _%_}
 use lib.Dec.{ltb, leb, eqb}
-use lib.ListN.{length, take}
+use lib.ListN.{length, take, replicate}
 use Rattle.answer.specs.Order.{Check}
 use Rattle.frame.specs.Frames.{framed, frameOf}
 use Rattle.frame.specs.Header.{stateOf}
+use Rattle.frame.specs.Layout.{systemOf}
 use Rattle.frame.specs.Widths.{anyOf, headerOutside, late}
 use Rattle.frame.specs.declared.Frame.{Frame}
 use Rattle.frame.specs.declared.Header.{Header}
 use Rattle.frame.specs.declared.Layout.{Layout}
 use Rattle.frame.specs.declared.Layout.the-variants as layout
+use Rattle.frame.specs.declared.System.{System}
 use Rattle.stream.specs.Standing.{frameAt}
 use Rattle.reader.specs.Reading.{bitsOf, past, frameWaits}
 use Rattle.journal.specs.Bytes.{wordsFrom}
 use Rattle.journal.specs.Forms.{wordsAfter}
 use Rattle.journal.specs.Journal.{recallOrder}
 use Rattle.writer.specs.Sending.{lineLength}
-use Rattle.record_fields.specs.Coding.{Coding, frameWith}
+use Rattle.record_fields.specs.Coding.{Coding, frameBits, entryIn, frameWith}
 use Rattle.record_stages.specs.Stages.{wrongCount, otherLayout, entriesHeld, misfit, wrongSize, makeOrder}
 use Rattle.record_corrections.specs.Corrections as correction
 use Rattle.record_healths.specs.Healths as health
 use Rattle.record_positions.specs.Positions as position
+use Rattle.record_nulls.specs.Nulls as null
 use Rattle.record_texts.specs.Texts as text
+use Rattle.record_corrections.specs.declared.Correction.{Correction}
+use Rattle.record_healths.specs.declared.SatelliteHealth.{SatelliteHealth}
 use Rattle.record_positions.specs.declared.Position.{Position}
 use Rattle.rtcm2_state.specs.State.{stateSize, holdsState, stateIn}
 use Rattle.rtcm2_rows.specs.Rows.{rowSize, countOf, entriesFrom}
@@ -56,6 +61,10 @@ takeOrder state frame =
 abbrev pub frameFrom : List ℕ → Frame
 frameFrom bs = frameOf (wordsAfter 3 bs)
 
+-- the system of its type
+abbrev pub systemFrom : List ℕ → System
+systemFrom bs = systemOf (frameFrom bs .header .kind)
+
 -- WRITE: then 5 for either carried bit, 7, 13
 abbrev pub writeOrder : List ℕ → ℕ → ℕ → List ℕ → List Check
 writeOrder bs d29 d30 line =
@@ -70,12 +79,24 @@ recordChecks asked f wrongN more = (otherLayout asked (f .header .kind), 6) ∷ 
 abbrev pub countOrder : Layout → ℕ → List ℕ → List Check
 countOrder asked width bs = recallOrder bs ++ recordChecks asked (frameFrom bs) (misfit width (frameFrom bs .n)) []
 
--- ENTRY: then 6, 7, 8, 9, and 13 for its row
-abbrev pub entryChecks : Layout → ℕ → Frame → ℕ → List Check
-entryChecks asked width f i = recordChecks asked f (misfit width (f .n)) ((leb (entriesHeld width (f .n)) i, 9) ∷ [])
+-- ENTRY: then 6, 7, 8, 9, its own, and 13 for its row
+abbrev pub entryChecks : Layout → ℕ → Frame → ℕ → List Check → List Check
+entryChecks asked width f i more = recordChecks asked f (misfit width (f .n)) ((leb (entriesHeld width (f .n)) i, 9) ∷ more)
 
-abbrev pub entryOrder : {A : Type 0} → Layout → ℕ → Coding A → List ℕ → ℕ → List ℕ → List Check
-entryOrder asked width row bs i lent = (recallOrder bs ++ entryChecks asked width (frameFrom bs) i) ++ ((ltb (length lent) (rowSize row), 13) ∷ [])
+abbrev pub entryOrder : {A : Type 0} → Layout → ℕ → Coding A → List ℕ → ℕ → List Check → List ℕ → List Check
+entryOrder asked width row bs i more lent =
+    (recallOrder bs ++ entryChecks asked width (frameFrom bs) i more) ++ ((ltb (length lent) (rowSize row), 13) ∷ [])
+
+-- the correction at i, and its own: 10
+abbrev pub correctionIn : List ℕ → ℕ → Correction
+correctionIn bs i = entryIn (correction.coding (systemFrom bs)) i (frameBits (frameFrom bs))
+
+abbrev pub correctionChecks : List ℕ → ℕ → List Check
+correctionChecks bs i = (correction.outOfRange (systemFrom bs) (correctionIn bs i), 10) ∷ []
+
+-- the health at i, which has none of its own
+abbrev pub healthIn : List ℕ → ℕ → SatelliteHealth
+healthIn bs i = entryIn (health.coding (systemFrom bs)) i (frameBits (frameFrom bs))
 
 -- POSITION: then 6, 7, 8, 10
 abbrev pub positionOrder : List ℕ → List Check
@@ -85,7 +106,7 @@ positionOrder bs =
 
 -- NULL: then 6, 7, 8
 abbrev pub nullOrder : List ℕ → List Check
-nullOrder bs = recallOrder bs ++ recordChecks layout.Null (frameFrom bs) (wrongSize 0 (frameFrom bs .n)) []
+nullOrder bs = recallOrder bs ++ recordChecks layout.Null (frameFrom bs) (null.tooMany (systemFrom bs) (frameFrom bs .n)) []
 
 -- TEXT: then 6, 7, 8, 11, 13
 abbrev pub textReadOrder : List ℕ → List ℕ → List Check
@@ -93,7 +114,7 @@ textReadOrder bs buffer =
     let f = frameFrom bs in
     recallOrder bs
     ++ recordChecks layout.Text f (text.wrongWords (f .n))
-    ((anyOf text.forbidden (text.textIn f), 11) ∷ (ltb (length buffer) (text.lengthIn f), 13) ∷ [])
+    ((anyOf (text.forbidden (systemFrom bs)) (text.textIn f), 11) ∷ (ltb (length buffer) (text.lengthIn f), 13) ∷ [])
 
 -- ---- a frame goes out: 5 first, 13 last
 
@@ -106,12 +127,15 @@ abbrev pub listChecks : {A : Type 0} → ℕ → (A → Bool) → List A → ℕ
 listChecks most out es c = (wrongCount most c, 12) ∷ (anyOf out (take c es), 10) ∷ []
 
 -- a text's own: 12, 11
-abbrev pub textChecks : List ℕ → List Check
-textChecks t = (wrongCount 90 (length t), 12) ∷ (anyOf text.forbidden t, 11) ∷ []
+abbrev pub textChecks : System → List ℕ → List Check
+textChecks s t = (wrongCount 90 (length t), 12) ∷ (anyOf (text.forbidden s) t, 11) ∷ []
 
 module _ (kind station z sequence code : ℕ) where
   abbrev H : Header
   H = headerWith kind station z sequence code
+
+  abbrev S : System
+  S = systemOf kind
 
   -- MAKING: 5, a health over 7 too, 6, 7, the layout's own, 13
   abbrev pub madeOrder : Layout → List Check → Frame → List ℕ → List Check
@@ -120,23 +144,24 @@ module _ (kind station z sequence code : ℕ) where
   -- corrections: 12, 10
   abbrev pub correctionsFrame : List ℕ → Frame
   correctionsFrame bs =
-      frameWith correction.fill correction.coding H
-      (take (countOf (rowSize correction-bytes.row) (length bs)) (entriesFrom correction-bytes.row 18 bs))
+      frameWith correction.fill (correction.coding S) H
+      (take (countOf (rowSize (correction-bytes.row S)) (length bs)) (entriesFrom (correction-bytes.row S) 18 bs))
 
   abbrev pub correctionsOrder : List ℕ → List ℕ → List Check
   correctionsOrder bs buffer =
       madeOrder layout.Correction
-      (listChecks 18 correction.outOfRange (entriesFrom correction-bytes.row 18 bs) (countOf (rowSize correction-bytes.row) (length bs)))
+      (listChecks 18 (correction.outOfRange S) (entriesFrom (correction-bytes.row S) 18 bs) (countOf (rowSize (correction-bytes.row S)) (length bs)))
       (correctionsFrame bs) buffer
 
   -- constellation health: 12, 10
   abbrev pub healthsFrame : List ℕ → Frame
-  healthsFrame bs = frameWith health.fill health.coding H (take (countOf (rowSize health-bytes.row) (length bs)) (entriesFrom health-bytes.row 31 bs))
+  healthsFrame bs =
+      frameWith health.fill (health.coding S) H (take (countOf (rowSize (health-bytes.row S)) (length bs)) (entriesFrom (health-bytes.row S) 31 bs))
 
   abbrev pub healthsOrder : List ℕ → List ℕ → List Check
   healthsOrder bs buffer =
       madeOrder layout.Health
-      (listChecks 31 health.outOfRange (entriesFrom health-bytes.row 31 bs) (countOf (rowSize health-bytes.row) (length bs)))
+      (listChecks 31 (health.outOfRange S) (entriesFrom (health-bytes.row S) 31 bs) (countOf (rowSize (health-bytes.row S)) (length bs)))
       (healthsFrame bs) buffer
 
   -- a position: 10
@@ -146,19 +171,19 @@ module _ (kind station z sequence code : ℕ) where
   abbrev pub positionMadeOrder : Position → List ℕ → List Check
   positionMadeOrder p buffer = madeOrder layout.Position ((position.outOfRange p, 10) ∷ []) (positionFrame p) buffer
 
-  -- the null frame
-  abbrev pub nullFrame : Frame
-  nullFrame = framed H []
+  -- the null frame: 12
+  abbrev pub nullFrame : ℕ → Frame
+  nullFrame n = framed H (replicate n null.fill)
 
-  abbrev pub nullMadeOrder : List ℕ → List Check
-  nullMadeOrder buffer = madeOrder layout.Null [] nullFrame buffer
+  abbrev pub nullMadeOrder : ℕ → List ℕ → List Check
+  nullMadeOrder n buffer = madeOrder layout.Null ((null.tooMany S n, 12) ∷ []) (nullFrame n) buffer
 
   -- a text: 12, 11
   abbrev pub textFrame : List ℕ → Frame
   textFrame t = frameWith text.fill text.coding H t
 
   abbrev pub textMadeOrder : List ℕ → List ℕ → List Check
-  textMadeOrder t buffer = madeOrder layout.Text (textChecks t) (textFrame t) buffer
+  textMadeOrder t buffer = madeOrder layout.Text (textChecks S t) (textFrame t) buffer
 
   -- KEEP: 5 for a health over 7, for bytes that are no whole number of words or over 31, for another number of the header; 13
   abbrev pub wordsFrame : List ℕ → Frame

@@ -5,6 +5,8 @@ use lib.ListN.{length}
 use Rattle.answer.specs.Order.{Says}
 use Rattle.frame.specs.declared.Frame.{Frame}
 use Rattle.frame.specs.declared.Header.{Header}
+use Rattle.frame.specs.declared.System.{System}
+use Rattle.frame.specs.Layout.{systemOf}
 use Rattle.record_fields.specs.Coding.{Coding}
 use Rattle.record_stages.specs.Stages.{saysMade}
 use Rattle.record_stages.specs.declared.Made.{Made}
@@ -20,6 +22,7 @@ module _ {A : Type 0} (k : Coding A) where
   abbrev pub rowHeld : Says A → List ℕ → List ℕ
   rowHeld said bytes = left said (λ e. rowAfter k e bytes) bytes
 
-  -- COME IN: what is made of a header and the rows, as many as the bytes are and at most `most`
-  abbrev pub madeOf : (Header → List A → ℕ → Made) → (most : ℕ) → Says Header → List ℕ → Says Frame
-  madeOf make most said bytes = andThen said (λ h. saysMade (make h (entriesFrom k most bytes) (countOf (rowSize k) (length bytes))))
+-- COME IN: what is made of a header and the rows of its type's system, as many as the bytes are and at most `most`
+abbrev pub madeOf : {A : Type 0} → (System → Coding A) → (Header → List A → ℕ → Made) → (most : ℕ) → Says Header → List ℕ → Says Frame
+madeOf row make most said bytes =
+    andThen said (λ h. let k = row (systemOf (h .kind)) in saysMade (make h (entriesFrom k most bytes) (countOf (rowSize k) (length bytes))))

@@ -1,4 +1,5 @@
--- What a record's numbers stand for, as a flag and a number: stop, no upper limit and not tracked have no number. Assumes nothing.
+-- What a record's numbers stand for, as a flag and a number: stop, no upper limit and not tracked have no number; and a text's letters. Assumes
+-- nothing.
 use mathlib.Core.Bool.{Bool}
 use mathlib.Core.List.{[], _∷_}
 use Prim.Native.Nat.{ℕ}
@@ -7,7 +8,7 @@ use lib.IntN.{ℤ, pos}
 use Rattle.answer.specs.Order.{Says, refuses, answers, inOrder}
 use Rattle.frame.specs.Header.{stateOf}
 use Rattle.record_values.specs.Values.{Reading, exactly, stop, stopsUse, Bound, upTo, noLimit, Signal, dbHz, notTracked}
-use Rattle.record_values.specs.Answer.{prcMm, rrcMmS, udreLimit, cn0DbHz, saysDistance, saysRate, saysLimit, saysStrength}
+use Rattle.record_values.specs.Answer.{prcMm, rrcMmS, udreLimit, cn0DbHz, letterOf, saysDistance, saysRate, saysLimit, saysStrength, saysLetter}
 
 -- ---- what each call says
 
@@ -27,6 +28,10 @@ limitSaid health udre = inOrder ((ltb 7 health, 5) ∷ []) refuses (saysLimit (u
 
 abbrev pub strengthSaid : ℕ → Says Signal
 strengthSaid code = saysStrength (cn0DbHz code)
+
+-- a character's number in Unicode
+abbrev pub letterSaid : ℕ → Says ℕ
+letterSaid code = saysLetter (letterOf code)
 
 -- ---- the flag and the number
 

@@ -1,6 +1,8 @@
-// Corrections of types 1 and 9: counted, read and made.
+// Corrections of types 1, 9, 31 and 34: counted, read and made.
 ghost use mathlib.Core.Path.{_≡_};
 ghost use lib.ListN.{length};
+ghost use Rattle.frame.specs.Layout.{systemOf};
+ghost use Rattle.frame.specs.declared.System.the-variants.{Gps};
 ghost use Rattle.record_corrections.specs.Corrections.{makeCorrections, saysCorrectionRead};
 ghost use Rattle.rtcm2_rows.specs.Rows.{rowSize, countOf, entriesFrom};
 ghost use Rattle.rtcm2_rows.specs.Corrections.{row};
@@ -34,8 +36,8 @@ pub extern "C" fn rtcm2_count_corrections(frame: &[u8], count: &mut usize) -> u8
 
 // A correction as a row at the start of the bytes: the refusal that there was, or 13.
 fn entry_to(read: CorrectionRead, correction: &mut [u8]) -> u8
-    ensures { λ r. ⌜ r ≡ numberOf (rowTo row (saysCorrectionRead read) (now (correction .entry))) ⌝ }
-    ensures { λ _. ⌜ now (correction .exit) ≡ rowHeld row (saysCorrectionRead read) (now (correction .entry)) ⌝ }
+    ensures { λ r. ⌜ r ≡ numberOf (rowTo (row Gps) (saysCorrectionRead read) (now (correction .entry))) ⌝ }
+    ensures { λ _. ⌜ now (correction .exit) ≡ rowHeld (row Gps) (saysCorrectionRead read) (now (correction .entry)) ⌝ }
 {
     match read {
         CorrectionRead::Entry(entry) => {
@@ -45,11 +47,11 @@ fn entry_to(read: CorrectionRead, correction: &mut [u8]) -> u8
     }
 }
 
-// Correction number `index` of a frame. Order 14, 15, 16, 15, 16, then 6, 7, 8, 9, 13.
+// Correction number `index` of a frame. Order 14, 15, 16, 15, 16, then 6, 7, 8, 9, 10, 13.
 #[no_mangle]
 pub extern "C" fn rtcm2_correction_at(frame: &[u8], index: usize, correction: &mut [u8]) -> u8
-    ensures { λ r. ⌜ r ≡ numberOf (rowTo row (entrySaid (frameSaid (now (frame .entry))) index) (now (correction .entry))) ⌝ }
-    ensures { λ _. ⌜ now (correction .exit) ≡ rowHeld row (entrySaid (frameSaid (now (frame .entry))) index) (now (correction .entry)) ⌝ }
+    ensures { λ r. ⌜ r ≡ numberOf (rowTo (row Gps) (entrySaid (frameSaid (now (frame .entry))) index) (now (correction .entry))) ⌝ }
+    ensures { λ _. ⌜ now (correction .exit) ≡ rowHeld (row Gps) (entrySaid (frameSaid (now (frame .entry))) index) (now (correction .entry)) ⌝ }
 {
     let recalled = journal::recall(frame);
     let answer = recalled.answer;
@@ -62,12 +64,14 @@ pub extern "C" fn rtcm2_correction_at(frame: &[u8], index: usize, correction: &m
     }
 }
 
-// The frame of a header and the corrections in these bytes.
+// The frame of a header and the corrections in these bytes, which are of its type's system.
 fn made_of(header: Header, corrections: &[u8]) -> Made
-    ensures { λ r. ⌜ r ≡ makeCorrections header (entriesFrom row 18 (now (corrections .entry))) (countOf (rowSize row) (length (now (corrections .entry)))) ⌝ }
+    ensures { λ r. ⌜ r ≡ makeCorrections header (entriesFrom (row (systemOf (header .kind))) 18 (now (corrections .entry)))
+        (countOf (rowSize (row Gps)) (length (now (corrections .entry)))) ⌝ }
 {
     let count = rtcm2_rows::row::count_of(rtcm2_rows::correction::SIZE, corrections.len());
-    let entries = rtcm2_rows::correction::corrections_in(corrections);
+    let system = frame::system_of(header.kind);
+    let entries = rtcm2_rows::correction::corrections_in(system, corrections);
     record_corrections::make_corrections(header, entries, count)
 }
 

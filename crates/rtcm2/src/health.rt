@@ -1,6 +1,8 @@
-// Satellites' health of type 5: counted, read and made.
+// Satellites' health of types 5 and 33: counted, read and made.
 ghost use mathlib.Core.Path.{_≡_};
 ghost use lib.ListN.{length};
+ghost use Rattle.frame.specs.Layout.{systemOf};
+ghost use Rattle.frame.specs.declared.System.the-variants.{Gps};
 ghost use Rattle.record_healths.specs.Healths.{makeHealths, saysHealthRead};
 ghost use Rattle.rtcm2_rows.specs.Rows.{rowSize, countOf, entriesFrom};
 ghost use Rattle.rtcm2_rows.specs.Healths.{row};
@@ -34,8 +36,8 @@ pub extern "C" fn rtcm2_count_healths(frame: &[u8], count: &mut usize) -> u8
 
 // A satellite's health as a row at the start of the bytes: the refusal that there was, or 13.
 fn entry_to(read: HealthRead, bytes: &mut [u8]) -> u8
-    ensures { λ r. ⌜ r ≡ numberOf (rowTo row (saysHealthRead read) (now (bytes .entry))) ⌝ }
-    ensures { λ _. ⌜ now (bytes .exit) ≡ rowHeld row (saysHealthRead read) (now (bytes .entry)) ⌝ }
+    ensures { λ r. ⌜ r ≡ numberOf (rowTo (row Gps) (saysHealthRead read) (now (bytes .entry))) ⌝ }
+    ensures { λ _. ⌜ now (bytes .exit) ≡ rowHeld (row Gps) (saysHealthRead read) (now (bytes .entry)) ⌝ }
 {
     match read {
         HealthRead::Entry(entry) => {
@@ -48,8 +50,8 @@ fn entry_to(read: HealthRead, bytes: &mut [u8]) -> u8
 // Entry number `index` of a frame. Order 14, 15, 16, 15, 16, then 6, 7, 8, 9, 13.
 #[no_mangle]
 pub extern "C" fn rtcm2_health_at(frame: &[u8], index: usize, bytes: &mut [u8]) -> u8
-    ensures { λ r. ⌜ r ≡ numberOf (rowTo row (entrySaid (frameSaid (now (frame .entry))) index) (now (bytes .entry))) ⌝ }
-    ensures { λ _. ⌜ now (bytes .exit) ≡ rowHeld row (entrySaid (frameSaid (now (frame .entry))) index) (now (bytes .entry)) ⌝ }
+    ensures { λ r. ⌜ r ≡ numberOf (rowTo (row Gps) (entrySaid (frameSaid (now (frame .entry))) index) (now (bytes .entry))) ⌝ }
+    ensures { λ _. ⌜ now (bytes .exit) ≡ rowHeld (row Gps) (entrySaid (frameSaid (now (frame .entry))) index) (now (bytes .entry)) ⌝ }
 {
     let recalled = journal::recall(frame);
     let answer = recalled.answer;
@@ -62,12 +64,14 @@ pub extern "C" fn rtcm2_health_at(frame: &[u8], index: usize, bytes: &mut [u8]) 
     }
 }
 
-// The frame of a header and the satellites' health in these bytes.
+// The frame of a header and the satellites' health in these bytes, which are of its type's system.
 fn made_of(header: Header, healths: &[u8]) -> Made
-    ensures { λ r. ⌜ r ≡ makeHealths header (entriesFrom row 31 (now (healths .entry))) (countOf (rowSize row) (length (now (healths .entry)))) ⌝ }
+    ensures { λ r. ⌜ r ≡ makeHealths header (entriesFrom (row (systemOf (header .kind))) 31 (now (healths .entry)))
+        (countOf (rowSize (row Gps)) (length (now (healths .entry)))) ⌝ }
 {
     let count = rtcm2_rows::row::count_of(rtcm2_rows::health::SIZE, healths.len());
-    let entries = rtcm2_rows::health::healths_in(healths);
+    let system = frame::system_of(header.kind);
+    let entries = rtcm2_rows::health::healths_in(system, healths);
     record_healths::make_healths(header, entries, count)
 }
 

@@ -1,4 +1,4 @@
-// Text, type 16: 1 to 90 characters 1 to 127.
+// Text: 1 to 90 characters, 1 to 127 in type 16, 1 to 191 in type 36.
 ghost use mathlib.Core.Path.{_≡_};
 ghost use Rattle.rtcm2.specs.Answer.{numberOf};
 ghost use Rattle.rtcm2.specs.Frames.{frameSaid, keptTo, heldTo, sizeTo};

@@ -2,8 +2,10 @@
 ghost use mathlib.Core.Path.{_≡_};
 ghost use Rattle.bits.specs.Bits.{val};
 ghost use Rattle.rtcm2.specs.Answer.{numberOf, left};
-ghost use Rattle.rtcm2.specs.Values.{prcSaid, rrcSaid, stopsSaid, limitSaid, strengthSaid, stopFlag, exactOr0, limitFlag, limitOr0, trackedFlag, dbHzOr0};
+ghost use Rattle.rtcm2.specs.Values.{prcSaid, rrcSaid, stopsSaid, limitSaid, strengthSaid, letterSaid};
+ghost use Rattle.rtcm2.specs.Values.{stopFlag, exactOr0, limitFlag, limitOr0, trackedFlag, dbHzOr0};
 use record_values::Distance;
+use record_values::Letter;
 use record_values::Limit;
 use record_values::Rate;
 use record_values::Strength;
@@ -111,5 +113,20 @@ pub extern "C" fn rtcm2_cn0_dbhz(code: u8, tracked: &mut u8, dbhz: &mut u8) -> u
             0
         }
         Strength::Refused(number) => number,
+    }
+}
+
+// A character of a text as its number in Unicode. Order 11.
+#[no_mangle]
+pub extern "C" fn rtcm2_letter_of(code: u8, letter: &mut u32) -> u8
+    ensures { λ r. ⌜ r ≡ numberOf (letterSaid code) ⌝ }
+    ensures { λ _. ⌜ now (letter .exit) ≡ left (letterSaid code) (λ k. k) (now (letter .entry)) ⌝ }
+{
+    match record_values::letter_of(code) {
+        Letter::Unicode(unicode) => {
+            *letter = unicode;
+            0
+        }
+        Letter::Refused(number) => number,
     }
 }

@@ -8,12 +8,14 @@ use Rattle.answer.specs.Order.{refuses, answers, inOrder}
 use Rattle.answer.proofs.OrderLaws.{says-order}
 use Rattle.line.specs.Line.{isData}
 use Rattle.frame.specs.declared.Layout.the-variants as layout
+use Rattle.frame.specs.declared.System.the-variants.{Gps}
 use Rattle.reader.specs.Reading.{busy, steppedBy, fedBy}
 use Rattle.reader.specs.declared.Answer.the-variants.{Done, Refused}
 use Rattle.reader.specs.declared.Next.{Next}
 use Rattle.journal.specs.Journal.{recallOrder}
 use Rattle.writer.specs.Answer.{openChecks}
-use Rattle.record_values.proofs.AnswerLaws.{prc-says, rrc-says, cn0-says}
+use Rattle.record_values.specs.Values.{noLetter}
+use Rattle.record_values.proofs.AnswerLaws.{prc-says, rrc-says, cn0-says, letter-says}
 use Rattle.reader.specs.declared.Candidate.{Candidate}
 use Rattle.rtcm2_state.specs.State.{stateIn, putChecks, storedBy, saysStored}
 use Rattle.rtcm2_state.specs.declared.Stored.the-variants as stored
@@ -66,11 +68,13 @@ library-numbers = record {
   recall = λ bs. ordered (recallOrder bs) _ (reads.recall-order bs) refl refl;
   count-corrections = λ bs fits. ordered (in-order.countOrder layout.Correction 40 bs) _ (reads.corrections-counted bs fits) refl refl;
   correction-at = λ bs fits i lent.
-      ordered (in-order.entryOrder layout.Correction 40 correction.row bs i lent) _ (reads.correction-row-order bs fits i lent) refl refl;
+      ordered (in-order.entryOrder layout.Correction 40 (correction.row Gps) bs i (in-order.correctionChecks bs i) lent) _
+      (reads.correction-row-order bs fits i lent) refl refl;
   make-corrections = λ kind station z sequence code bs buffer.
       ordered (in-order.correctionsOrder kind station z sequence code bs buffer) _ (makes.corrections-made kind station z sequence code buffer bs) refl refl;
   count-healths = λ bs fits. ordered (in-order.countOrder layout.Health 24 bs) _ (reads.healths-counted bs fits) refl refl;
-  health-at = λ bs fits i lent. ordered (in-order.entryOrder layout.Health 24 health.row bs i lent) _ (reads.health-row-order bs fits i lent) refl refl;
+  health-at = λ bs fits i lent.
+      ordered (in-order.entryOrder layout.Health 24 (health.row Gps) bs i [] lent) _ (reads.health-row-order bs fits i lent) refl refl;
   make-healths = λ kind station z sequence code bs buffer.
       ordered (in-order.healthsOrder kind station z sequence code bs buffer) _ (makes.healths-made kind station z sequence code buffer bs) refl refl;
   read-position = λ bs fits. ordered (in-order.positionOrder bs) _ (reads.position-order bs fits) refl refl;
@@ -78,8 +82,8 @@ library-numbers = record {
       ordered (in-order.positionMadeOrder kind station z sequence code (record { x = x; y = y; z = up }) buffer) _
       (makes.position-made kind station z sequence code buffer x y up) refl refl;
   read-null = λ bs fits. ordered (in-order.nullOrder bs) _ (reads.null-order bs fits) refl refl;
-  make-null = λ kind station z sequence code buffer.
-      ordered (in-order.nullMadeOrder kind station z sequence code buffer) _ (makes.null-made kind station z sequence code buffer) refl refl;
+  make-null = λ kind station z sequence code n buffer.
+      ordered (in-order.nullMadeOrder kind station z sequence code n buffer) _ (makes.null-made kind station z sequence code buffer n) refl refl;
   read-text = λ bs fits buffer. ordered (in-order.textReadOrder bs buffer) _ (reads.text-order bs fits buffer) refl refl;
   make-text = λ kind station z sequence code t buffer.
       ordered (in-order.textMadeOrder kind station z sequence code t buffer) _ (makes.text-made kind station z sequence code buffer t) refl refl;
@@ -88,8 +92,9 @@ library-numbers = record {
   stops = λ prc rrc. ordered [] _ refl refl refl;
   udre-limit-mm = λ code udre. ordered (in-order.limitOrder code udre) _ (limit-order code udre) refl refl;
   cn0-dbhz = λ code. ordered ((ltb 31 code, 10) ∷ []) _ (cn0-says code) refl refl;
+  letter-of = λ code. ordered ((noLetter code, 11) ∷ []) _ (letter-says code) refl refl;
   put-start = put-stored;
   put-state = λ r bytes. put-stored (r .candidate) bytes;
-  put-correction = put-ordered correction.row;
-  put-health = put-ordered health.row;
+  put-correction = put-ordered (correction.row Gps);
+  put-health = put-ordered (health.row Gps);
 }

@@ -6,6 +6,7 @@ use Prim.Native.Nat.{ℕ}
 use Rattle.answer.specs.Order.{Says, refuses, answers}
 use Rattle.answer.proofs.OrderLaws.{refuses-apart}
 use Rattle.frame.specs.declared.Frame.{Frame}
+use Rattle.frame.specs.declared.System.the-variants.{Gps}
 use Rattle.reader.specs.declared.Candidate.{Candidate}
 use Rattle.reader.specs.declared.Reader.{Reader}
 use Rattle.record_fields.specs.Coding.{Coding}
@@ -69,14 +70,15 @@ library-keeps = record {
   recall = λ frame kind station z sequence code m size.
       (λ n e. rw e, λ n e. rw e, λ n e. rw e, λ n e. rw e, λ n e. rw e, λ n e. rw e, λ n e. rw e);
   count-corrections = λ frame count n e. rw e;
-  correction-at = λ frame i. entry-keeps correction.row (corrections.entrySaid (frameSaid frame) i);
+  correction-at = λ frame i. entry-keeps (correction.row Gps) (corrections.entrySaid (frameSaid frame) i);
   make-corrections = λ kind station z sequence code rows. made-keeps (corrections.madeSaid (headed kind station z sequence code) rows);
   count-healths = λ frame count n e. rw e;
-  health-at = λ frame i. entry-keeps health.row (healths.entrySaid (frameSaid frame) i);
+  health-at = λ frame i. entry-keeps (health.row Gps) (healths.entrySaid (frameSaid frame) i);
   make-healths = λ kind station z sequence code rows. made-keeps (healths.madeSaid (headed kind station z sequence code) rows);
   read-position = λ frame x y up. (λ n e. rw e, λ n e. rw e, λ n e. rw e);
   make-position = λ kind station z sequence code x y up. made-keeps (positions.makeSaid kind station z sequence code x y up);
-  make-null = λ kind station z sequence code. made-keeps (nulls.makeSaid kind station z sequence code);
+  read-null = λ frame m n e. rw e;
+  make-null = λ kind station z sequence code n. made-keeps (nulls.makeSaid kind station z sequence code n);
   read-text = λ frame text size. (text-keeps (frameSaid frame) text, λ n e. rw e);
   make-text = λ kind station z sequence code t. made-keeps (texts.makeSaid kind station z sequence code t);
   prc-mm = λ scale prc stop mm. (λ n e. rw e, λ n e. rw e);
@@ -84,8 +86,9 @@ library-keeps = record {
   stops = λ prc rrc stop n e. absurd (refuses-apart n _ (sym e));
   udre-limit-mm = λ code udre limited mm. (λ n e. rw e, λ n e. rw e);
   cn0-dbhz = λ code tracked dbhz. (λ n e. rw e, λ n e. rw e);
-  put-correction = λ entry lent. entry-keeps correction.row (answers entry) lent;
-  put-health = λ entry lent. entry-keeps health.row (answers entry) lent;
+  letter-of = λ code letter n e. rw e;
+  put-correction = λ entry lent. entry-keeps (correction.row Gps) (answers entry) lent;
+  put-health = λ entry lent. entry-keeps (health.row Gps) (answers entry) lent;
   put-start = start-keeps;
   put-state = state-keeps;
 }

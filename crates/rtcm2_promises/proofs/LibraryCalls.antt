@@ -90,7 +90,7 @@ library-calls = record {
     leaves = λ κs a z e p. two-places (p .1);
     ends = rtcm2.position.rtcm2_make_position.Met.met;
   };
-  read-null = record { asks-nothing = λ κs a. tt; settles = λ κs a z e p. p; ends = rtcm2.null.rtcm2_read_null.Met.met };
+  read-null = record { asks-nothing = λ κs a. tt; settles = λ κs a z e p. p .0; leaves = λ κs a z e p. p .1; ends = rtcm2.null.rtcm2_read_null.Met.met };
   make-null = record {
     asks-nothing = λ κs a. tt;
     settles = λ κs a z e p. p .0;
@@ -134,4 +134,5 @@ library-calls = record {
     leaves = λ κs a z e p. two-places (p .1);
     ends = rtcm2.values.rtcm2_cn0_dbhz.Met.met;
   };
+  letter-of = record { asks-nothing = λ κs a. tt; settles = λ κs a z e p. p .0; leaves = λ κs a z e p. p .1; ends = rtcm2.values.rtcm2_letter_of.Met.met };
 }

@@ -5,7 +5,7 @@ use mathlib.Core.List.{List, [], _∷_, _++_, append-assoc}
 use Prim.Native.Nat.{ℕ, _+_, _*_, _/_, _%_, _≤_, _<_}
 use native.Mathlib.Omega.{arith}
 use lib.Dec.{ltb, eqb}
-use lib.ListN.{length, take, drop, getD, length-append, length-drop}
+use lib.ListN.{length, take, drop, getD, replicate, length-append, length-drop}
 use lib.Seq.{take-all, take-at, drop-at}
 use borrow.Author.Tests.{le-ltb, eqb-true, not-false}
 use Rattle.answer.specs.Order.{Says, refuses, answers, Check, NoneApplies, inOrder}
@@ -18,9 +18,12 @@ use Rattle.bits.proofs.SignedLaws.{mag-signed}
 use Rattle.frame.specs.Header.{firstWord, secondWord}
 use Rattle.frame.specs.Frames.{framed, dataWords, wordsOf}
 use Rattle.frame.specs.Widths.{anyOf}
+use Rattle.frame.specs.Layout.{systemOf}
 use Rattle.frame.specs.declared.Frame.{Frame}
 use Rattle.frame.specs.declared.Header.{Header}
 use Rattle.frame.specs.declared.Layout.the-variants as layout
+use Rattle.frame.specs.declared.System.{System}
+use Rattle.frame.specs.declared.System.the-variants.{Gps, Glonass}
 use Rattle.frame.proofs.FrameLaws.{data-framed}
 use Rattle.journal.specs.Bytes.{bytesOf, written, wordsFrom}
 use Rattle.journal.specs.Journal.{recordOf}
@@ -33,6 +36,7 @@ use Rattle.record_stages.specs.declared.Made.{Made}
 use Rattle.record_stages.proofs.StageLaws.{done-apart, done-frame}
 use Rattle.record_stages.proofs.ListCode.{told-some-few}
 use Rattle.record_corrections.specs.Corrections as correction
+use Rattle.record_corrections.specs.Issues.{issueOf, issueIn, IssueTyped}
 use Rattle.record_corrections.specs.declared.Correction.{Correction}
 use Rattle.record_healths.specs.Healths as health
 use Rattle.record_healths.specs.declared.SatelliteHealth.{SatelliteHealth}
@@ -72,14 +76,14 @@ module _ (h : Header) where
   corrections-framed : (es : List Correction) (c : ℕ) (f : Frame) → saysMade (correction.makeCorrections h es c) ≡ answers f → (ws : List ℕ) × (framed h ws ≡ f)
   unfolding correction.makeCorrections frameWith
   corrections-framed es c =
-      framed-by (makeOrder layout.Correction h ((wrongCount 18 c, 12) ∷ (anyOf correction.outOfRange (take c es), 10) ∷ [])) h
-      (wordsIn correction.fill (entryBits correction.coding (take c es))) (correction.makeCorrections h es c) refl
+      framed-by (makeOrder layout.Correction h ((wrongCount 18 c, 12) ∷ (anyOf (correction.outOfRange (systemOf (h .kind))) (take c es), 10) ∷ [])) h
+      (wordsIn correction.fill (entryBits (correction.coding (systemOf (h .kind))) (take c es))) (correction.makeCorrections h es c) refl
 
   healths-framed : (es : List SatelliteHealth) (c : ℕ) (f : Frame) → saysMade (health.makeHealths h es c) ≡ answers f → (ws : List ℕ) × (framed h ws ≡ f)
   unfolding health.makeHealths frameWith
   healths-framed es c =
-      framed-by (makeOrder layout.Health h ((wrongCount 31 c, 12) ∷ (anyOf health.outOfRange (take c es), 10) ∷ [])) h
-      (wordsIn health.fill (entryBits health.coding (take c es))) (health.makeHealths h es c) refl
+      framed-by (makeOrder layout.Health h ((wrongCount 31 c, 12) ∷ (anyOf (health.outOfRange (systemOf (h .kind))) (take c es), 10) ∷ [])) h
+      (wordsIn health.fill (entryBits (health.coding (systemOf (h .kind))) (take c es))) (health.makeHealths h es c) refl
 
   position-framed : (p : Position) (f : Frame) → saysMade (position.makePosition h p) ≡ answers f → (ws : List ℕ) × (framed h ws ≡ f)
   unfolding position.makePosition frameWith
@@ -87,14 +91,14 @@ module _ (h : Header) where
       framed-by (makeOrder layout.Position h ((position.outOfRange p, 10) ∷ [])) h (wordsIn position.fill (entryBits position.coding (p ∷ [])))
       (position.makePosition h p) refl
 
-  null-framed : (f : Frame) → saysMade (null.makeNull h) ≡ answers f → (ws : List ℕ) × (framed h ws ≡ f)
+  null-framed : (n : ℕ) (f : Frame) → saysMade (null.makeNull h n) ≡ answers f → (ws : List ℕ) × (framed h ws ≡ f)
   unfolding null.makeNull
-  null-framed = framed-by (makeOrder layout.Null h []) h [] (null.makeNull h) refl
+  null-framed n = framed-by (makeOrder layout.Null h ((null.tooMany (systemOf (h .kind)) n, 12) ∷ [])) h (replicate n null.fill) (null.makeNull h n) refl
 
   text-framed : (t : List ℕ) (f : Frame) → saysMade (text.makeText h t) ≡ answers f → (ws : List ℕ) × (framed h ws ≡ f)
   unfolding text.makeText frameWith
   text-framed t =
-      framed-by (makeOrder layout.Text h ((wrongCount 90 (length t), 12) ∷ (anyOf text.forbidden t, 11) ∷ [])) h
+      framed-by (makeOrder layout.Text h ((wrongCount 90 (length t), 12) ∷ (anyOf (text.forbidden (systemOf (h .kind))) t, 11) ∷ [])) h
       (wordsIn text.fill (entryBits text.coding t)) (text.makeText h t) refl
 
 -- ---- lists, over the row: the count, and each row put again is its own bytes
@@ -127,29 +131,53 @@ module _ {A : Type 0} (row : Coding A) (Good : A → Type 0) (law : Faithful row
           ap (λ s. rowHeld row s lent) (back .each i l ∙ ap answers (entry-at row most rows i none (omega (arith, few)))) ∙ put i lent l long;
     }
 
-  module _ (kind station z sequence code : ℕ)
-      (whole : (h : Header) (f : Frame) → saysMade (make h es c) ≡ answers f → (ws : List ℕ) × (framed h ws ≡ f))
-      (reads : (h : Header) (f : Frame) → saysMade (make h es c) ≡ answers f → (c ≤ most) × ListBack counted entry width pattern h es c none f) where
-    list-back : GivesBack kind station z sequence code (madeOf row make most (headed kind station z sequence code) rows)
-        (λ bytes. RowsBack row rows (andThen (frameSaid bytes) counted) (λ i. andThen (frameSaid bytes) (λ f. entry f i)))
-    list-back =
-        gives-back kind station z sequence code (λ h. saysMade (make h es c)) _ (whole head)
-        (λ f rest e s. let r = reads head f e in
-        subst (λ v. RowsBack row rows (andThen v counted) (λ i. andThen v (λ g. entry g i))) (sym s) (rows-back head f (r .0) (r .1)))
-      where
-        head : Header
-        head = headerWith kind station z sequence code
+-- the rows of the type's system; `out` is a row that puts the same bytes
+module _ {A : Type 0} (row : System → Coding A) (out : Coding A) (Good : System → A → Type 0) (law : (s : System) → Faithful (row s) (Good s))
+    (eight : (s : System) → row s .widths ≡ octets (rowSize (row s)))
+    (room : (s : System) (i l : ℕ) → i < countOf (rowSize (row s)) l → i * rowSize (row s) + rowSize (row s) ≤ l)
+    (make : Header → List A → ℕ → Made) (most width pattern : ℕ) (counted : Frame → Says ℕ) (entry : Frame → ℕ → Says A)
+    (rows : List ℕ) (b : AreBytes rows) (kind station z sequence code : ℕ)
+    (puts : (n : Says ℕ) (e : ℕ → Says A) → RowsBack (row (systemOf kind)) rows n e → RowsBack out rows n e) where
+  abbrev k : Coding A
+  k = row (systemOf kind)
 
-correction-typed : (bs : List ℕ) → AreBytes bs → correction.Typed (entryOf correction-bytes.row bs)
-correction-typed bs b =
-    let vs = take (rowSize correction-bytes.row) bs in
-    let f = fit-take (rowSize correction-bytes.row) bs b in
+  abbrev head : Header
+  head = headerWith kind station z sequence code
+
+  abbrev all : List A
+  all = entriesFrom k most rows
+
+  abbrev count : ℕ
+  count = countOf (rowSize k) (length rows)
+
+  list-back : ((f : Frame) → saysMade (make head all count) ≡ answers f → (ws : List ℕ) × (framed head ws ≡ f))
+      → ((f : Frame) → saysMade (make head all count) ≡ answers f → (count ≤ most) × ListBack counted entry width pattern head all count (entryOf k []) f)
+      → GivesBack kind station z sequence code (madeOf row make most (headed kind station z sequence code) rows)
+      (λ bytes. RowsBack out rows (andThen (frameSaid bytes) counted) (λ i. andThen (frameSaid bytes) (λ f. entry f i)))
+  list-back whole reads =
+      gives-back kind station z sequence code
+      (λ h. let j = row (systemOf (h .kind)) in saysMade (make h (entriesFrom j most rows) (countOf (rowSize j) (length rows)))) _ whole
+      (λ f rest e s. let r = reads f e in
+      subst (λ v. RowsBack out rows (andThen v counted) (λ i. andThen v (λ g. entry g i))) (sym s)
+      (puts (counted f) (entry f)
+      (rows-back k (Good (systemOf kind)) (law (systemOf kind)) (eight (systemOf kind)) (room (systemOf kind)) make most width pattern counted entry rows b
+      head f (r .0) (r .1))))
+
+issue-typed : (s : System) (v : ℕ) → v < 256 → IssueTyped (issueIn s v)
+unfolding issueOf
+issue-typed Gps v h = omega arith
+issue-typed Glonass v h = (omega arith, omega arith)
+
+correction-typed : (s : System) (bs : List ℕ) → AreBytes bs → correction.Typed (entryOf (correction-bytes.row s) bs)
+correction-typed s bs b =
+    let vs = take (rowSize (correction-bytes.row s)) bs in
+    let f = fit-take (rowSize (correction-bytes.row s)) bs b in
     let low = byte-small vs 3 f in
     let high = byte-small vs 4 f in
     record {
       prc = mag-signed 15 (getD vs 3 0 + 256 * getD vs 4 0) (omega (arith, low, high));
       rrc = mag-signed 7 (getD vs 5 0) (byte-small vs 5 f);
-      iod = byte-small vs 6 f;
+      issue = issue-typed s (getD vs 6 0) (byte-small vs 6 f);
     }
 
 -- ---- a frame of any type: its data words are the bytes of its record from the tenth on
@@ -198,33 +226,37 @@ module _ (kind station z sequence code : ℕ) where
   pub library-reads-back : LibraryReadsBack kind station z sequence code
   library-reads-back = record {
     make-corrections = λ rows b.
-        let es = entriesFrom correction-bytes.row 18 rows in
-        let c = countOf (rowSize correction-bytes.row) (length rows) in
-        let many = length-entries correction-bytes.row 18 rows in
+        let s = systemOf kind in
+        let es = entriesFrom (correction-bytes.row s) 18 rows in
+        let c = countOf (rowSize (correction-bytes.row s)) (length rows) in
+        let many = length-entries (correction-bytes.row s) 18 rows in
         let typed = subst (Each correction.Typed) (take-all 18 es (omega (arith, many)))
-        (each-read correction-bytes.row correction.Typed correction-typed 18 18 rows b) in
-        list-back correction-bytes.row correction-bytes.Typed correction-rows.faithful refl (λ i l m. omega (arith, count-held (rowSize correction-bytes.row) l))
-        correction.makeCorrections 18 40 0xAAAAAA _ _ rows b kind station z sequence code (λ h. corrections-framed h es c)
-        (λ h f e. (
-          told-some-few c 18 (none-told (carries-its-number .make-corrections h es c) f e .1 .1 .1 .0) .1,
-          reads-back-equal .corrections h es c (entryOf correction-bytes.row []) f many typed e,
+        (each-read (correction-bytes.row s) correction.Typed (correction-typed s) 18 18 rows b) in
+        list-back correction-bytes.row (correction-bytes.row Gps) correction-bytes.Typed correction-rows.faithful (λ t. refl)
+        (λ t i l m. omega (arith, count-held (rowSize (correction-bytes.row t)) l)) correction.makeCorrections 18 40 0xAAAAAA _ _ rows b
+        kind station z sequence code (λ n e r. record { counts = r .counts; answered = r .answered; each = r .each }) (corrections-framed H es c)
+        (λ f e. (
+          told-some-few c 18 (none-told (carries-its-number .make-corrections H es c) f e .1 .1 .1 .0) .1,
+          reads-back-equal .corrections H es c (entryOf (correction-bytes.row s) []) f many typed e,
         ));
     make-healths = λ rows b.
-        let es = entriesFrom health-bytes.row 31 rows in
-        let c = countOf (rowSize health-bytes.row) (length rows) in
-        list-back health-bytes.row health-bytes.Typed health-rows.faithful refl (λ i l m. omega (arith, count-held (rowSize health-bytes.row) l))
-        health.makeHealths 31 24 0 _ _ rows b kind station z sequence code (λ h. healths-framed h es c)
-        (λ h f e. (
-          told-some-few c 31 (none-told (carries-its-number .make-healths h es c) f e .1 .1 .1 .0) .1,
-          reads-back-equal .healths h es c (entryOf health-bytes.row []) f (length-entries health-bytes.row 31 rows) e,
+        let s = systemOf kind in
+        let es = entriesFrom (health-bytes.row s) 31 rows in
+        let c = countOf (rowSize (health-bytes.row s)) (length rows) in
+        list-back health-bytes.row (health-bytes.row Gps) health-bytes.Typed health-rows.faithful (λ t. refl)
+        (λ t i l m. omega (arith, count-held (rowSize (health-bytes.row t)) l)) health.makeHealths 31 24 0 _ _ rows b
+        kind station z sequence code (λ n e r. record { counts = r .counts; answered = r .answered; each = r .each }) (healths-framed H es c)
+        (λ f e. (
+          told-some-few c 31 (none-told (carries-its-number .make-healths H es c) f e .1 .1 .1 .0) .1,
+          reads-back-equal .healths H es c (entryOf (health-bytes.row s) []) f (length-entries (health-bytes.row s) 31 rows) e,
         ));
     make-position = λ x y up typed.
         let p : Position = record { x = x; y = y; z = up } in
         gives-back kind station z sequence code (λ h. saysMade (position.makePosition h p)) _ (position-framed H p)
         (λ f rest e s. ap positions.positionSaid s ∙ reads-back-equal .position H p f typed e .reads);
-    make-null =
-        gives-back kind station z sequence code (λ h. saysMade (null.makeNull h)) _ (null-framed H)
-        (λ f rest e s. ap nulls.nullSaid s ∙ reads-back-equal .null H f e .reads);
+    make-null = λ n.
+        gives-back kind station z sequence code (λ h. saysMade (null.makeNull h n)) _ (null-framed H n)
+        (λ f rest e s. ap nulls.nullSaid s ∙ reads-back-equal .null H n f e .reads);
     make-text = λ t.
         gives-back kind station z sequence code (λ h. saysMade (text.makeText h t)) _ (text-framed H t)
         (λ f rest e s lent l. (

@@ -8,6 +8,7 @@ use lib.IntN.{ℤ}
 use Rattle.bits.specs.Fields.{AreBytes}
 use Rattle.line.specs.Line.{isData}
 use Rattle.frame.specs.declared.Layout.the-variants as layout
+use Rattle.frame.specs.declared.System.the-variants.{Gps}
 use Rattle.reader.specs.Reading.{busy}
 use Rattle.journal.specs.Journal.{recallOrder}
 use Rattle.writer.specs.Answer.{openChecks}
@@ -27,7 +28,8 @@ use Rattle.rtcm2.specs.Healths as healths
 use Rattle.rtcm2.specs.Positions as positions
 use Rattle.rtcm2.specs.Nulls as nulls
 use Rattle.rtcm2.specs.Texts as texts
-use Rattle.rtcm2.specs.Values.{prcSaid, rrcSaid, stopsSaid, limitSaid, strengthSaid}
+use Rattle.record_values.specs.Values.{noLetter}
+use Rattle.rtcm2.specs.Values.{prcSaid, rrcSaid, stopsSaid, limitSaid, strengthSaid, letterSaid}
 use Rattle.rtcm2.specs.Orders as in-order
 use Rattle.promises.specs.CarriesItsNumber.{Ordered}
 
@@ -61,8 +63,9 @@ pub record LibraryNumbers : Type 0 where
   pub count-corrections : (bs : List ℕ) → AreBytes bs
       → Ordered (afterRecord (6 ∷ 7 ∷ 8 ∷ [])) (in-order.countOrder layout.Correction 40 bs) (corrections.countSaid (frameSaid bs))
   pub correction-at : (bs : List ℕ) → AreBytes bs → (i : ℕ) (lent : List ℕ)
-      → Ordered (afterRecord (6 ∷ 7 ∷ 8 ∷ 9 ∷ 13 ∷ [])) (in-order.entryOrder layout.Correction 40 correction.row bs i lent)
-      (rowTo correction.row (corrections.entrySaid (frameSaid bs) i) lent)
+      → Ordered (afterRecord (6 ∷ 7 ∷ 8 ∷ 9 ∷ 10 ∷ 13 ∷ []))
+      (in-order.entryOrder layout.Correction 40 (correction.row Gps) bs i (in-order.correctionChecks bs i) lent)
+      (rowTo (correction.row Gps) (corrections.entrySaid (frameSaid bs) i) lent)
   pub make-corrections : (kind station z sequence code : ℕ) (bs buffer : List ℕ)
       → Ordered (afterHeader (12 ∷ 10 ∷ 13 ∷ [])) (in-order.correctionsOrder kind station z sequence code bs buffer)
       (keptTo (corrections.madeSaid (headed kind station z sequence code) bs) buffer)
@@ -70,8 +73,8 @@ pub record LibraryNumbers : Type 0 where
   pub count-healths : (bs : List ℕ) → AreBytes bs
       → Ordered (afterRecord (6 ∷ 7 ∷ 8 ∷ [])) (in-order.countOrder layout.Health 24 bs) (healths.countSaid (frameSaid bs))
   pub health-at : (bs : List ℕ) → AreBytes bs → (i : ℕ) (lent : List ℕ)
-      → Ordered (afterRecord (6 ∷ 7 ∷ 8 ∷ 9 ∷ 13 ∷ [])) (in-order.entryOrder layout.Health 24 health.row bs i lent)
-      (rowTo health.row (healths.entrySaid (frameSaid bs) i) lent)
+      → Ordered (afterRecord (6 ∷ 7 ∷ 8 ∷ 9 ∷ 13 ∷ [])) (in-order.entryOrder layout.Health 24 (health.row Gps) bs i [] lent)
+      (rowTo (health.row Gps) (healths.entrySaid (frameSaid bs) i) lent)
   pub make-healths : (kind station z sequence code : ℕ) (bs buffer : List ℕ)
       → Ordered (afterHeader (12 ∷ 10 ∷ 13 ∷ [])) (in-order.healthsOrder kind station z sequence code bs buffer)
       (keptTo (healths.madeSaid (headed kind station z sequence code) bs) buffer)
@@ -83,9 +86,9 @@ pub record LibraryNumbers : Type 0 where
       (keptTo (positions.makeSaid kind station z sequence code x y up) buffer)
   -- the null frame
   pub read-null : (bs : List ℕ) → AreBytes bs → Ordered (afterRecord (6 ∷ 7 ∷ 8 ∷ [])) (in-order.nullOrder bs) (nulls.nullSaid (frameSaid bs))
-  pub make-null : (kind station z sequence code : ℕ) (buffer : List ℕ)
-      → Ordered (afterHeader (13 ∷ [])) (in-order.nullMadeOrder kind station z sequence code buffer)
-      (keptTo (nulls.makeSaid kind station z sequence code) buffer)
+  pub make-null : (kind station z sequence code n : ℕ) (buffer : List ℕ)
+      → Ordered (afterHeader (12 ∷ 13 ∷ [])) (in-order.nullMadeOrder kind station z sequence code n buffer)
+      (keptTo (nulls.makeSaid kind station z sequence code n) buffer)
   -- text
   pub read-text : (bs : List ℕ) → AreBytes bs → (buffer : List ℕ)
       → Ordered (afterRecord (6 ∷ 7 ∷ 8 ∷ 11 ∷ 13 ∷ [])) (in-order.textReadOrder bs buffer) (texts.textSaid (frameSaid bs) buffer)
@@ -98,8 +101,9 @@ pub record LibraryNumbers : Type 0 where
   pub stops : (prc rrc : ℤ) → Ordered [] [] (stopsSaid prc rrc)
   pub udre-limit-mm : (code udre : ℕ) → Ordered (5 ∷ 10 ∷ []) (in-order.limitOrder code udre) (limitSaid code udre)
   pub cn0-dbhz : (code : ℕ) → Ordered (10 ∷ []) ((ltb 31 code, 10) ∷ []) (strengthSaid code)
+  pub letter-of : (code : ℕ) → Ordered (11 ∷ []) ((noLetter code, 11) ∷ []) (letterSaid code)
   -- an entry as a row of bytes
   pub put-start : (c : Candidate) (bytes : List ℕ) → Ordered (5 ∷ 13 ∷ []) (putChecks c bytes) (saysStored (storedBy c bytes))
   pub put-state : (r : Reader) (bytes : List ℕ) → Ordered (5 ∷ 13 ∷ []) (putChecks (r .candidate) bytes) (saysStored (storedBy (r .candidate) bytes))
-  pub put-correction : (lent : List ℕ) → Ordered (13 ∷ []) (putOrder correction.row lent) (saysPut (putBy correction.row lent))
-  pub put-health : (lent : List ℕ) → Ordered (13 ∷ []) (putOrder health.row lent) (saysPut (putBy health.row lent))
+  pub put-correction : (lent : List ℕ) → Ordered (13 ∷ []) (putOrder (correction.row Gps) lent) (saysPut (putBy (correction.row Gps) lent))
+  pub put-health : (lent : List ℕ) → Ordered (13 ∷ []) (putOrder (health.row Gps) lent) (saysPut (putBy (health.row Gps) lent))

@@ -5,6 +5,7 @@ use mathlib.Core.List.{List}
 use Prim.Native.Nat.{ℕ}
 use lib.IntN.{ℤ}
 use Rattle.bits.specs.Bits.{val}
+use Rattle.frame.specs.declared.System.the-variants.{Gps}
 use Rattle.reader.specs.declared.Candidate.{Candidate}
 use Rattle.reader.specs.declared.Reader.{Reader}
 use Rattle.record_corrections.specs.declared.Correction.{Correction}
@@ -29,6 +30,7 @@ use Rattle.rtcm2.specs.Positions as positions
 use Rattle.rtcm2.specs.Nulls as nulls
 use Rattle.rtcm2.specs.Texts as texts
 use Rattle.rtcm2.specs.Values.{prcSaid, stopFlag, exactOr0, rrcSaid, stopsSaid, limitSaid, limitFlag, limitOr0, strengthSaid, trackedFlag, dbHzOr0}
+use Rattle.rtcm2.specs.Values.{letterSaid}
 use Rattle.promises.specs.ChangesNeither.{Keeps}
 
 -- every function that is lent a place, and each of its places
@@ -59,14 +61,14 @@ pub record LibraryKeeps : Type 0 where
   -- record_corrections
   pub count-corrections : (frame : List ℕ) (count : ℕ) → let s = corrections.countSaid (frameSaid frame) in Keeps s (left s (λ k. k) count) count
   pub correction-at : (frame : List ℕ) (i : ℕ) (lent : List ℕ) → let s = corrections.entrySaid (frameSaid frame) i in
-      Keeps (rowTo entry-corrections.row s lent) (rowHeld entry-corrections.row s lent) lent
+      Keeps (rowTo (entry-corrections.row Gps) s lent) (rowHeld (entry-corrections.row Gps) s lent) lent
   pub make-corrections : (kind station z sequence code : ℕ) (rows frame : List ℕ) (size : ℕ)
       → let s = corrections.madeSaid (headed kind station z sequence code) rows in
       Keeps (keptTo s frame) (heldTo s frame) frame × Keeps (keptTo s frame) (left (keptTo s frame) (λ k. k) size) size
   -- constellation health
   pub count-healths : (frame : List ℕ) (count : ℕ) → let s = healths.countSaid (frameSaid frame) in Keeps s (left s (λ k. k) count) count
   pub health-at : (frame : List ℕ) (i : ℕ) (lent : List ℕ) → let s = healths.entrySaid (frameSaid frame) i in
-      Keeps (rowTo entry-healths.row s lent) (rowHeld entry-healths.row s lent) lent
+      Keeps (rowTo (entry-healths.row Gps) s lent) (rowHeld (entry-healths.row Gps) s lent) lent
   pub make-healths : (kind station z sequence code : ℕ) (rows frame : List ℕ) (size : ℕ)
       → let s = healths.madeSaid (headed kind station z sequence code) rows in
       Keeps (keptTo s frame) (heldTo s frame) frame × Keeps (keptTo s frame) (left (keptTo s frame) (λ k. k) size) size
@@ -77,7 +79,8 @@ pub record LibraryKeeps : Type 0 where
       → let s = positions.makeSaid kind station z sequence code x y up in
       Keeps (keptTo s frame) (heldTo s frame) frame × Keeps (keptTo s frame) (sizeTo s frame size) size
   -- the null frame
-  pub make-null : (kind station z sequence code : ℕ) (frame : List ℕ) (size : ℕ) → let s = nulls.makeSaid kind station z sequence code in
+  pub read-null : (frame : List ℕ) (n : ℕ) → let s = nulls.nullSaid (frameSaid frame) in Keeps s (left s (λ k. k) n) n
+  pub make-null : (kind station z sequence code n : ℕ) (frame : List ℕ) (size : ℕ) → let s = nulls.makeSaid kind station z sequence code n in
       Keeps (keptTo s frame) (heldTo s frame) frame × Keeps (keptTo s frame) (sizeTo s frame size) size
   -- text
   pub read-text : (frame text : List ℕ) (size : ℕ) → let f = frameSaid frame in
@@ -94,11 +97,12 @@ pub record LibraryKeeps : Type 0 where
       Keeps s (left s limitFlag limited) limited × Keeps s (left s limitOr0 mm) mm
   pub cn0-dbhz : (code tracked dbhz : ℕ) → let s = strengthSaid code in
       Keeps s (left s trackedFlag tracked) tracked × Keeps s (left s dbHzOr0 dbhz) dbhz
+  pub letter-of : (code letter : ℕ) → Keeps (letterSaid code) (left (letterSaid code) (λ k. k) letter) letter
   -- an entry as a row of bytes
   pub put-correction : (entry : Correction) (lent : List ℕ)
-      → Keeps (saysPut (putBy entry-corrections.row lent)) (rowAfter entry-corrections.row entry lent) lent
+      → Keeps (saysPut (putBy (entry-corrections.row Gps) lent)) (rowAfter (entry-corrections.row Gps) entry lent) lent
   pub put-health : (entry : SatelliteHealth) (lent : List ℕ)
-      → Keeps (saysPut (putBy entry-healths.row lent)) (rowAfter entry-healths.row entry lent) lent
+      → Keeps (saysPut (putBy (entry-healths.row Gps) lent)) (rowAfter (entry-healths.row Gps) entry lent) lent
   -- a state as bytes
   pub put-start : (c : Candidate) (ended : Bool) (bytes : List ℕ) → Keeps (saysStored (storedBy c bytes)) (startPut c ended bytes) bytes
   pub put-state : (r : Reader) (bytes : List ℕ) → Keeps (saysStored (storedBy (r .candidate) bytes)) (statePut r bytes) bytes

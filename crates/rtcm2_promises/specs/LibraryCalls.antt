@@ -4,6 +4,7 @@ use Prim.Native.Nat.{ℕ}
 use lib.IntN.{ℤ}
 use denote.Ref.{now}
 use Rattle.bits.specs.Bits.{val}
+use Rattle.frame.specs.declared.System.the-variants.{Gps}
 use Rattle.rtcm2_state.specs.State.{stateSize, holdsState, stateIn, storedBy, startPut, statePut}
 use Rattle.rtcm2_rows.specs.Rows.{countOf, entriesFrom, putBy, rowAfter}
 use Rattle.rtcm2.specs.Answer.{numberOf, left}
@@ -19,6 +20,7 @@ use Rattle.rtcm2.specs.Positions.{positionSaid, xSaid, ySaid, zSaid}
 use Rattle.rtcm2.specs.Nulls.{nullSaid}
 use Rattle.rtcm2.specs.Texts.{textSaid, textAfter}
 use Rattle.rtcm2.specs.Values.{prcSaid, stopFlag, exactOr0, rrcSaid, stopsSaid, limitSaid, limitFlag, limitOr0, strengthSaid, trackedFlag, dbHzOr0}
+use Rattle.rtcm2.specs.Values.{letterSaid}
 use Rattle.rtcm2_rows.specs.Corrections as entry-corrections
 use Rattle.rtcm2_rows.specs.Healths as entry-healths
 use Rattle.rtcm2.specs.Send as send
@@ -63,6 +65,7 @@ use Rattle.rtcm2.proofs.values.rtcm2_rrc_mm_s
 use Rattle.rtcm2.proofs.values.rtcm2_stops
 use Rattle.rtcm2.proofs.values.rtcm2_udre_limit_mm
 use Rattle.rtcm2.proofs.values.rtcm2_cn0_dbhz
+use Rattle.rtcm2.proofs.values.rtcm2_letter_of
 use Rattle.promises.specs.Answered.{Answered, AnsweredLent}
 
 pub record LibraryCalls : Type 2 where
@@ -82,16 +85,16 @@ pub record LibraryCalls : Type 2 where
       (λ κs (size, (length, _)). countOf size length)
   -- rtcm2_rows::correction
   pub corrections-in : Answered corrections_in.Reads.Asked corrections_in.Reads.Learnt corrections_in.Statement.statement
-      (λ κs (bytes, _). entriesFrom entry-corrections.row 18 (now bytes))
+      (λ κs (system, (bytes, _)). entriesFrom (entry-corrections.row system) 18 (now bytes))
   pub put-correction : AnsweredLent put_correction.Reads.Asked put_correction.Reads.Learnt put_correction.Statement.statement
-      (λ κs (_, (bytes, _)). putBy entry-corrections.row (now bytes))
-      (λ κs (_, (bytes, _)). now bytes) (λ κs (entry, (bytes, _)). rowAfter entry-corrections.row entry (now bytes))
+      (λ κs (_, (bytes, _)). putBy (entry-corrections.row Gps) (now bytes))
+      (λ κs (_, (bytes, _)). now bytes) (λ κs (entry, (bytes, _)). rowAfter (entry-corrections.row Gps) entry (now bytes))
   -- rtcm2_rows::health
   pub healths-in : Answered healths_in.Reads.Asked healths_in.Reads.Learnt healths_in.Statement.statement
-      (λ κs (bytes, _). entriesFrom entry-healths.row 31 (now bytes))
+      (λ κs (system, (bytes, _)). entriesFrom (entry-healths.row system) 31 (now bytes))
   pub put-health : AnsweredLent put_health.Reads.Asked put_health.Reads.Learnt put_health.Statement.statement
-      (λ κs (_, (bytes, _)). putBy entry-healths.row (now bytes))
-      (λ κs (_, (bytes, _)). now bytes) (λ κs (entry, (bytes, _)). rowAfter entry-healths.row entry (now bytes))
+      (λ κs (_, (bytes, _)). putBy (entry-healths.row Gps) (now bytes))
+      (λ κs (_, (bytes, _)). now bytes) (λ κs (entry, (bytes, _)). rowAfter (entry-healths.row Gps) entry (now bytes))
   -- rtcm2::line
   pub state-size : Answered rtcm2_state_size.Reads.Asked rtcm2_state_size.Reads.Learnt rtcm2_state_size.Statement.statement
       (λ κs a. stateSize)
@@ -161,9 +164,10 @@ pub record LibraryCalls : Type 2 where
       (λ κs (_, (count, _)). now count)
       (λ κs (frame, (count, _)). left (corrections.countSaid (frameSaid (now frame))) (λ k. k) (now count))
   pub correction-at : AnsweredLent rtcm2_correction_at.Reads.Asked rtcm2_correction_at.Reads.Learnt rtcm2_correction_at.Statement.statement
-      (λ κs (frame, (index, (correction, _))). numberOf (rowTo entry-corrections.row (corrections.entrySaid (frameSaid (now frame)) index) (now correction)))
+      (λ κs (frame, (index, (correction, _))).
+      numberOf (rowTo (entry-corrections.row Gps) (corrections.entrySaid (frameSaid (now frame)) index) (now correction)))
       (λ κs (_, (_, (correction, _))). now correction)
-      (λ κs (frame, (index, (correction, _))). rowHeld entry-corrections.row (corrections.entrySaid (frameSaid (now frame)) index) (now correction))
+      (λ κs (frame, (index, (correction, _))). rowHeld (entry-corrections.row Gps) (corrections.entrySaid (frameSaid (now frame)) index) (now correction))
   pub make-corrections : AnsweredLent {B = List ℕ × ℕ}
       rtcm2_make_corrections.Reads.Asked rtcm2_make_corrections.Reads.Learnt rtcm2_make_corrections.Statement.statement
       (λ κs (kind, (station, (z, (sequence, (health, (rows, (frame, _))))))).
@@ -177,9 +181,9 @@ pub record LibraryCalls : Type 2 where
       (λ κs (frame, _). numberOf (healths.countSaid (frameSaid (now frame))))
       (λ κs (_, (count, _)). now count) (λ κs (frame, (count, _)). left (healths.countSaid (frameSaid (now frame))) (λ k. k) (now count))
   pub health-at : AnsweredLent rtcm2_health_at.Reads.Asked rtcm2_health_at.Reads.Learnt rtcm2_health_at.Statement.statement
-      (λ κs (frame, (index, (bytes, _))). numberOf (rowTo entry-healths.row (healths.entrySaid (frameSaid (now frame)) index) (now bytes)))
+      (λ κs (frame, (index, (bytes, _))). numberOf (rowTo (entry-healths.row Gps) (healths.entrySaid (frameSaid (now frame)) index) (now bytes)))
       (λ κs (_, (_, (bytes, _))). now bytes)
-      (λ κs (frame, (index, (bytes, _))). rowHeld entry-healths.row (healths.entrySaid (frameSaid (now frame)) index) (now bytes))
+      (λ κs (frame, (index, (bytes, _))). rowHeld (entry-healths.row Gps) (healths.entrySaid (frameSaid (now frame)) index) (now bytes))
   pub make-healths : AnsweredLent {B = List ℕ × ℕ}
       rtcm2_make_healths.Reads.Asked rtcm2_make_healths.Reads.Learnt rtcm2_make_healths.Statement.statement
       (λ κs (kind, (station, (z, (sequence, (health, (rows, (frame, _))))))).
@@ -204,12 +208,14 @@ pub record LibraryCalls : Type 2 where
       let s = positions.makeSaid kind station z sequence health xCm yCm zCm in
       (heldTo s (now frame), sizeTo s (now frame) (now length)))
   -- rtcm2::null
-  pub read-null : Answered rtcm2_read_null.Reads.Asked rtcm2_read_null.Reads.Learnt rtcm2_read_null.Statement.statement
+  pub read-null : AnsweredLent rtcm2_read_null.Reads.Asked rtcm2_read_null.Reads.Learnt rtcm2_read_null.Statement.statement
       (λ κs (frame, _). numberOf (nullSaid (frameSaid (now frame))))
+      (λ κs (_, (n, _)). now n) (λ κs (frame, (n, _)). left (nullSaid (frameSaid (now frame))) (λ k. k) (now n))
   pub make-null : AnsweredLent {B = List ℕ × ℕ} rtcm2_make_null.Reads.Asked rtcm2_make_null.Reads.Learnt rtcm2_make_null.Statement.statement
-      (λ κs (kind, (station, (z, (sequence, (health, (frame, _)))))). numberOf (keptTo (nulls.makeSaid kind station z sequence health) (now frame)))
-      (λ κs (_, (_, (_, (_, (_, (frame, (length, _))))))). (now frame, now length))
-      (λ κs (kind, (station, (z, (sequence, (health, (frame, (length, _))))))). let s = nulls.makeSaid kind station z sequence health in
+      (λ κs (kind, (station, (z, (sequence, (health, (n, (frame, _))))))).
+      numberOf (keptTo (nulls.makeSaid kind station z sequence health n) (now frame)))
+      (λ κs (_, (_, (_, (_, (_, (_, (frame, (length, _)))))))). (now frame, now length))
+      (λ κs (kind, (station, (z, (sequence, (health, (n, (frame, (length, _)))))))). let s = nulls.makeSaid kind station z sequence health n in
       (heldTo s (now frame), sizeTo s (now frame) (now length)))
   -- rtcm2::text
   pub read-text : AnsweredLent {B = List ℕ × ℕ} rtcm2_read_text.Reads.Asked rtcm2_read_text.Reads.Learnt rtcm2_read_text.Statement.statement
@@ -245,3 +251,6 @@ pub record LibraryCalls : Type 2 where
       (λ κs (code, _). numberOf (strengthSaid code))
       (λ κs (_, (tracked, (dbhz, _))). (now tracked, now dbhz))
       (λ κs (code, (tracked, (dbhz, _))). let s = strengthSaid code in (left s trackedFlag (now tracked), left s dbHzOr0 (now dbhz)))
+  pub letter-of : AnsweredLent rtcm2_letter_of.Reads.Asked rtcm2_letter_of.Reads.Learnt rtcm2_letter_of.Statement.statement
+      (λ κs (code, _). numberOf (letterSaid code))
+      (λ κs (_, (letter, _)). now letter) (λ κs (code, (letter, _)). left (letterSaid code) (λ k. k) (now letter))

@@ -8,6 +8,7 @@ use lib.ListN.{length, take, drop}
 use Rattle.answer.specs.Order.{Says, answers}
 use Rattle.bits.specs.Fields.{AreBytes}
 use Rattle.frame.specs.declared.Frame.{Frame}
+use Rattle.frame.specs.declared.System.the-variants.{Gps}
 use Rattle.record_fields.specs.Coding.{Coding}
 use Rattle.record_positions.specs.Positions as position
 use Rattle.rtcm2_rows.specs.Rows.{rowSize, countOf}
@@ -28,7 +29,7 @@ abbrev pub numbersSaid : List ℕ → Says (ℕ × (ℕ × (ℕ × (ℕ × (ℕ 
 numbersSaid bytes =
     andThen (recallSaid bytes) (λ r. answers (kindSaid r, (stationSaid r, (zCountSaid r, (sequenceSaid r, (healthSaid r, (nSaid r, lengthSaid r)))))))
 
--- rows: how many, and into any bytes with room each row's own
+-- rows: how many, and into any bytes with room each row's own; what is put is the same in both systems
 pub record RowsBack {A : Type 0} (row : Coding A) (rows : List ℕ) (counted : Says ℕ) (entry : ℕ → Says A) : Type 0 where
   pub counts : counted ≡ answers (countOf (rowSize row) (length rows))
   pub answered : (i : ℕ) (lent : List ℕ) → i < countOf (rowSize row) (length rows) → rowSize row ≤ length lent → rowTo row (entry i) lent ≡ answers tt
@@ -51,12 +52,12 @@ module _ (kind station z sequence code : ℕ) where
   -- every function that makes or keeps a frame
   pub record LibraryReadsBack : Type 0 where
     pub make-corrections : (rows : List ℕ) → AreBytes rows → GivesBack (corrections.madeSaid (headed kind station z sequence code) rows)
-        (λ bytes. RowsBack entry-corrections.row rows (corrections.countSaid (frameSaid bytes)) (corrections.entrySaid (frameSaid bytes)))
+        (λ bytes. RowsBack (entry-corrections.row Gps) rows (corrections.countSaid (frameSaid bytes)) (corrections.entrySaid (frameSaid bytes)))
     pub make-healths : (rows : List ℕ) → AreBytes rows → GivesBack (healths.madeSaid (headed kind station z sequence code) rows)
-        (λ bytes. RowsBack entry-healths.row rows (healths.countSaid (frameSaid bytes)) (healths.entrySaid (frameSaid bytes)))
+        (λ bytes. RowsBack (entry-healths.row Gps) rows (healths.countSaid (frameSaid bytes)) (healths.entrySaid (frameSaid bytes)))
     pub make-position : (x y up : ℤ) → position.Typed (record { x = x; y = y; z = up }) → GivesBack (positions.makeSaid kind station z sequence code x y up)
         (λ bytes. positions.positionSaid (frameSaid bytes) ≡ answers (record { x = x; y = y; z = up }))
-    pub make-null : GivesBack (nulls.makeSaid kind station z sequence code) (λ bytes. nulls.nullSaid (frameSaid bytes) ≡ answers tt)
+    pub make-null : (n : ℕ) → GivesBack (nulls.makeSaid kind station z sequence code n) (λ bytes. nulls.nullSaid (frameSaid bytes) ≡ answers n)
     -- the characters, into any bytes with room for them
     pub make-text : (t : List ℕ) → GivesBack (texts.makeSaid kind station z sequence code t) (λ bytes. (text : List ℕ) → length t ≤ length text
         → (texts.textSaid (frameSaid bytes) text ≡ answers (length t)) × (texts.textAfter (frameSaid bytes) text ≡ t ++ drop (length t) text))

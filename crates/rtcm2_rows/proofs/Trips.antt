@@ -14,6 +14,7 @@ use Rattle.bits.specs.Fields.{Fit, octets, AreBytes}
 use Rattle.bits.proofs.FieldLaws.{length-fit, fit-take, fit-drop}
 use Rattle.record_fields.specs.Coding.{Coding, Each}
 use Rattle.record_fields.proofs.Round.{Faithful}
+use Rattle.frame.specs.declared.System.{System}
 use Rattle.record_corrections.specs.declared.Correction.{Correction}
 use Rattle.record_healths.specs.declared.SatelliteHealth.{SatelliteHealth}
 use Rattle.rtcm2_rows.specs.Rows.{countOf, rowSize, entryOf, entriesFrom, rowBytes, rowAfter}
@@ -101,40 +102,42 @@ module _ {A : Type 0} (k : Coding A) (Good : A → Type 0) (law : Faithful k Goo
 
 -- ---- corrections
 
-pub correction-put-read : (e : Correction) (bs : List ℕ) → correction.Typed e → rowSize correction.row ≤ length bs
-    → entryOf correction.row (rowAfter correction.row e bs) ≡ e
-correction-put-read = row-put-read correction.row correction.Typed corrections.faithful
+pub correction-put-read : (s : System) (e : Correction) (bs : List ℕ) → (correction.Typed s) e → rowSize (correction.row s) ≤ length bs
+    → entryOf (correction.row s) (rowAfter (correction.row s) e bs) ≡ e
+correction-put-read s = row-put-read (correction.row s) (correction.Typed s) (corrections.faithful s)
 
-pub correction-read-put : (bs : List ℕ) → AreBytes bs → rowAfter correction.row (entryOf correction.row bs) bs ≡ bs
-correction-read-put = row-read-put correction.row correction.Typed corrections.faithful refl
+pub correction-read-put : (s : System) (bs : List ℕ) → AreBytes bs → rowAfter (correction.row s) (entryOf (correction.row s) bs) bs ≡ bs
+correction-read-put s = row-read-put (correction.row s) (correction.Typed s) (corrections.faithful s) refl
 
-pub corrections-counted : (es : List Correction) → Each correction.Typed es → countOf (rowSize correction.row) (length (rowBytes correction.row es)) ≡ length es
-corrections-counted es = rows-counted correction.row correction.Typed corrections.faithful es (omega arith)
+pub corrections-counted : (s : System) (es : List Correction) → Each (correction.Typed s) es
+    → countOf (rowSize (correction.row s)) (length (rowBytes (correction.row s) es)) ≡ length es
+corrections-counted s es = rows-counted (correction.row s) (correction.Typed s) (corrections.faithful s) es (omega arith)
 
-pub corrections-put-read : (es : List Correction) (rest : List ℕ) → Each correction.Typed es
-    → entriesFrom correction.row (length es) (rowBytes correction.row es ++ rest) ≡ es
-corrections-put-read = rows-put-read correction.row correction.Typed corrections.faithful
+pub corrections-put-read : (s : System) (es : List Correction) (rest : List ℕ) → Each (correction.Typed s) es
+    → entriesFrom (correction.row s) (length es) (rowBytes (correction.row s) es ++ rest) ≡ es
+corrections-put-read s = rows-put-read (correction.row s) (correction.Typed s) (corrections.faithful s)
 
-pub corrections-read-put : (n : ℕ) (bs : List ℕ) → AreBytes bs → n * rowSize correction.row ≤ length bs
-    → rowBytes correction.row (entriesFrom correction.row n bs) ≡ take (n * rowSize correction.row) bs
-corrections-read-put = rows-read-put correction.row correction.Typed corrections.faithful refl
+pub corrections-read-put : (s : System) (n : ℕ) (bs : List ℕ) → AreBytes bs → n * rowSize (correction.row s) ≤ length bs
+    → rowBytes (correction.row s) (entriesFrom (correction.row s) n bs) ≡ take (n * rowSize (correction.row s)) bs
+corrections-read-put s = rows-read-put (correction.row s) (correction.Typed s) (corrections.faithful s) refl
 
 -- ---- satellites' health
 
-pub health-put-read : (e : SatelliteHealth) (bs : List ℕ) → health.Typed e → rowSize health.row ≤ length bs
-    → entryOf health.row (rowAfter health.row e bs) ≡ e
-health-put-read = row-put-read health.row health.Typed healths.faithful
+pub health-put-read : (s : System) (e : SatelliteHealth) (bs : List ℕ) → (health.Typed s) e → rowSize (health.row s) ≤ length bs
+    → entryOf (health.row s) (rowAfter (health.row s) e bs) ≡ e
+health-put-read s = row-put-read (health.row s) (health.Typed s) (healths.faithful s)
 
-pub health-read-put : (bs : List ℕ) → AreBytes bs → rowAfter health.row (entryOf health.row bs) bs ≡ bs
-health-read-put = row-read-put health.row health.Typed healths.faithful refl
+pub health-read-put : (s : System) (bs : List ℕ) → AreBytes bs → rowAfter (health.row s) (entryOf (health.row s) bs) bs ≡ bs
+health-read-put s = row-read-put (health.row s) (health.Typed s) (healths.faithful s) refl
 
-pub healths-counted : (es : List SatelliteHealth) → Each health.Typed es → countOf (rowSize health.row) (length (rowBytes health.row es)) ≡ length es
-healths-counted es = rows-counted health.row health.Typed healths.faithful es (omega arith)
+pub healths-counted : (s : System) (es : List SatelliteHealth) → Each (health.Typed s) es
+    → countOf (rowSize (health.row s)) (length (rowBytes (health.row s) es)) ≡ length es
+healths-counted s es = rows-counted (health.row s) (health.Typed s) (healths.faithful s) es (omega arith)
 
-pub healths-put-read : (es : List SatelliteHealth) (rest : List ℕ) → Each health.Typed es
-    → entriesFrom health.row (length es) (rowBytes health.row es ++ rest) ≡ es
-healths-put-read = rows-put-read health.row health.Typed healths.faithful
+pub healths-put-read : (s : System) (es : List SatelliteHealth) (rest : List ℕ) → Each (health.Typed s) es
+    → entriesFrom (health.row s) (length es) (rowBytes (health.row s) es ++ rest) ≡ es
+healths-put-read s = rows-put-read (health.row s) (health.Typed s) (healths.faithful s)
 
-pub healths-read-put : (n : ℕ) (bs : List ℕ) → AreBytes bs → n * rowSize health.row ≤ length bs
-    → rowBytes health.row (entriesFrom health.row n bs) ≡ take (n * rowSize health.row) bs
-healths-read-put = rows-read-put health.row health.Typed healths.faithful refl
+pub healths-read-put : (s : System) (n : ℕ) (bs : List ℕ) → AreBytes bs → n * rowSize (health.row s) ≤ length bs
+    → rowBytes (health.row s) (entriesFrom (health.row s) n bs) ≡ take (n * rowSize (health.row s)) bs
+healths-read-put s = rows-read-put (health.row s) (health.Typed s) (healths.faithful s) refl

@@ -9,11 +9,11 @@ use test_vectors::print_vector;
 // The vector of type 6.
 fn main() {
     let header = header_with(6);
-    let made = record_nulls::make_null(header);
+    let made = record_nulls::make_null(header, 0);
     let read = frame_of(0x661805, 0x032300, &[]);
     print_vector(b"V6a", made, read);
     match record_nulls::read_null(read) {
-        NullRead::Null => print(b"null\n"),
+        NullRead::Null(_) => print(b"null\n"),
         NullRead::Refused(number) => print_refusal(number),
     }
 }

@@ -1,26 +1,10 @@
 // Type 3: positions, made from their fields and read from their words.
 use frame::Frame;
 use record_positions::Position;
-use record_positions::PositionRead;
 use test_vectors::frame_of;
 use test_vectors::header_with;
-use test_vectors::print;
-use test_vectors::print_refusal;
-use test_vectors::print_signed;
+use test_vectors::positions::print_position;
 use test_vectors::print_vector;
-
-// Writes the three numbers of a frame.
-fn print_position(frame: Frame) {
-    match record_positions::read_position(frame) {
-        PositionRead::At(position) => {
-            print_signed(b"X ", position.x);
-            print_signed(b", Y ", position.y);
-            print_signed(b", Z ", position.z);
-            print(b" cm\n");
-        }
-        PositionRead::Refused(number) => print_refusal(number),
-    }
-}
 
 // Makes a position into a frame, and reads the frame of the words.
 fn show(name: &[u8], position: Position, read: Frame) {

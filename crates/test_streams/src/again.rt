@@ -7,6 +7,8 @@ use frame::Frame;
 use frame::Layout;
 use record_corrections::Correction;
 use record_corrections::CorrectionRead;
+use record_corrections::Issue;
+use record_healths::Condition;
 use record_healths::HealthRead;
 use record_healths::SatelliteHealth;
 use record_nulls::NullRead;
@@ -34,17 +36,37 @@ fn refused(sum: Sum, number: u8) -> Again {
     }
 }
 
+// A sum, with what the last eight bits of a correction say.
+fn with_issue(sum: Sum, issue: Issue) -> Sum {
+    match issue {
+        Issue::Iod(iod) => with_byte(sum, iod),
+        Issue::Age(change, tb) => with_byte(with_byte(sum, change), tb),
+    }
+}
+
 // A sum, with the fields of a correction.
 fn with_correction(sum: Sum, e: Correction) -> Sum {
     let named = with_byte(with_byte(with_byte(sum, e.scale), e.udre), e.satellite);
     let prc = with_number(named, record_fields::code16(e.prc));
-    with_byte(with_number(prc, record_fields::code8(e.rrc)), e.iod)
+    let rrc = with_number(prc, record_fields::code8(e.rrc));
+    let issue = e.issue;
+    with_issue(rrc, issue)
+}
+
+// A sum, with what the three health bits say.
+fn with_condition(sum: Sum, health: Condition) -> Sum {
+    match health {
+        Condition::Code(code) => with_byte(sum, code),
+        Condition::Data(data, reserved) => with_byte(with_byte(sum, data), reserved),
+    }
 }
 
 // A sum, with the fields of a satellite's health.
 fn with_health(sum: Sum, e: SatelliteHealth) -> Sum {
     let link = with_byte(with_byte(with_byte(sum, e.reserved), e.satellite), e.link);
-    let enable = with_byte(with_byte(with_byte(link, e.health), e.cn0), e.enable);
+    let health = e.health;
+    let condition = with_condition(link, health);
+    let enable = with_byte(with_byte(condition, e.cn0), e.enable);
     let time = with_byte(with_byte(with_byte(enable, e.new_data), e.loss), e.time);
     with_byte(time, e.spare)
 }
@@ -58,31 +80,35 @@ fn with_position(sum: Sum, place: Position) -> Sum {
     with_number(y, record_fields::code32(place.z))
 }
 
-// Entry number `index` of a frame, or zeros.
-fn correction_or_zeros(frame: Frame, index: usize) -> Correction {
-    match record_corrections::correction_at(frame, index) {
-        CorrectionRead::Entry(entry) => entry,
-        CorrectionRead::Refused(_) => Correction {
-            scale: 0,
-            udre: 0,
-            satellite: 0,
-            prc: 0,
-            rrc: 0,
-            iod: 0,
-        },
+// A correction of zeros, for the places past the count.
+fn zeros() -> Correction {
+    Correction {
+        scale: 0,
+        udre: 0,
+        satellite: 0,
+        prc: 0,
+        rrc: 0,
+        issue: Issue::Iod(0),
     }
 }
 
-// The first `count` entries, summed and made into a frame.
+// The first `count` entries, summed and made into a frame; the first that can't be read ends it, summed up to there.
 fn corrections(frame: Frame, count: usize, before: Sum) -> Again {
-    let mut entries = [correction_or_zeros(frame, 0); 18];
+    let mut entries = [zeros(); 18];
     let mut sum = before;
     let mut i: usize = 0;
     while i < 18 {
-        let entry = correction_or_zeros(frame, i);
-        entries[i] = entry;
-        if i < count {
-            sum = with_correction(sum, entry);
+        if i >= count {
+            break;
+        }
+        match record_corrections::correction_at(frame, i) {
+            CorrectionRead::Entry(entry) => {
+                entries[i] = entry;
+                sum = with_correction(sum, entry);
+            }
+            CorrectionRead::Refused(number) => {
+                return refused(sum, number);
+            }
         }
         i += 1;
     }
@@ -98,7 +124,7 @@ fn health_or_zeros(frame: Frame, index: usize) -> SatelliteHealth {
             reserved: 0,
             satellite: 0,
             link: 0,
-            health: 0,
+            health: Condition::Code(0),
             cn0: 0,
             enable: 0,
             new_data: 0,
@@ -156,24 +182,38 @@ fn position(frame: Frame, sum: Sum) -> Again {
     }
 }
 
-// The null record, which has no fields, made into a frame.
+// The number of words of a null frame, summed and made into a frame.
 fn null(frame: Frame, sum: Sum) -> Again {
     match record_nulls::read_null(frame) {
-        NullRead::Null => Again {
-            sum,
-            made: record_nulls::make_null(frame.header),
+        NullRead::Null(n) => Again {
+            sum: with_number(sum, (n % 32) as u32),
+            made: record_nulls::make_null(frame.header, n),
         },
         NullRead::Refused(number) => refused(sum, number),
     }
 }
 
+// The corrections, summed and made into a frame.
+fn list(frame: Frame, sum: Sum) -> Again {
+    match record_corrections::count_corrections(frame) {
+        Count::Of(count) => corrections(frame, count, sum),
+        Count::Refused(number) => refused(sum, number),
+    }
+}
+
+// Null where N is 0 or 1, else corrections.
+fn list_or_null(frame: Frame, sum: Sum) -> Again {
+    if frame.n < 2 {
+        return null(frame, sum);
+    }
+    list(frame, sum)
+}
+
 // What a frame's record gives; a plain frame has no record.
 pub(crate) fn made_again(frame: Frame, sum: Sum) -> Again {
     match frame::layout_of(frame.header.kind) {
-        Layout::Correction => match record_corrections::count_corrections(frame) {
-            Count::Of(count) => corrections(frame, count, sum),
-            Count::Refused(number) => refused(sum, number),
-        },
+        Layout::Correction => list(frame, sum),
+        Layout::CorrectionOrNull => list_or_null(frame, sum),
         Layout::Health => match record_healths::count_healths(frame) {
             Count::Of(count) => healths(frame, count, sum),
             Count::Refused(number) => refused(sum, number),

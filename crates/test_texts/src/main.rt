@@ -1,44 +1,11 @@
 // Type 16: text, made from its characters and read from its words.
 use frame::Frame;
-use record_stages::Count;
 use test_vectors::frame_of;
 use test_vectors::header_with;
 use test_vectors::print;
 use test_vectors::print_made;
-use test_vectors::print_number;
-use test_vectors::print_refusal;
 use test_vectors::print_vector;
-
-// Writes the codes of the first `count` characters.
-fn print_codes(buffer: [u8; 90], count: usize) {
-    print(b"codes");
-    let mut i = 0;
-    while i < 90 {
-        if i < count {
-            print_code(i, buffer[i]);
-        }
-        i += 1;
-    }
-    print(b"\n");
-}
-
-// Writes the code of character number `i`.
-fn print_code(i: usize, code: u8) {
-    if i == 0 {
-        print_number(b" ", code as u64);
-        return;
-    }
-    print_number(b", ", code as u64);
-}
-
-// Writes the text of a frame.
-fn print_text(frame: Frame) {
-    let mut buffer = [0u8; 90];
-    match record_texts::read_text(frame, &mut buffer) {
-        Count::Of(count) => print_codes(buffer, count),
-        Count::Refused(number) => print_refusal(number),
-    }
-}
+use test_vectors::texts::print_text;
 
 // Makes text into a frame, and reads the frame of the words.
 fn show(name: &[u8], text: &[u8], read: Frame) {

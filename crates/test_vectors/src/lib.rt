@@ -1,4 +1,9 @@
-// What the programs of the worked vectors share: the header that vectors are made with, a frame of their words, and both in print.
+// What the programs of the worked vectors share: the header that vectors are made with, a frame of their words, and both and records in print.
+pub mod corrections;
+pub mod healths;
+pub mod positions;
+pub mod texts;
+
 use frame::Frame;
 use frame::Header;
 use frame::HeaderWords;

@@ -35,6 +35,7 @@ pub enum Function {
     Stops,
     UdreLimitMm,
     Cn0Dbhz,
+    LetterOf,
 }
 
 /// A function, its name and every number that it can answer.
@@ -56,7 +57,7 @@ const fn row(function: Function, name: &'static str, answers: &'static [u64]) ->
 }
 
 /// All functions, in the order of the header.
-pub const FUNCTIONS: [Row; 27] = [
+pub const FUNCTIONS: [Row; 28] = [
     row(Function::StateSize, "rtcm2_state_size", &[188]),
     row(Function::Start, "rtcm2_start", &[0, 13]),
     row(Function::Feed, "rtcm2_feed", &[0, 1, 2, 3, 5]),
@@ -75,7 +76,7 @@ pub const FUNCTIONS: [Row; 27] = [
     row(
         Function::CorrectionAt,
         "rtcm2_correction_at",
-        &[0, 6, 7, 8, 9, 13, 14, 15, 16],
+        &[0, 6, 7, 8, 9, 10, 13, 14, 15, 16],
     ),
     row(
         Function::MakeCorrections,
@@ -112,7 +113,7 @@ pub const FUNCTIONS: [Row; 27] = [
         "rtcm2_read_null",
         &[0, 6, 7, 8, 14, 15, 16],
     ),
-    row(Function::MakeNull, "rtcm2_make_null", &[0, 5, 6, 7, 13]),
+    row(Function::MakeNull, "rtcm2_make_null", &[0, 5, 6, 7, 12, 13]),
     row(
         Function::ReadText,
         "rtcm2_read_text",
@@ -128,6 +129,7 @@ pub const FUNCTIONS: [Row; 27] = [
     row(Function::Stops, "rtcm2_stops", &[0]),
     row(Function::UdreLimitMm, "rtcm2_udre_limit_mm", &[0, 5, 10]),
     row(Function::Cn0Dbhz, "rtcm2_cn0_dbhz", &[0, 10]),
+    row(Function::LetterOf, "rtcm2_letter_of", &[0, 11]),
 ];
 
 /// The place of a function in the table.

@@ -114,13 +114,14 @@ unsafe extern "C" {
         frame_size: usize,
         length: *mut usize,
     ) -> u8;
-    pub fn rtcm2_read_null(frame: *const u8, frame_size: usize) -> u8;
+    pub fn rtcm2_read_null(frame: *const u8, frame_size: usize, n: *mut u8) -> u8;
     pub fn rtcm2_make_null(
         kind: u8,
         station: u16,
         z: u16,
         sequence: u8,
         health: u8,
+        n: u8,
         frame: *mut u8,
         frame_size: usize,
         length: *mut usize,
@@ -149,4 +150,5 @@ unsafe extern "C" {
     pub fn rtcm2_stops(prc: i16, rrc: i8, stop: *mut u8) -> u8;
     pub fn rtcm2_udre_limit_mm(health: u8, udre: u8, limited: *mut u8, mm: *mut u32) -> u8;
     pub fn rtcm2_cn0_dbhz(code: u8, tracked: *mut u8, dbhz: *mut u8) -> u8;
+    pub fn rtcm2_letter_of(code: u8, letter: *mut u32) -> u8;
 }

@@ -28,6 +28,7 @@ pub fn answer(call: &mut Call) -> u64 {
             u64::from(number(call))
         }
         Function::Stops => u64::from(stops(call)),
+        Function::LetterOf => u64::from(letter_of(call)),
     }
 }
 
@@ -96,7 +97,10 @@ fn read(call: &mut Call) -> u8 {
             let [x, y, z] = of(lent);
             unsafe { rtcm2_read_position(frame, size, at(x), at(y), at(z)) }
         }
-        Function::ReadNull => unsafe { rtcm2_read_null(frame, size) },
+        Function::ReadNull => {
+            let [n] = of(lent);
+            unsafe { rtcm2_read_null(frame, size, at(n)) }
+        }
         Function::ReadText => {
             let [text, length] = of(lent);
             unsafe { rtcm2_read_text(frame, size, at(text), text.size(), at(length)) }
@@ -179,7 +183,7 @@ fn make_position(call: &mut Call) -> u8 {
 }
 
 fn make_null(call: &mut Call) -> u8 {
-    let head = call.head();
+    let (head, n) = (call.head(), call.given[5] as u8);
     let [frame, length] = of(&mut call.lent);
     let (room, frame) = (frame.size(), at(frame));
     unsafe {
@@ -189,6 +193,7 @@ fn make_null(call: &mut Call) -> u8 {
             head.z,
             head.sequence,
             head.health,
+            n,
             frame,
             room,
             at(length),
@@ -199,6 +204,11 @@ fn make_null(call: &mut Call) -> u8 {
 fn stops(call: &mut Call) -> u8 {
     let (given, [stop]) = (&call.given, of(&mut call.lent));
     unsafe { rtcm2_stops(given[0] as i16, given[1] as i8, at(stop)) }
+}
+
+fn letter_of(call: &mut Call) -> u8 {
+    let [letter] = of(&mut call.lent);
+    unsafe { rtcm2_letter_of(call.given[0] as u8, at(letter)) }
 }
 
 fn number(call: &mut Call) -> u8 {

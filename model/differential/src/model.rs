@@ -31,6 +31,7 @@ pub fn answer(call: &mut Call) -> u64 {
             u64::from(number(call))
         }
         Function::Stops => u64::from(stops(call)),
+        Function::LetterOf => u64::from(letter_of(call)),
     }
 }
 
@@ -94,7 +95,10 @@ fn read(call: &mut Call) -> u8 {
             let [x, y, z] = of(lent);
             records::read_position(frame, x.number(), y.number(), z.number())
         }
-        Function::ReadNull => records::read_null(frame),
+        Function::ReadNull => {
+            let [n] = of(lent);
+            records::read_null(frame, n.number())
+        }
         Function::ReadText => {
             let [text, length] = of(lent);
             records::read_text(frame, text.bytes(), length.number())
@@ -133,7 +137,7 @@ fn make(call: &mut Call) -> u8 {
             let [x, y, z] = [5, 6, 7].map(|i| call.given[i] as i32);
             records::make_position(head, Position { x, y, z }, frame, length)
         }
-        Function::MakeNull => records::make_null(head, frame, length),
+        Function::MakeNull => records::make_null(head, call.given[5] as u8, frame, length),
         Function::MakeText => records::make_text(head, of::<1>(read)[0].bytes(), frame, length),
         other => unreachable!("{other:?}"),
     }
@@ -142,6 +146,11 @@ fn make(call: &mut Call) -> u8 {
 fn stops(call: &mut Call) -> u8 {
     let (given, [stop]) = (&call.given, of(&mut call.lent));
     numbers::stops(given[0] as i16, given[1] as i8, stop.number())
+}
+
+fn letter_of(call: &mut Call) -> u8 {
+    let [letter] = of(&mut call.lent);
+    numbers::letter_of(call.given[0] as u8, letter.number())
 }
 
 fn number(call: &mut Call) -> u8 {

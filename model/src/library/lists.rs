@@ -1,9 +1,11 @@
-//! The types whose frames hold a list: corrections (1 and 9) and health (5). An
-//! entry is a row of bytes.
+//! The types whose frames hold a list: corrections (1, 9, 31 and 34) and health (5
+//! and 33). An entry is a row of bytes; where the systems differ, a byte holds the
+//! bits as sent.
 
 use super::{frame_in, keep_frame, numbered, Head};
-use crate::record::correction::{self, Correction};
-use crate::record::health::{self, Health};
+use crate::record::correction::{self, Correction, Issue};
+use crate::record::health::{self, Condition, Health};
+use crate::record::{system, System};
 use crate::refusal::{Answer, Refusal};
 
 /// Bytes of a correction.
@@ -18,7 +20,7 @@ pub fn count_corrections(frame: &[u8], count: &mut usize) -> u8 {
     numbered(counted.map(|found| *count = found))
 }
 
-/// One correction. Refuses with 14, 15, 16, 15, 16, 6, 7, 8, 9, 13.
+/// One correction. Refuses with 14, 15, 16, 15, 16, 6, 7, 8, 9, 10, 13.
 pub fn correction_at(frame: &[u8], index: usize, row: &mut [u8]) -> u8 {
     let found = frame_in(frame).and_then(|frame| correction::entry(&frame, index));
     numbered(found.and_then(|entry| put_row(&correction_row(&entry), row)))
@@ -32,7 +34,7 @@ pub fn make_corrections(head: Head, rows: &[u8], frame: &mut [u8], length: &mut 
 fn corrections_made(head: Head, rows: &[u8], frame: &mut [u8], length: &mut usize) -> Answer<()> {
     let mut entries = [Correction::default(); correction::MOST];
     for (entry, row) in entries.iter_mut().zip(rows.chunks_exact(CORRECTION_SIZE)) {
-        *entry = correction_of(row);
+        *entry = correction_of(row, system(head.kind.into()));
     }
     let count = row_count(rows, CORRECTION_SIZE);
     let made = correction::make(&head.header()?, &entries, count)?;
@@ -59,7 +61,7 @@ pub fn make_healths(head: Head, rows: &[u8], frame: &mut [u8], length: &mut usiz
 fn healths_made(head: Head, rows: &[u8], frame: &mut [u8], length: &mut usize) -> Answer<()> {
     let mut entries = [Health::default(); health::MOST];
     for (entry, row) in entries.iter_mut().zip(rows.chunks_exact(HEALTH_SIZE)) {
-        *entry = health_of(row);
+        *entry = health_of(row, system(head.kind.into()));
     }
     let count = row_count(rows, HEALTH_SIZE);
     let made = health::make(&head.header()?, &entries, count)?;
@@ -83,9 +85,14 @@ fn put_row(row: &[u8], lent: &mut [u8]) -> Answer<()> {
 }
 
 /// The row of a correction: PRC and RRC in two's complement, PRC low byte first.
+/// The last byte is the IOD, or the change bit and the seven of tb.
 pub fn correction_row(entry: &Correction) -> [u8; CORRECTION_SIZE] {
     let [prc_low, prc_high] = entry.prc.to_le_bytes();
     let rrc = entry.rrc as u8;
+    let issue = match entry.issue {
+        Issue::Iod(iod) => iod,
+        Issue::Age { change, tb } => 128 * change + tb,
+    };
     [
         entry.scale,
         entry.udre,
@@ -93,28 +100,39 @@ pub fn correction_row(entry: &Correction) -> [u8; CORRECTION_SIZE] {
         prc_low,
         prc_high,
         rrc,
-        entry.iod,
+        issue,
     ]
 }
 
-fn correction_of(row: &[u8]) -> Correction {
+fn correction_of(row: &[u8], system: System) -> Correction {
     Correction {
         scale: row[0],
         udre: row[1],
         satellite: row[2],
         prc: i16::from_le_bytes([row[3], row[4]]),
         rrc: row[5] as i8,
-        iod: row[6],
+        issue: match system {
+            System::Gps => Issue::Iod(row[6]),
+            System::Glonass => Issue::Age {
+                change: row[6] / 128,
+                tb: row[6] % 128,
+            },
+        },
     }
 }
 
-/// The row of a satellite's health, its fields in the order sent.
+/// The row of a satellite's health, its fields in the order sent, the three health
+/// bits in one byte.
 pub fn health_row(entry: &Health) -> [u8; HEALTH_SIZE] {
+    let condition = match entry.condition {
+        Condition::Code(code) => code,
+        Condition::Data { health, reserved } => 4 * health + reserved,
+    };
     [
         entry.reserved_first,
         entry.satellite,
-        entry.iod_link,
-        entry.health,
+        entry.link,
+        condition,
         entry.cn0,
         entry.enable,
         entry.new_data,
@@ -124,12 +142,18 @@ pub fn health_row(entry: &Health) -> [u8; HEALTH_SIZE] {
     ]
 }
 
-fn health_of(row: &[u8]) -> Health {
+fn health_of(row: &[u8], system: System) -> Health {
     Health {
         reserved_first: row[0],
         satellite: row[1],
-        iod_link: row[2],
-        health: row[3],
+        link: row[2],
+        condition: match system {
+            System::Gps => Condition::Code(row[3]),
+            System::Glonass => Condition::Data {
+                health: row[3] / 4,
+                reserved: row[3] % 4,
+            },
+        },
         cn0: row[4],
         enable: row[5],
         new_data: row[6],

@@ -49,3 +49,8 @@ pub fn cn0_dbhz(code: u8, tracked: &mut u8, dbhz: &mut u8) -> u8 {
         *dbhz = number.unwrap_or(0);
     }))
 }
+
+/// The letter of a character's code, as its Unicode number. Refuses with 11.
+pub fn letter_of(code: u8, letter: &mut u32) -> u8 {
+    numbered(values::letter(code).map(|number| *letter = number))
+}

@@ -1,4 +1,5 @@
-//! The types whose frames hold one thing: position (3), nothing (6), text (16).
+//! The types whose frames hold one thing: position (3 and 32), nothing (6, and 34
+//! with N 0 or 1), text (16 and 36).
 
 use super::{frame_in, keep_frame, numbered, Head};
 use crate::record::position::{self, Position};
@@ -20,14 +21,15 @@ pub fn make_position(head: Head, place: Position, frame: &mut [u8], length: &mut
     numbered(made.and_then(|made| keep_frame(&made, frame, length)))
 }
 
-/// Whether the frame is a null frame. Refuses with 14, 15, 16, 15, 16, 6, 7, 8.
-pub fn read_null(frame: &[u8]) -> u8 {
-    numbered(frame_in(frame).and_then(|frame| null::read(&frame)))
+/// Reads a null frame's N. Refuses with 14, 15, 16, 15, 16, 6, 7, 8.
+pub fn read_null(frame: &[u8], n: &mut u8) -> u8 {
+    let read = frame_in(frame).and_then(|frame| null::read(&frame));
+    numbered(read.map(|found| *n = found))
 }
 
-/// Makes a null frame. Refuses with 5, 6, 7, 13.
-pub fn make_null(head: Head, frame: &mut [u8], length: &mut usize) -> u8 {
-    let made = head.header().and_then(|header| null::make(&header));
+/// Makes a null frame with the wanted N. Refuses with 5, 6, 7, 12, 13.
+pub fn make_null(head: Head, n: u8, frame: &mut [u8], length: &mut usize) -> u8 {
+    let made = head.header().and_then(|header| null::make(&header, n));
     numbered(made.and_then(|made| keep_frame(&made, frame, length)))
 }
 

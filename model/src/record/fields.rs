@@ -57,10 +57,13 @@ impl Layer {
         }
     }
 
-    /// Appends fill to the end of the last word, this byte once per 8 bits.
+    /// Appends fill to the end of the last word, bit by bit: this byte once per 8
+    /// bits, from its highest bit on wherever the fill starts.
     pub fn fill(&mut self, byte: u8) {
+        let mut place = 0;
         while !self.bits.len().is_multiple_of(24) {
-            self.put(i64::from(byte), 8);
+            self.put(i64::from(byte) >> (7 - place % 8), 1);
+            place += 1;
         }
     }
 

@@ -1,12 +1,66 @@
-//! Type 5: constellation health, one word for each of 1 to 31 satellites.
+//! Type 5, and 33 for GLONASS: constellation health, one word for each of 1 to 31
+//! satellites. The systems differ in the meaning of the three health bits.
 
 use super::fields::{code_of, satellite_of, Fields, Layer};
-use super::{begin_making, begin_reading, Layout};
+use super::{begin_making, begin_reading, system, Layout, System};
 use crate::frame::{Frame, Header};
 use crate::refusal::{refuse_if, Answer, Refusal};
 
 /// Most satellites in a frame.
 pub const MOST: usize = 31;
+
+/// What the three health bits say of a satellite's data.
+#[derive(Clone, Copy, Debug, PartialEq, Eq)]
+pub enum Condition {
+    /// Type 5: a code, 0 to 7.
+    Code(u8),
+    /// Type 33.
+    Data {
+        /// Data health, one bit.
+        health: u8,
+        /// Two reserved bits, kept as read.
+        reserved: u8,
+    },
+}
+
+impl Default for Condition {
+    fn default() -> Condition {
+        Condition::Code(0)
+    }
+}
+
+impl Condition {
+    /// The next three bits, read for a system.
+    fn read(fields: &mut Fields, system: System) -> Condition {
+        match system {
+            System::Gps => Condition::Code(fields.unsigned(3) as u8),
+            System::Glonass => Condition::Data {
+                health: fields.unsigned(1) as u8,
+                reserved: fields.unsigned(2) as u8,
+            },
+        }
+    }
+
+    /// Lays out the three bits.
+    fn put(self, layer: &mut Layer) {
+        match self {
+            Condition::Code(code) => layer.put(i64::from(code), 3),
+            Condition::Data { health, reserved } => {
+                layer.put(i64::from(health), 1);
+                layer.put(i64::from(reserved), 2);
+            }
+        }
+    }
+
+    /// Whether it is of this system and inside its range.
+    fn in_range(self, system: System) -> bool {
+        match (system, self) {
+            (System::Gps, Condition::Code(code)) => code <= 7,
+            (System::Glonass, Condition::Data { health, reserved }) => health <= 1 && reserved <= 3,
+            _ => false,
+        }
+    }
+}
 
 /// The health of one satellite, numbers as sent.
 #[derive(Clone, Copy, Debug, Default, PartialEq, Eq)]
@@ -15,10 +69,10 @@ pub struct Health {
     pub reserved_first: u8,
     /// Satellite, 1 to 32.
     pub satellite: u8,
-    /// IOD link, one bit.
-    pub iod_link: u8,
+    /// IOD link, or tb link in type 33, one bit.
+    pub link: u8,
     /// Health, three bits.
-    pub health: u8,
+    pub condition: Condition,
     /// C/N0 code, five bits.
     pub cn0: u8,
     /// Enable, one bit.
@@ -43,12 +97,13 @@ pub fn count(frame: &Frame) -> Answer<usize> {
 /// The satellite with this number, from 0. Refuses with 5, 6, 7, 8, 9.
 pub fn entry(frame: &Frame, number: usize) -> Answer<Health> {
     refuse_if(number >= count(frame)?, Refusal::NoSuchEntry)?;
+    let system = system(frame.header.type_number);
     let mut fields = Fields::from(frame, 24 * number);
     Ok(Health {
         reserved_first: fields.unsigned(1) as u8,
         satellite: satellite_of(fields.unsigned(5)),
-        iod_link: fields.unsigned(1) as u8,
-        health: fields.unsigned(3) as u8,
+        link: fields.unsigned(1) as u8,
+        condition: Condition::read(&mut fields, system),
         cn0: fields.unsigned(5) as u8,
         enable: fields.unsigned(1) as u8,
         new_data: fields.unsigned(1) as u8,
@@ -63,7 +118,9 @@ pub fn make(header: &Header, entries: &[Health; MOST], count: usize) -> Answer<F
     begin_making(header, Layout::Health)?;
     refuse_if(!(1..=MOST).contains(&count), Refusal::EntryCount)?;
     let used = &entries[..count];
-    refuse_if(!used.iter().all(in_range), Refusal::OutsideRange)?;
+    let system = system(header.type_number);
+    let all_in_range = used.iter().all(|entry| in_range(entry, system));
+    refuse_if(!all_in_range, Refusal::OutsideRange)?;
     let mut layer = Layer::default();
     for entry in used {
         put_entry(&mut layer, entry);
@@ -75,8 +132,8 @@ pub fn make(header: &Header, entries: &[Health; MOST], count: usize) -> Answer<F
 fn put_entry(layer: &mut Layer, entry: &Health) {
     layer.put(i64::from(entry.reserved_first), 1);
     layer.put(code_of(entry.satellite), 5);
-    layer.put(i64::from(entry.iod_link), 1);
-    layer.put(i64::from(entry.health), 3);
+    layer.put(i64::from(entry.link), 1);
+    entry.condition.put(layer);
     layer.put(i64::from(entry.cn0), 5);
     layer.put(i64::from(entry.enable), 1);
     layer.put(i64::from(entry.new_data), 1);
@@ -86,11 +143,11 @@ fn put_entry(layer: &mut Layer, entry: &Health) {
 }
 
 /// Whether every field of an entry is inside its range.
-fn in_range(entry: &Health) -> bool {
+fn in_range(entry: &Health, system: System) -> bool {
     entry.reserved_first <= 1
         && (1..=32).contains(&entry.satellite)
-        && entry.iod_link <= 1
-        && entry.health <= 7
+        && entry.link <= 1
+        && entry.condition.in_range(system)
         && entry.cn0 <= 31
         && entry.enable <= 1
         && entry.new_data <= 1

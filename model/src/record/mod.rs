@@ -9,35 +9,59 @@ pub mod position;
 pub mod text;
 pub mod values;
 
-use crate::frame::{check_frame, check_header, Frame, Header, Z_COUNTS};
+use crate::frame::{check_frame, check_header, Frame, Header, MOST_WORDS, Z_COUNTS};
 use crate::refusal::{refuse_if, Answer, Refusal};
 
 /// The layout of a frame's data words.
 #[derive(Clone, Copy, Debug, PartialEq, Eq)]
 pub enum Layout {
-    /// Types 1 and 9.
+    /// Types 1, 9 and 31, and type 34 with N from 2.
     Correction,
-    /// Type 3.
+    /// Types 3 and 32.
     Position,
-    /// Type 5.
+    /// Types 5 and 33.
     Health,
-    /// Type 6.
+    /// Type 6, and type 34 with N 0 or 1.
     Null,
-    /// Type 16.
+    /// Types 16 and 36.
     Text,
     /// Every other type number.
     Plain,
 }
 
-/// The layout that follows from a type number.
-pub fn layout(type_number: u16) -> Layout {
+/// The layout that follows from a type number; of type 34, from N too.
+pub fn layout(type_number: u16, n: u8) -> Layout {
     match type_number {
-        1 | 9 => Layout::Correction,
-        3 => Layout::Position,
-        5 => Layout::Health,
+        1 | 9 | 31 => Layout::Correction,
+        3 | 32 => Layout::Position,
+        5 | 33 => Layout::Health,
         6 => Layout::Null,
-        16 => Layout::Text,
+        16 | 36 => Layout::Text,
+        34 if n <= 1 => Layout::Null,
+        34 => Layout::Correction,
         _ => Layout::Plain,
+    }
+}
+
+/// Whether a type number has this layout, with one N or another.
+pub fn may_have(type_number: u16, wanted: Layout) -> bool {
+    (0..=MOST_WORDS as u8).any(|n| layout(type_number, n) == wanted)
+}
+
+/// The system whose satellites a frame speaks of.
+#[derive(Clone, Copy, Debug, PartialEq, Eq)]
+pub enum System {
+    /// Types 1, 5 and 9.
+    Gps,
+    /// Types 31, 33 and 34.
+    Glonass,
+}
+
+/// The system of a type number whose frames name satellites.
+pub fn system(type_number: u16) -> System {
+    match type_number {
+        31 | 33 | 34 => System::Glonass,
+        _ => System::Gps,
     }
 }
 
@@ -53,8 +77,8 @@ fn begin_making(header: &Header, wanted: Layout) -> Answer<()> {
     check_type_and_z(header, wanted)
 }
 
-/// Refuses another type, then a Z count outside the hour.
+/// Refuses another type, whatever N is, then a Z count outside the hour.
 fn check_type_and_z(header: &Header, wanted: Layout) -> Answer<()> {
-    refuse_if(layout(header.type_number) != wanted, Refusal::AnotherType)?;
+    refuse_if(!may_have(header.type_number, wanted), Refusal::AnotherType)?;
     refuse_if(header.z_count >= Z_COUNTS, Refusal::ZCount)
 }

@@ -1,18 +1,45 @@
-//! Type 6: the null frame, without data words.
+//! Type 6, and type 34 with N 0 or 1: the null frame, without data or with one word
+//! of fill.
 
-use super::fields::Layer;
+use super::fields::{data_bits, Layer};
 use super::{begin_making, begin_reading, Layout};
 use crate::frame::{Frame, Header};
 use crate::refusal::{refuse_if, Answer, Refusal};
 
-/// Reads a null frame. Refuses with 5, 6, 7, 8.
-pub fn read(frame: &Frame) -> Answer<()> {
-    begin_reading(frame, Layout::Null)?;
-    refuse_if(frame.n != 0, Refusal::NDoesNotFit)
+/// The fill: alternating ones and zeros.
+pub const FILL: u32 = 0b1010_1010_1010_1010_1010_1010;
+
+/// Most words of a null frame of this type.
+fn most_words(type_number: u16) -> u8 {
+    match type_number {
+        34 => 1,
+        _ => 0,
+    }
 }
 
-/// The null frame of a header. Refuses with 5, 6, 7.
-pub fn make(header: &Header) -> Answer<Frame> {
+/// Reads a null frame: its N, whatever the fill. Refuses with 5, 6, 7, 8.
+pub fn read(frame: &Frame) -> Answer<u8> {
+    begin_reading(frame, Layout::Null)?;
+    let most = most_words(frame.header.type_number);
+    refuse_if(frame.n > most, Refusal::NDoesNotFit)?;
+    Ok(frame.n)
+}
+
+/// The null frame of a header with the wanted N. Refuses with 5, 6, 7, 12.
+pub fn make(header: &Header, wanted: u8) -> Answer<Frame> {
     begin_making(header, Layout::Null)?;
-    Ok(Layer::default().frame(header))
+    let most = most_words(header.type_number);
+    refuse_if(wanted > most, Refusal::EntryCount)?;
+    let mut layer = Layer::default();
+    for _ in 0..wanted {
+        layer.put(i64::from(FILL), 24);
+    }
+    Ok(layer.frame(header))
+}
+
+/// Whether the word, if there is one, is standard fill. Refuses as `read`.
+pub fn fill_is_standard(frame: &Frame) -> Answer<bool> {
+    read(frame)?;
+    let fill = data_bits(frame);
+    Ok(fill.iter().enumerate().all(|(i, bit)| *bit == (i % 2 == 0)))
 }

@@ -1,4 +1,4 @@
-//! Type 3: the station's position, three numbers of centimetres.
+//! Types 3 and 32: the station's position, three numbers of centimetres.
 
 use super::fields::{Fields, Layer};
 use super::{begin_making, begin_reading, Layout};

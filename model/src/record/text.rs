@@ -1,4 +1,5 @@
-//! Type 16: text of 1 to 90 characters, three a word; zeros close the last word.
+//! Types 16 and 36: text of 1 to 90 characters, three a word; zeros close the last
+//! word. Type 36 also has the Russian letters.
 
 use super::fields::{Fields, Layer};
 use super::{begin_making, begin_reading, Layout};
@@ -8,9 +9,18 @@ use crate::refusal::{refuse_if, Answer, Refusal};
 /// Most characters in a frame.
 pub const MOST: usize = 90;
 
-/// Refuses text with a character outside 1 to 127.
-fn check_characters(text: &[u8]) -> Answer<()> {
-    let allowed = text.iter().all(|code| (1..=127).contains(code));
+/// The last code that a type allows; the first is 1.
+pub fn last_code(type_number: u16) -> u8 {
+    match type_number {
+        36 => 191,
+        _ => 127,
+    }
+}
+
+/// Refuses text with a character that its type does not allow.
+fn check_characters(text: &[u8], type_number: u16) -> Answer<()> {
+    let codes = 1..=last_code(type_number);
+    let allowed = text.iter().all(|code| codes.contains(code));
     refuse_if(!allowed, Refusal::ForbiddenCharacter)
 }
 
@@ -29,7 +39,7 @@ pub fn read(frame: &Frame, buffer: &mut [u8]) -> Answer<usize> {
             text.pop();
         }
     }
-    check_characters(&text)?;
+    check_characters(&text, frame.header.type_number)?;
     refuse_if(buffer.len() < text.len(), Refusal::BufferTooShort)?;
     buffer[..text.len()].copy_from_slice(&text);
     Ok(text.len())
@@ -39,7 +49,7 @@ pub fn read(frame: &Frame, buffer: &mut [u8]) -> Answer<usize> {
 pub fn make(header: &Header, text: &[u8]) -> Answer<Frame> {
     begin_making(header, Layout::Text)?;
     refuse_if(!(1..=MOST).contains(&text.len()), Refusal::EntryCount)?;
-    check_characters(text)?;
+    check_characters(text, header.type_number)?;
     let mut layer = Layer::default();
     for code in text {
         layer.put(i64::from(*code), 8);

@@ -1,5 +1,5 @@
 //! What the fields of records and headers mean: millimetres, millimetres a second,
-//! dBHz, minutes, tenths of a second and the UDRE limit.
+//! dBHz, minutes, tenths of a second, the UDRE limit and letters.
 
 use crate::frame::{State, Z_COUNTS};
 use crate::refusal::{refuse_if, Answer, Refusal};
@@ -67,7 +67,22 @@ pub fn cn0_dbhz(code: u8) -> Answer<Option<u8>> {
     }
 }
 
-/// The time code of type 5 in minutes. Refuses with 10.
+/// The Russian letters of type 36, codes 128 to 191.
+const LETTERS: &str = "АБВГДЕЖЗИЙКЛМНОПРСТУФХЦЧШЩЪЫЬЭЮЯабвгдежзийклмнопрстуфхцчшщъыьэюя";
+
+/// The letter of a character's code, as its Unicode number. Refuses with 11.
+pub fn letter(code: u8) -> Answer<u32> {
+    match code {
+        0 => Err(Refusal::ForbiddenCharacter),
+        1..=127 => Ok(u32::from(code)),
+        _ => {
+            let russian = LETTERS.chars().nth(usize::from(code) - 128);
+            russian.map(u32::from).ok_or(Refusal::ForbiddenCharacter)
+        }
+    }
+}
+
+/// The time code of types 5 and 33 in minutes. Refuses with 10.
 pub fn minutes(code: u8) -> Answer<u8> {
     refuse_if(code > 15, Refusal::OutsideRange)?;
     Ok(5 * code)

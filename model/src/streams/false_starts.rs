@@ -38,8 +38,8 @@ fn lone_header(rng: &mut Rng, n: u8) -> [u32; 2] {
 fn small_frames(rng: &mut Rng, count: usize) -> Vec<Frame> {
     let small = |rng: &mut Rng| match rng.below(3) {
         0 => samples::null_frame(rng),
-        1 => samples::text_frame(rng, 5),
-        _ => samples::health_frame(rng, 3),
+        1 => samples::text_frame(rng, 16, 5),
+        _ => samples::health_frame(rng, 5, 3),
     };
     (0..count).map(|_| small(rng)).collect()
 }
@@ -116,7 +116,7 @@ fn false_last_word(rng: &mut Rng) -> Vec<u8> {
         for _ in 0..15 {
             bits.push_frame(&samples::null_frame(rng));
         }
-        let broken = bits.push_frame(&samples::text_frame(rng, 9));
+        let broken = bits.push_frame(&samples::text_frame(rng, 16, 9));
         bits.turn(broken + rng.place(30));
         bits.push_frames(&small_frames(rng, 3));
     }
@@ -171,7 +171,7 @@ fn frame_in_broken_frame(rng: &mut Rng) -> Vec<u8> {
         let first = bits.push_frame(&samples::plain_frame(rng, 2, 31));
         let at = first + 62 + rng.place(600);
         let mut inner = Bits(bits.0[..at].to_vec());
-        inner.push_frame(&samples::text_frame(rng, 6));
+        inner.push_frame(&samples::text_frame(rng, 16, 6));
         bits.0[at..inner.len()].copy_from_slice(&inner.0[at..]);
         bits.push_frames(&small_frames(rng, 2));
     }

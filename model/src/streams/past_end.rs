@@ -42,9 +42,9 @@ fn past_end_off_grid(rng: &mut Rng) -> Vec<u8> {
     bits.push_frames(&samples::frames(rng, 5));
     bits.push_words(&header_words(&samples::header(rng, 1), 31));
     bits.push_noise(rng, 3);
-    bits.push_frame(&samples::text_frame(rng, 20));
+    bits.push_frame(&samples::text_frame(rng, 16, 20));
     bits.push_words(&header_words(&samples::header(rng, 5), 30));
-    bits.push_frame(&samples::position_frame(rng));
+    bits.push_frame(&samples::position_frame(rng, 3));
     bits.to_bytes()
 }
 

@@ -17,17 +17,25 @@ pub(super) const STREAMS: &[Entry] = &[
     ("valid-h", any),
     ("corrections-1", |rng| corrections(rng, 1)),
     ("corrections-9", |rng| corrections(rng, 9)),
-    ("positions", |rng| repeat(rng, 20, samples::position_frame)),
-    ("healths", healths),
+    ("corrections-31", |rng| corrections(rng, 31)),
+    ("corrections-34", |rng| corrections(rng, 34)),
+    ("positions", |rng| positions(rng, 3)),
+    ("positions-32", |rng| positions(rng, 32)),
+    ("healths", |rng| healths(rng, 5)),
+    ("healths-33", |rng| healths(rng, 33)),
     ("nulls", |rng| repeat(rng, 40, samples::null_frame)),
-    ("texts", texts),
+    ("nulls-34", nulls_34),
+    ("texts", |rng| texts(rng, 16)),
+    ("texts-36", |rng| texts(rng, 36)),
+    ("other-system", other_system),
     ("plain-a", |rng| repeat(rng, 20, samples::other_frame)),
     ("plain-b", |rng| repeat(rng, 20, samples::other_frame)),
     ("plain-c", |rng| repeat(rng, 20, samples::other_frame)),
     ("every-type", every_type),
     ("type-64", |rng| of_type(rng, 64)),
     ("n-31", n_31),
-    ("every-n", every_n),
+    ("every-n", |rng| every_n(rng, 2)),
+    ("every-n-34", |rng| every_n(rng, 34)),
     ("every-health", every_health),
     ("z-over-5999", z_over_5999),
 ];
@@ -54,17 +62,58 @@ fn corrections(rng: &mut Rng, type_number: u16) -> Vec<u8> {
     written(&(1..=18).map(make).collect::<Vec<Frame>>())
 }
 
-fn healths(rng: &mut Rng) -> Vec<u8> {
-    let make = |count| samples::health_frame(rng, count);
+fn positions(rng: &mut Rng, type_number: u16) -> Vec<u8> {
+    let make = |_| samples::position_frame(rng, type_number);
+    written(&(0..20).map(make).collect::<Vec<Frame>>())
+}
+
+fn healths(rng: &mut Rng, type_number: u16) -> Vec<u8> {
+    let make = |count| samples::health_frame(rng, type_number, count);
     written(&(1..=31).map(make).collect::<Vec<Frame>>())
 }
 
-fn texts(rng: &mut Rng) -> Vec<u8> {
+/// Null frames of type 34: without a word, with fill, with any word.
+fn nulls_34(rng: &mut Rng) -> Vec<u8> {
+    let mut frames = Vec::new();
+    for _ in 0..12 {
+        frames.push(samples::glonass_null_frame(rng, 0));
+        frames.push(samples::glonass_null_frame(rng, 1));
+        frames.push(samples::plain_frame(rng, 34, 1));
+    }
+    written(&frames)
+}
+
+fn texts(rng: &mut Rng, type_number: u16) -> Vec<u8> {
     let counts = [
         1, 2, 3, 4, 5, 6, 7, 13, 29, 30, 31, 44, 60, 61, 62, 87, 88, 89, 90,
     ];
-    let make = |count| samples::text_frame(rng, count);
+    let make = |count| samples::text_frame(rng, type_number, count);
     written(&counts.into_iter().map(make).collect::<Vec<Frame>>())
+}
+
+/// Records of one system with the type number of the other: a tb from 120 on or a
+/// letter is refused, all else is read with another meaning.
+fn other_system(rng: &mut Rng) -> Vec<u8> {
+    let mut frames = Vec::new();
+    let mut push = |mut frame: Frame, type_number| {
+        frame.header.type_number = type_number;
+        frames.push(frame);
+    };
+    for count in 1..=4 {
+        for (of, other) in [(1, 31), (9, 34), (31, 1), (34, 9)] {
+            push(samples::correction_frame(rng, of, count), other);
+        }
+        for (of, other) in [(5, 33), (33, 5)] {
+            push(samples::health_frame(rng, of, count), other);
+        }
+        for (of, other) in [(16, 36), (36, 16)] {
+            push(samples::text_frame(rng, of, count), other);
+        }
+        push(samples::position_frame(rng, 3), 32);
+        push(samples::glonass_null_frame(rng, count as u8 % 2), 6);
+        push(samples::null_frame(rng), 34);
+    }
+    written(&frames)
 }
 
 fn every_type(rng: &mut Rng) -> Vec<u8> {
@@ -85,8 +134,8 @@ fn n_31(rng: &mut Rng) -> Vec<u8> {
     written(&[1, 3, 5, 6, 9, 16, 18, 64].map(make))
 }
 
-fn every_n(rng: &mut Rng) -> Vec<u8> {
-    let make = |n| samples::plain_frame(rng, 2, n);
+fn every_n(rng: &mut Rng, type_number: u16) -> Vec<u8> {
+    let make = |n| samples::plain_frame(rng, type_number, n);
     written(&(0..=31).map(make).collect::<Vec<Frame>>())
 }
 
@@ -96,7 +145,7 @@ fn every_health(rng: &mut Rng) -> Vec<u8> {
         let mut three = [
             samples::correction_frame(rng, 1, 2),
             samples::null_frame(rng),
-            samples::text_frame(rng, 8),
+            samples::text_frame(rng, 16, 8),
         ];
         for frame in &mut three {
             frame.header.state = State::of_code(code);

@@ -12,45 +12,45 @@ use Rattle.record_healths.proofs.rows_of.Statement.{statement}
 use Rattle.record_healths.proofs.rows_of.Tie as tie
 
 abbrev Inv-loop : tie.InvT-loop
-Inv-loop count entries rows₀ i₀ t7 t8 t9 rows i = (i ≤ 31)
-    × (putRows widths least most (map numbers (take count entries)) noRows ≡ rowsLeft numbers widths least most entries count i rows)
+Inv-loop system count entries rows₀ i₀ t8 t9 t10 rows i = (i ≤ 31)
+    × (putRows widths least most (map (numbers system) (take count entries)) noRows ≡ rowsLeft (numbers system) widths least most entries count i rows)
 
 abbrev μ-loop : tie.MeasureT-loop
-μ-loop count entries rows₀ i₀ t7 t8 t9 rows i = 31 - i
+μ-loop system count entries rows₀ i₀ t8 t9 t10 rows i = 31 - i
 
 loop-holds : tie.Need-loop-holds Inv-loop μ-loop
 loop-holds c = (
   omega arith,
-  ap (putRows widths least most (map numbers (take (c .before .args .count) (c .before .args .t1)))) (sym (c .no-rows .ensures)),
+  ap (putRows widths least most (map (numbers (c .before .args .system)) (take (c .before .args .count) (c .before .args .t2)))) (sym (c .no-rows .ensures)),
 )
 
 returns : tie.Need-returns Inv-loop μ-loop
 returns c =
     let l = c .before .before .loop in
     let a = c .before .before .before .before .args in
-    sym (l .inv .1 ∙ rows-end numbers widths least most (a .t1) (a .count) (l .i) (l .rows)
-    (omega (arith, length-take (a .count) (a .t1))))
+    sym (l .inv .1 ∙ rows-end (numbers (a .system)) widths least most (a .t2) (a .count) (l .i) (l .rows)
+    (omega (arith, length-take (a .count) (a .t2))))
 
 loop-again : tie.Need-loop-again Inv-loop μ-loop
 loop-again c =
     let c4 = c .before .before .before .before in
-    let turn = c4 .before .before .before .before in
-    let l = turn .loop in
-    let s = turn .before .before in
-    let full : length (s .args .t1) ≡ 31 = search needs in (
+    let t = c4 .before .before .before .before in
+    let l = t .loop in
+    let s = t .before .before in
+    let full : length (s .args .t2) ≡ 31 = search needs in (
       omega arith,
       l .inv .1
-          ∙ rows-next numbers widths least most (s .args .t1) (s .args .count) (l .i) _ (l .rows) (c .put-row .result) (omega arith) (omega arith)
-          (c .put-row .ensures ∙ ap (λ v. putRow widths least most v (l .rows)) (c4 .numbers-of .ensures)),
+          ∙ rows-next (numbers (s .args .system)) widths least most (s .args .t2) (s .args .count) (l .i) _ (l .rows) (c .put-row .result)
+          (omega arith) (omega arith) (c .put-row .ensures ∙ ap (λ v. putRow widths least most v (l .rows)) (c4 .numbers-of .ensures)),
     )
 
 returns-2 : tie.Need-returns-2 Inv-loop μ-loop
 returns-2 c =
     let l = c .before .loop in
     let s = c .before .before .before in
-    let full : length (s .args .t1) ≡ 31 = search needs in
-    sym (l .inv .1 ∙ rows-end numbers widths least most (s .args .t1) (s .args .count) (l .i) (l .rows)
-    (omega (arith, length-take (s .args .count) (s .args .t1))))
+    let full : length (s .args .t2) ≡ 31 = search needs in
+    sym (l .inv .1 ∙ rows-end (numbers (s .args .system)) widths least most (s .args .t2) (s .args .count) (l .i) (l .rows)
+    (omega (arith, length-take (s .args .count) (s .args .t2))))
 
 pub rows-of-spec : {M : Type 1} → statement M
 rows-of-spec =

@@ -1,15 +1,18 @@
 -- `read_null` meets its contract: the stages in their order. Assumes nothing.
-use mathlib.Core.Path.{_≡_, sym, _∙_}
+use mathlib.Core.Path.{_≡_, sym, ap, _∙_}
+use mathlib.Core.Bool.{Bool}
 use mathlib.Core.List.{[]}
 use borrow.Author.Needs.{needs}
 use Rattle.frame.specs.Answer.{frameWidths, clockOf}
 use Rattle.frame.specs.declared.Widths.the-variants.{Within}
 use Rattle.frame.specs.declared.Clock.the-variants.{Hour}
+use Rattle.frame.specs.declared.Frame.{Frame}
 use Rattle.frame.specs.declared.Layout.the-variants as layout
+use Rattle.frame.specs.Layout.{systemOf}
 use Rattle.record_stages.specs.declared.Asked.the-variants.{Same}
-use Rattle.record_stages.specs.Stages.{askedOf, wrongSize}
+use Rattle.record_stages.specs.Stages.{askedOf}
 use Rattle.record_stages.proofs.StageLaws.{read5, read6, read7, read8, read-on, told-wrong, told-right}
-use Rattle.record_nulls.specs.Nulls.{readNull}
+use Rattle.record_nulls.specs.Nulls.{tooMany, nullSize, readNull}
 use Rattle.record_nulls.specs.declared.NullRead.the-variants as read
 use Rattle.record_nulls.proofs.read_null.Statement.{statement}
 use Rattle.record_nulls.proofs.read_null.Tie as tie
@@ -34,11 +37,18 @@ same c = sym (c .enum-told3 .given .1) ∙ c .before .before .asked-of .ensures
 hour : (c : tie.After-enum-told5) → Hour ≡ clockOf (start (five (six c)) .args .frame .header .z)
 hour c = sym (c .enum-told5 .given .1) ∙ c .before .before .clock-of .ensures
 
+-- the frame, and whether N is too many
+abbrev asked : tie.After-enum-told5 → Frame
+asked h = start (five (six h)) .args .frame
+
+abbrev wrong : Frame → Bool
+wrong f = tooMany (systemOf (f .header .kind)) (f .n)
+
 returns : tie.Need-returns
 unfolding readNull
 returns c =
     let f = c .before .before .before .args .frame in
-    read5 layout.Null f (wrongSize 0 (f .n)) [] read.Refused read.Null
+    read5 layout.Null f (wrong f) [] read.Refused (read.Null (f .n))
     (sym (c .enum-told2 .given .1) ∙ c .before .before .frame-widths .ensures)
 
 returns-2 : tie.Need-returns-2
@@ -47,44 +57,44 @@ returns-2 c =
     let c4 = c .before .before .before .before in
     let c7 = c4 .before .before .before in
     let f = c7 .args .frame in
-    read6 layout.Null f (wrongSize 0 (f .n)) [] read.Refused read.Null
+    read6 layout.Null f (wrong f) [] read.Refused (read.Null (f .n))
     (within c4) (sym (c .enum-told4 .given .1) ∙ c .before .before .asked-of .ensures)
 
 returns-3 : tie.Need-returns-3
 unfolding readNull
 returns-3 c =
-    let c7 = five (c .before .before .before) in
-    let c10 = c7 .before .before .before in
-    let f = c10 .args .frame in
-    read7 layout.Null f (wrongSize 0 (f .n)) [] read.Refused read.Null
-    (within c7) (same (c .before .before .before)) (sym (c .enum-told6 .given .1) ∙ c .before .before .clock-of .ensures)
+    let s = c .before .before .before in
+    let f = start (five s) .args .frame in
+    read7 layout.Null f (wrong f) [] read.Refused (read.Null (f .n))
+    (within (five s)) (same s) (sym (c .enum-told6 .given .1) ∙ c .before .before .clock-of .ensures)
+
+-- N as the code held it to its system's most
+abbrev sized : tie.After-null-size → tie.After-enum-told5
+sized z = z .before .before
+
+size : (z : tie.After-null-size) → z .null-size .result ≡ nullSize (systemOf (asked (sized z) .header .kind)) (asked (sized z) .n)
+size z = z .null-size .ensures ∙ ap (λ s. nullSize s (asked (sized z) .n)) (z .before .system-of .ensures)
 
 returns-4 : tie.Need-returns-4
 unfolding readNull
 returns-4 c =
-    let c6 = six (c .before .before .before) in
-    let c10 = c6 .before .before .before .before in
-    let c13 = c10 .before .before .before in
-    let f = c13 .args .frame in
-    read8 layout.Null f (wrongSize 0 (f .n)) [] read.Refused read.Null
-    (within c10) (same c6) (hour (c .before .before .before))
-    (told-wrong (wrongSize 0 (f .n)) (sym (c .enum-told8 .given .1) ∙ c .before .before .size-of .ensures))
+    let h = sized (c .before .before) in
+    let f = asked h in
+    read8 layout.Null f (wrong f) [] read.Refused (read.Null (f .n)) (within (five (six h)))
+    (same (six h)) (hour h) (told-wrong (wrong f) (sym (c .enum-told8 .given .1) ∙ size (c .before .before)))
 
 returns-5 : tie.Need-returns-5
 unfolding readNull
 returns-5 c =
-    let c6 = six (c .before .before .before) in
-    let c10 = c6 .before .before .before .before in
-    let c13 = c10 .before .before .before in
-    let f = c13 .args .frame in
-    read-on layout.Null f (wrongSize 0 (f .n)) [] read.Refused read.Null
-    (within c10) (same c6) (hour (c .before .before .before))
-    (told-right (wrongSize 0 (f .n)) (sym (c .enum-told7 .given .1) ∙ c .before .before .size-of .ensures))
+    let h = sized (c .before .before) in
+    let f = asked h in
+    read-on layout.Null f (wrong f) [] read.Refused (read.Null (f .n)) (within (five (six h)))
+    (same (six h)) (hour h) (told-right (wrong f) (sym (c .enum-told7 .given .1) ∙ size (c .before .before)))
 
 pub read-null-spec : {M : Type 1} → statement M
 read-null-spec =
     tie.close
     (tie.spec (λ c κs. search needs) (λ c. search needs) (λ c. search needs) returns (λ c κs. search needs)
     (λ c. search needs) (λ c. search needs) returns-2 (λ c κs. search needs) (λ c. search needs)
-    (λ c. search needs) returns-3 (λ c κs. search needs) (λ c. search needs) (λ c. search needs) returns-4
+    (λ c. search needs) returns-3 (λ c κs. search needs) (λ c κs. search needs) (λ c. search needs) (λ c. search needs) returns-4
     returns-5)

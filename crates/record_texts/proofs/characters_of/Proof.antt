@@ -19,11 +19,11 @@ abbrev judged : Bool → Characters
 judged bad = cond bad Forbidden Permitted
 
 abbrev Inv-loop : tie.InvT-loop
-Inv-loop words count i₀ i = (i ≤ count)
-    × (anyOf forbidden (characters count (dataBits words)) ≡ anyOf forbidden (drop i (characters count (dataBits words))))
+Inv-loop system words count i₀ i = (i ≤ count)
+    × (anyOf (forbidden system) (characters count (dataBits words)) ≡ anyOf (forbidden system) (drop i (characters count (dataBits words))))
 
 abbrev μ-loop : tie.MeasureT-loop
-μ-loop words count i₀ i = count - i
+μ-loop system words count i₀ i = count - i
 
 loop-holds : tie.Need-loop-holds Inv-loop μ-loop
 loop-holds c = (omega arith, refl)
@@ -37,8 +37,8 @@ returns c =
     let cs = characters (a .count) (dataBits (a .words)) in
     let l = length-characters (a .count) (dataBits (a .words)) in
     ap judged (sym (c4 .loop .inv .1
-    ∙ any-hit forbidden i cs (omega (arith, l))
-    (ap forbidden (character-at (a .count) i (dataBits (a .words)) (omega arith) ∙ sym (c .before .before .character .ensures .0))
+    ∙ any-hit (forbidden (a .system)) i cs (omega (arith, l))
+    (ap (forbidden (a .system)) (character-at (a .count) i (dataBits (a .words)) (omega arith) ∙ sym (c .before .before .character .ensures .0))
     ∙ sym (c .before .is-forbidden .ensures) ∙ c .if1 .taken)))
 
 loop-again : tie.Need-loop-again Inv-loop μ-loop
@@ -51,8 +51,8 @@ loop-again c =
     let l = length-characters (a .count) (dataBits (a .words)) in (
       omega arith,
       c4 .loop .inv .1
-          ∙ any-miss forbidden i cs (omega (arith, l))
-          (ap forbidden (character-at (a .count) i (dataBits (a .words)) (omega arith) ∙ sym (c .before .before .character .ensures .0))
+          ∙ any-miss (forbidden (a .system)) i cs (omega (arith, l))
+          (ap (forbidden (a .system)) (character-at (a .count) i (dataBits (a .words)) (omega arith) ∙ sym (c .before .before .character .ensures .0))
           ∙ sym (c .before .is-forbidden .ensures) ∙ c .if1 .left),
     )
 
@@ -60,7 +60,7 @@ returns-2 : tie.Need-returns-2 Inv-loop μ-loop
 returns-2 c =
     let a = c .before .before .args in
     ap judged (sym (c .before .loop .inv .1
-    ∙ any-end forbidden (c .before .loop .i) (characters (a .count) (dataBits (a .words)))
+    ∙ any-end (forbidden (a .system)) (c .before .loop .i) (characters (a .count) (dataBits (a .words)))
     (omega (arith, length-characters (a .count) (dataBits (a .words))))))
 
 pub characters-of-spec : {M : Type 1} → statement M

@@ -1,5 +1,5 @@
 -- `read_text` meets its contract: the stages in their order, each with what it says, then the characters. Assumes nothing.
-use mathlib.Core.Path.{_≡_, sym, ap, _∙_}
+use mathlib.Core.Path.{_≡_, sym, ap, ap₂, _∙_}
 use mathlib.Core.List.{List, _++_}
 use mathlib.Core.Bool.{false}
 use Prim.Native.Nat.{ℕ, _*_, _≤_}
@@ -15,6 +15,8 @@ use Rattle.frame.specs.declared.Frame.{Frame}
 use Rattle.frame.specs.declared.Widths.the-variants.{Within}
 use Rattle.frame.specs.declared.Clock.the-variants.{Hour}
 use Rattle.frame.specs.declared.Layout.the-variants as layout
+use Rattle.frame.specs.declared.System.{System}
+use Rattle.frame.specs.Layout.{systemOf}
 use Rattle.frame.specs.Widths.{outside, anyOf}
 use Rattle.frame.proofs.WidthLaws.{told-within}
 use Rattle.record_fields.specs.Coding.{frameBits}
@@ -45,7 +47,7 @@ abbrev eight : tie.After-text-length → tie.After-enum-told7
 eight c = c .before .before
 
 abbrev eleven : tie.After-enum-told9 → tie.After-text-length
-eleven c = c .before .before .before
+eleven c = c .before .before .before .before
 
 abbrev begun : tie.After-enum-told7 → tie.Start
 begun c = start (five (six (seven c)))
@@ -92,10 +94,15 @@ text-is c =
     ap (λ m. characters m (dataBits (f .words))) (counted c)
     ∙ characters-frame f (inside (eight c)) (full (begun (eight c))) (lengthIn f) (length-le (3 * f .n) (frameBits f) .0)
 
-tested : (c : tie.After-characters-of) → c .characters-of .result ≡ charactersOf (textIn (frame (eight (c .before))))
-tested c = c .characters-of .ensures ∙ ap charactersOf (text-is (c .before))
+-- and they are held to the last code of the frame's type
+abbrev asked : tie.After-characters-of → System
+asked c = systemOf (frame (eight (c .before .before)) .header .kind)
 
-permitted : (c : tie.After-enum-told9) → anyOf forbidden (textIn (frame (eight (eleven c)))) ≡ false
+tested : (c : tie.After-characters-of) → c .characters-of .result ≡ charactersOf (asked c) (textIn (frame (eight (c .before .before))))
+tested c = c .characters-of .ensures ∙ ap₂ charactersOf (c .before .system-of .ensures) (text-is (c .before .before))
+
+permitted : (c : tie.After-enum-told9)
+    → let f = frame (eight (eleven c)) in anyOf (forbidden (systemOf (f .header .kind))) (textIn f) ≡ false
 permitted c = told-permitted _ (sym (c .enum-told9 .given .1) ∙ tested (c .before .before))
 
 returns : tie.Need-returns
@@ -128,7 +135,7 @@ text-length-requires c κs = let s = some-words (frame (c .before) .n) (right (c
 returns-5 : tie.Need-returns-5
 returns-5 c =
     let t = c .before .before in
-    let c8 = eight (t .before) in
+    let c8 = eight (t .before .before) in
     text11 (frame c8) (buffer c8) (within (five (six (seven c8)))) (same (six (seven c8))) (hour (seven c8)) (right c8)
     (told-forbidden _ (sym (c .enum-told10 .given .1) ∙ tested t))
 
@@ -172,5 +179,5 @@ read-text-spec =
     (tie.spec (λ c κs. search needs) (λ c. search needs) (λ c. search needs) returns (λ c κs. search needs)
     (λ c. search needs) (λ c. search needs) returns-2 (λ c κs. search needs) (λ c. search needs)
     (λ c. search needs) returns-3 (λ c κs. search needs) (λ c. search needs) (λ c. search needs) returns-4
-    text-length-requires (λ c κs. few c) (λ c. search needs) (λ c. search needs) returns-5 (λ c κs. search needs)
+    text-length-requires (λ c κs. search needs) (λ c κs. few (c .before)) (λ c. search needs) (λ c. search needs) returns-5 (λ c κs. search needs)
     (λ c. search needs) (λ c. search needs) returns-6 write-text-requires (λ c. search needs) returns-7)

@@ -3,32 +3,44 @@
 
 use super::ends::inside;
 use rtcm2_model::frame::{Frame, Header, State};
-use rtcm2_model::record::correction::{self, Correction};
-use rtcm2_model::record::health::{self, Health};
+use rtcm2_model::record::correction::{self, Correction, Issue, LAST_TB};
+use rtcm2_model::record::health::{self, Condition, Health};
 use rtcm2_model::record::position::{self, Position};
-use rtcm2_model::record::{null, text};
+use rtcm2_model::record::{null, system, text, System};
 use rtcm2_model::rng::Rng;
 use rtcm2_model::samples;
 
 /// A correction.
-pub fn correction(rng: &mut Rng) -> Correction {
+pub fn correction(rng: &mut Rng, system: System) -> Correction {
     Correction {
         scale: inside(rng, 0, 1) as u8,
         udre: inside(rng, 0, 3) as u8,
         satellite: inside(rng, 1, 32) as u8,
         prc: inside(rng, -32768, 32767) as i16,
         rrc: inside(rng, -128, 127) as i8,
-        iod: inside(rng, 0, 255) as u8,
+        issue: match system {
+            System::Gps => Issue::Iod(inside(rng, 0, 255) as u8),
+            System::Glonass => Issue::Age {
+                change: inside(rng, 0, 1) as u8,
+                tb: inside(rng, 0, LAST_TB.into()) as u8,
+            },
+        },
     }
 }
 
 /// A satellite's health.
-pub fn satellite_health(rng: &mut Rng) -> Health {
+pub fn satellite_health(rng: &mut Rng, system: System) -> Health {
     Health {
         reserved_first: inside(rng, 0, 1) as u8,
         satellite: inside(rng, 1, 32) as u8,
-        iod_link: inside(rng, 0, 1) as u8,
-        health: inside(rng, 0, 7) as u8,
+        link: inside(rng, 0, 1) as u8,
+        condition: match system {
+            System::Gps => Condition::Code(inside(rng, 0, 7) as u8),
+            System::Glonass => Condition::Data {
+                health: inside(rng, 0, 1) as u8,
+                reserved: inside(rng, 0, 3) as u8,
+            },
+        },
         cn0: inside(rng, 0, 31) as u8,
         enable: inside(rng, 0, 1) as u8,
         new_data: inside(rng, 0, 1) as u8,
@@ -48,9 +60,10 @@ fn position(rng: &mut Rng) -> Position {
     }
 }
 
-/// So many characters.
-pub fn characters(rng: &mut Rng, count: usize) -> Vec<u8> {
-    (0..count).map(|_| inside(rng, 1, 127) as u8).collect()
+/// So many characters, for a text of this type.
+pub fn characters(rng: &mut Rng, type_number: u16, count: usize) -> Vec<u8> {
+    let last = text::last_code(type_number).into();
+    (0..count).map(|_| inside(rng, 1, last) as u8).collect()
 }
 
 /// A header of this type.
@@ -73,19 +86,22 @@ fn count(rng: &mut Rng, most: usize) -> usize {
 pub fn frame(rng: &mut Rng, type_number: u16) -> Frame {
     let header = header(rng, type_number);
     let made = match type_number {
-        1 | 9 => {
-            let entries = [(); correction::MOST].map(|()| correction(rng));
+        34 if rng.below(3) == 0 => null::make(&header, rng.below(2) as u8),
+        1 | 9 | 31 | 34 => {
+            let system = system(type_number);
+            let entries = [(); correction::MOST].map(|()| correction(rng, system));
             correction::make(&header, &entries, count(rng, correction::MOST))
         }
-        3 => position::make(&header, &position(rng)),
-        5 => {
-            let entries = [(); health::MOST].map(|()| satellite_health(rng));
+        3 | 32 => position::make(&header, &position(rng)),
+        5 | 33 => {
+            let system = system(type_number);
+            let entries = [(); health::MOST].map(|()| satellite_health(rng, system));
             health::make(&header, &entries, count(rng, health::MOST))
         }
-        6 => null::make(&header),
-        16 => {
+        6 => null::make(&header, 0),
+        16 | 36 => {
             let count = count(rng, text::MOST);
-            text::make(&header, &characters(rng, count))
+            text::make(&header, &characters(rng, type_number, count))
         }
         _ => Ok(any_words(rng, type_number)),
     };

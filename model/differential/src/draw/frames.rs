@@ -1,7 +1,7 @@
 //! Calls that are given a frame: its journal record, right or damaged.
 
 use super::ends::{around, index, inside, longer, one_of};
-use super::{entries, numbers, parts, room};
+use super::{entries, numbers, parts, room, CODES, RECORDS};
 use crate::call::{Call, Function};
 use crate::place::Place;
 use rtcm2_model::frame::Frame;
@@ -45,7 +45,9 @@ fn call_on(function: Function, rng: &mut Rng) -> Call {
             lent.push(room(rng, 5 * (usize::from(frame.n) + 2)));
             lent.extend(numbers(rng, 1));
         }
-        Function::CountCorrections | Function::CountHealths => lent = numbers(rng, 1),
+        Function::CountCorrections | Function::CountHealths | Function::ReadNull => {
+            lent = numbers(rng, 1);
+        }
         Function::CorrectionAt => {
             given.push(index(rng, correction::count(&frame).unwrap_or(0)));
             lent.push(room(rng, CORRECTION_SIZE));
@@ -66,14 +68,19 @@ fn call_on(function: Function, rng: &mut Rng) -> Call {
 }
 
 /// A frame that the function reads, or nearly: of its type or another, with a
-/// right record or any words, now and then with a Z count past the hour.
+/// right record, any words or the record of another type, now and then with a Z
+/// count past the hour.
 fn frame_for(function: Function, rng: &mut Rng) -> Frame {
     let kind = kind_of(function, rng);
-    let mut frame = match rng.below(10) {
+    let mut frame = match rng.below(12) {
         0 => samples::any_frame(rng),
         1 | 2 => entries::any_words(rng, kind),
+        3 | 4 => of_another_type(function, rng),
         _ => entries::frame(rng, kind),
     };
+    if function == Function::CorrectionAt && rng.bit() {
+        any_issues(rng, &mut frame);
+    }
     match rng.below(16) {
         0 => frame.header.z_count = inside(rng, 6000, 8191) as u16,
         1 => frame.header.z_count = one_of(rng, &[5999, 6000]),
@@ -82,14 +89,40 @@ fn frame_for(function: Function, rng: &mut Rng) -> Frame {
     frame
 }
 
-/// The type number that the function reads; any for a function that reads all.
+/// A frame of a type that the function reads, with the words of another such type or
+/// of any that has a record: tb is then any, a text has letters where none are
+/// allowed.
+fn of_another_type(function: Function, rng: &mut Rng) -> Frame {
+    let other = match rng.below(4) {
+        0 => one_of(rng, &RECORDS),
+        _ => kind_of(function, rng),
+    };
+    let mut frame = entries::frame(rng, other);
+    frame.header.type_number = kind_of(function, rng);
+    frame
+}
+
+/// Gives each correction of a frame other last eight bits: tb at an end of its range
+/// or just past, with either change bit.
+fn any_issues(rng: &mut Rng, frame: &mut Frame) {
+    for i in 0..correction::count(frame).unwrap_or(0) {
+        let tb = one_of(rng, &[0, 1, 118, 119, 120, 121, 126, 127]);
+        let last = 128 * rng.below(2) as u32 + tb;
+        let byte = 5 * i + 4;
+        let shift = 16 - 8 * (byte % 3);
+        let word = &mut frame.words[byte / 3];
+        *word = *word & !(0xFF << shift) | last << shift;
+    }
+}
+
+/// A type number that the function reads; any for a function that reads all.
 fn kind_of(function: Function, rng: &mut Rng) -> u16 {
     match function {
-        Function::CountCorrections | Function::CorrectionAt => one_of(rng, &[1, 9]),
-        Function::CountHealths | Function::HealthAt => 5,
-        Function::ReadPosition => 3,
-        Function::ReadNull => 6,
-        Function::ReadText => 16,
+        Function::CountCorrections | Function::CorrectionAt => one_of(rng, &[1, 9, 31, 34]),
+        Function::CountHealths | Function::HealthAt => one_of(rng, &[5, 33]),
+        Function::ReadPosition => one_of(rng, &[3, 32]),
+        Function::ReadNull => one_of(rng, &[6, 34]),
+        Function::ReadText => one_of(rng, &[16, 36]),
         _ => inside(rng, 1, 64) as u16,
     }
 }
@@ -128,7 +161,7 @@ fn damage(rng: &mut Rng, record: &mut Vec<u8>, length: usize) {
         6 => put(record, 2, &[around(rng, 0, 31, 8) as u8]),
         7 => change(record, 2, one_of(rng, &[32, 64, 128, 224])),
         8 => put(record, 9 + 4 * rng.place(3), &[0x80, 0, 0, 0]),
-        9 => put(record, 9 + rng.place(93), &[one_of(rng, &[0, 128, 255])]),
+        9 => put(record, 9 + rng.place(93), &[one_of(rng, &CODES)]),
         10 => {
             let from = length.saturating_sub(1 + rng.place(5));
             let count = rng.place(6).min(length - from);

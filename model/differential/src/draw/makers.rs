@@ -2,12 +2,12 @@
 //! bytes, any count of them.
 
 use super::ends::{around, inside, longer, one_of, z_count};
-use super::{entries, numbers, parts, room};
+use super::{entries, numbers, parts, room, RECORDS};
 use crate::call::{Call, Function};
 use crate::place::Place;
 use rtcm2_model::journal::length_for;
 use rtcm2_model::library::lists::{correction_row, health_row, CORRECTION_SIZE, HEALTH_SIZE};
-use rtcm2_model::record::{correction, health, text};
+use rtcm2_model::record::{correction, health, system, text, System};
 use rtcm2_model::rng::Rng;
 
 /// A call of a maker.
@@ -26,9 +26,14 @@ pub fn call(rng: &mut Rng) -> Call {
     let mut size = 0;
     match function {
         Function::MakePosition => given.extend((0..3).map(|_| centimetres(rng))),
-        Function::MakeNull => {}
+        Function::MakeNull => {
+            let n = wanted_n(rng);
+            size = n as usize;
+            given.push(n);
+        }
         _ => {
-            let bytes = bytes_for(function, rng);
+            let kind = given[0] as u16;
+            let bytes = bytes_for(function, kind, rng);
             size = bytes.len();
             read.push(Place::starting(rng, &bytes));
         }
@@ -38,7 +43,7 @@ pub fn call(rng: &mut Rng) -> Call {
     parts(function, given, read, lent)
 }
 
-/// How many words a frame of so many right bytes has.
+/// How many words a frame of so many right bytes, or of this wanted N, has.
 fn words(function: Function, size: usize) -> usize {
     let words = match function {
         Function::Keep => size / 3,
@@ -46,7 +51,7 @@ fn words(function: Function, size: usize) -> usize {
         Function::MakeHealths => size / HEALTH_SIZE,
         Function::MakePosition => 4,
         Function::MakeText => size.div_ceil(3),
-        _ => 0,
+        _ => size,
     };
     words.min(31)
 }
@@ -66,17 +71,17 @@ fn head(function: Function, rng: &mut Rng) -> Vec<i64> {
 /// modulo 64, another that has a record, or any.
 fn kind(function: Function, rng: &mut Rng) -> i64 {
     let right = match function {
-        Function::MakeCorrections => one_of(rng, &[1, 9]),
-        Function::MakeHealths => 5,
-        Function::MakePosition => 3,
-        Function::MakeNull => 6,
-        Function::MakeText => 16,
+        Function::MakeCorrections => one_of(rng, &[1, 9, 31, 34]),
+        Function::MakeHealths => one_of(rng, &[5, 33]),
+        Function::MakePosition => one_of(rng, &[3, 32]),
+        Function::MakeNull => one_of(rng, &[6, 34]),
+        Function::MakeText => one_of(rng, &[16, 36]),
         _ => inside(rng, 1, 64),
     };
     match rng.below(24) {
         0 => one_of(rng, &[right - 1, right + 1]),
         1 => (right + 64 * (1 + rng.below(3) as i64)) % 256,
-        2 => one_of(rng, &[1, 3, 5, 6, 9, 16]),
+        2 => one_of(rng, &RECORDS).into(),
         3 => around(rng, 1, 64, 8),
         _ => right,
     }
@@ -93,28 +98,51 @@ fn centimetres(rng: &mut Rng) -> i64 {
     }
 }
 
-/// The bytes that a maker reads: right ones, some changed, or any.
-fn bytes_for(function: Function, rng: &mut Rng) -> Vec<u8> {
+/// The N that a null frame is to have: mostly 0 or 1.
+fn wanted_n(rng: &mut Rng) -> i64 {
+    match rng.below(8) {
+        0 => one_of(rng, &[2, 3, 31, 32, 255]),
+        _ => around(rng, 0, 1, 8),
+    }
+}
+
+/// The bytes that a maker of this type reads: right ones, some changed, or any.
+fn bytes_for(function: Function, kind: u16, rng: &mut Rng) -> Vec<u8> {
     let (mut bytes, highest): (Vec<u8>, &[u8]) = match function {
         Function::Keep => {
             let count = 3 * count(rng, 31);
             (random_then_zeros(rng, count), &[255])
         }
         Function::MakeCorrections => {
-            let row = |rng: &mut Rng| correction_row(&entries::correction(rng)).to_vec();
-            (rows(rng, correction::MOST, row), &HIGHEST_OF_CORRECTION)
+            let system = drawn_for(kind, rng);
+            let row = |rng: &mut Rng| correction_row(&entries::correction(rng, system)).to_vec();
+            let highest = match system {
+                System::Gps => &HIGHEST_OF_CORRECTION,
+                System::Glonass => &HIGHEST_OF_GLONASS,
+            };
+            (rows(rng, correction::MOST, row), highest)
         }
         Function::MakeHealths => {
-            let row = |rng: &mut Rng| health_row(&entries::satellite_health(rng)).to_vec();
+            let system = drawn_for(kind, rng);
+            let row = |rng: &mut Rng| health_row(&entries::satellite_health(rng, system)).to_vec();
             (rows(rng, health::MOST, row), &HIGHEST_OF_HEALTH)
         }
         _ => {
             let count = count(rng, text::MOST);
-            (entries::characters(rng, count), &[127])
+            let highest = if kind == 36 { &[191] } else { &[127] };
+            (entries::characters(rng, kind, count), highest)
         }
     };
     spoil(rng, &mut bytes, highest);
     bytes
+}
+
+/// The system of a type, now and then the other one.
+fn drawn_for(kind: u16, rng: &mut Rng) -> System {
+    match rng.below(12) {
+        0 => one_of(rng, &[System::Gps, System::Glonass]),
+        _ => system(kind),
+    }
 }
 
 /// So many bytes, half of the time with zeros from a word on.
@@ -131,6 +159,9 @@ fn random_then_zeros(rng: &mut Rng, count: usize) -> Vec<u8> {
 
 /// The highest value of each byte of a correction's row.
 const HIGHEST_OF_CORRECTION: [u8; CORRECTION_SIZE] = [1, 3, 32, 255, 255, 255, 255];
+
+/// The same for GLONASS: tb is the low seven bits of the last byte.
+const HIGHEST_OF_GLONASS: [u8; CORRECTION_SIZE] = [1, 3, 32, 255, 255, 255, 119];
 
 /// The highest value of each byte of a row of health.
 const HIGHEST_OF_HEALTH: [u8; HEALTH_SIZE] = [1, 32, 1, 7, 31, 1, 1, 1, 15, 3];
@@ -150,7 +181,7 @@ fn count(rng: &mut Rng, most: usize) -> usize {
 }
 
 /// Rows of right entries; very many of them are a hundred again and again.
-fn rows(rng: &mut Rng, most: usize, row: fn(&mut Rng) -> Vec<u8>) -> Vec<u8> {
+fn rows(rng: &mut Rng, most: usize, row: impl Fn(&mut Rng) -> Vec<u8>) -> Vec<u8> {
     let count = count(rng, most);
     let rows: Vec<Vec<u8>> = (0..count.min(100)).map(|_| row(rng)).collect();
     rows.iter().cycle().take(count).flatten().copied().collect()
@@ -175,14 +206,15 @@ fn spoil(rng: &mut Rng, bytes: &mut Vec<u8>, highest: &[u8]) {
     bytes.extend(more);
 }
 
-/// Gives one byte, if there is one, its highest value or one just past, that with the
-/// top bit, 0, 255, or any.
+/// Gives one byte, if there is one, its highest value or one just past, either with
+/// the top bit, 0, 127, 255, or any.
 fn change(rng: &mut Rng, bytes: &mut [u8], highest: &[u8]) {
     if !bytes.is_empty() {
         let at = rng.place(bytes.len());
         let most = highest[at % highest.len()];
         let any = rng.byte();
-        let values = [most, most.wrapping_add(1), most | 128, 0, 255, any];
+        let past = most.wrapping_add(1);
+        let values = [most, past, most | 128, past | 128, 0, 127, 255, any];
         bytes[at] = one_of(rng, &values);
     }
 }

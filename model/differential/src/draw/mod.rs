@@ -10,7 +10,7 @@ mod states;
 
 use crate::call::{Call, Function};
 use crate::place::Place;
-use ends::{around, inside};
+use ends::{around, inside, one_of};
 use readers::Readers;
 use rtcm2_model::rng::Rng;
 
@@ -47,8 +47,12 @@ impl Draw {
 
 /// A call on the numbers of a record, or on nothing.
 fn number(rng: &mut Rng) -> Call {
-    let (function, given) = match rng.below(11) {
+    let (function, given) = match rng.below(13) {
         0 => return parts(Function::StateSize, vec![], vec![], vec![]),
+        11 | 12 => {
+            let given = vec![code(rng)];
+            return parts(Function::LetterOf, given, vec![], numbers(rng, 1));
+        }
         9 | 10 => {
             let given = vec![inside(rng, -32768, 32767), inside(rng, -128, 127)];
             return parts(Function::Stops, given, vec![], numbers(rng, 1));
@@ -69,6 +73,20 @@ fn number(rng: &mut Rng) -> Call {
     };
     parts(function, given, vec![], numbers(rng, 2))
 }
+
+/// A character's code: any, or one beside an end of what a type allows.
+fn code(rng: &mut Rng) -> i64 {
+    match rng.below(2) {
+        0 => one_of(rng, &CODES).into(),
+        _ => rng.byte().into(),
+    }
+}
+
+/// Codes at the ends of what types 16 and 36 allow, and just past them.
+const CODES: [u8; 8] = [0, 1, 2, 127, 128, 191, 192, 255];
+
+/// The type numbers that have a record.
+const RECORDS: [u16; 11] = [1, 3, 5, 6, 9, 16, 31, 32, 33, 34, 36];
 
 /// A call of these parts.
 fn parts(function: Function, given: Vec<i64>, read: Vec<Place>, lent: Vec<Place>) -> Call {

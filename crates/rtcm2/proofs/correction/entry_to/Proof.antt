@@ -2,6 +2,7 @@
 use mathlib.Core.Path.{sym, ap, _∙_}
 use denote.Ref.{now}
 use borrow.Author.Needs.{needs}
+use Rattle.frame.specs.declared.System.the-variants.{Gps}
 use Rattle.record_corrections.specs.Corrections.{saysCorrectionRead}
 use Rattle.rtcm2_rows.specs.Rows.{saysPut}
 use Rattle.rtcm2_rows.specs.Corrections.{row}
@@ -15,7 +16,7 @@ returns c =
     let p = c .before .before .before in
     let e = p .before .before .before in
     let a = e .before .before .before .args in
-    puts-as row (now (a .correction)) (ap saysCorrectionRead (sym (e .read .given .1)))
+    puts-as (row Gps) (now (a .correction)) (ap saysCorrectionRead (sym (e .read .given .1)))
     (c .number-of .ensures ∙ ap (λ x. numberOf (saysPut x)) (p .put-correction .ensures .0), p .put-correction .ensures .1)
 
 pub entry-to-spec : {M : Type 1} → statement M

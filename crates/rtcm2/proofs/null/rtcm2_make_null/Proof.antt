@@ -18,7 +18,7 @@ returns c =
     let a = h .before .before .args in
     keeps-as (now (a .frame)) (now (a .length))
     (ap saysMade (m .make-null .ensures)
-    ∙ head-told (a .kind) (a .station) (a .z) (a .sequence) (a .health) (λ x. saysMade (makeNull x))
+    ∙ head-told (a .kind) (a .station) (a .z) (a .sequence) (a .health) (λ x. saysMade (makeNull x (a .n)))
     (sym (t .header .given .1) ∙ h .header-of .ensures))
     (k .keep-made .ensures)
 
@@ -27,7 +27,7 @@ returns-2 c =
     let h = c .before .before .before in
     let a = h .before .before .args in
     keeps-refused (now (a .frame)) (now (a .length))
-    (head-refused (a .kind) (a .station) (a .z) (a .sequence) (a .health) (λ x. saysMade (makeNull x))
+    (head-refused (a .kind) (a .station) (a .z) (a .sequence) (a .health) (λ x. saysMade (makeNull x (a .n)))
     (sym (c .before .number .given .1) ∙ h .header-of .ensures))
 
 pub rtcm2-make-null-spec : {M : Type 1} → statement M

@@ -15,10 +15,10 @@ use Rattle.rtcm2_rows.proofs.health.healths_in.Tie as tie
 
 -- the first i entries are read
 abbrev Inv-loop : tie.InvT-loop
-Inv-loop bytes entries₀ i₀ entries i = (take i entries ≡ entriesFrom row i bytes) × ((i ≤ 31) × (length entries ≡ 31))
+Inv-loop system bytes entries₀ i₀ entries i = (take i entries ≡ entriesFrom (row system) i bytes) × ((i ≤ 31) × (length entries ≡ 31))
 
 abbrev μ-loop : tie.MeasureT-loop
-μ-loop bytes entries₀ i₀ entries i = 31 - i
+μ-loop system bytes entries₀ i₀ entries i = 31 - i
 
 loop-holds : tie.Need-loop-holds Inv-loop μ-loop
 unfolding entriesFrom
@@ -28,7 +28,7 @@ loop-again : tie.Need-loop-again Inv-loop μ-loop
 loop-again c =
     let l = c .before .before .loop in
     let a = c .before .before .before .before .before .args in
-    (entry-next row (l .i) (now (a .bytes)) (l .entries) _ (omega arith) (l .inv .0) (c .entry-from2 .ensures), (omega arith, search needs))
+    (entry-next (row (a .system)) (l .i) (now (a .bytes)) (l .entries) _ (omega arith) (l .inv .0) (c .entry-from2 .ensures), (omega arith, search needs))
 
 returns : tie.Need-returns Inv-loop μ-loop
 returns c =
@@ -36,7 +36,7 @@ returns c =
     let a = c .before .before .before .before .args in
     let all : l .i ≡ 31 = omega arith in
     sym (take-all 31 (l .entries) (omega arith)) ∙ ap (λ j. take j (l .entries)) (sym all) ∙ l .inv .0
-    ∙ ap (λ j. entriesFrom row j (now (a .bytes))) all
+    ∙ ap (λ j. entriesFrom (row (a .system)) j (now (a .bytes))) all
 
 pub healths-in-spec : {M : Type 1} → statement M
 healths-in-spec =
