@@ -17,8 +17,8 @@
  * Headers. Where a frame is made, its header comes as five numbers: type 1 to 64, station 0 to 1023, Z count 0 to 8191
  * (0.6 s each), sequence 0 to 7, health 0 to 7. One outside its range is 5.
  *
- * Types. A type from 31 to 36 speaks of GLONASS satellites, any other of GPS satellites. A call on a record takes the types of
- * both: corrections 1, 9, 31 and 34; position 3 and 32; health 5 and 33; null frame 6 and 34; text 16 and 36. A frame of type 34
+ * Types. 1, 3, 5, 6, 9 and 16 are of GPS, 31, 32, 33, 34 and 36 of GLONASS. A call on a record takes the types of both:
+ * corrections 1, 9, 31 and 34; position 3 and 32; health 5 and 33; null frame 6 and 34; text 16 and 36. A frame of type 34
  * holds no corrections where N is 0 or 1, and is then a null frame; else it is no null frame. Any other type is 6.
  */
 #ifndef RTCM2_H
@@ -45,7 +45,8 @@ enum {
     RTCM2_NO_ENTRY = 9,       /* entry number not below the count */
     RTCM2_FIELD = 10,         /* record field outside its range */
     RTCM2_CHARACTER = 11,     /* forbidden character */
-    RTCM2_ENTRIES = 12,       /* no entry, too many, or bytes that are no whole number of entries; N too many for a null frame */
+    RTCM2_ENTRIES = 12,       /* no entry, too many, or bytes that are no whole number of entries; or more data words than a
+                                 null frame of the type has */
     RTCM2_TOO_SHORT = 13,     /* lent buffer too short */
     RTCM2_NO_MARK = 14,       /* the bytes do not begin with the journal mark */
     RTCM2_CUT_SHORT = 15,     /* journal record cut short */

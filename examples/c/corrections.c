@@ -1,7 +1,8 @@
 /* Prints the corrections of a line from standard input, one a line: position of the frame, station, Z count, system (GPS or
  * GLO), satellite, PRC in mm, RRC in mm/s, UDRE limit in mm, and the IOD of GPS or change bit/tb of GLONASS; then how many
- * frames and corrections there were. A satellite that is not to be used has "stop" for PRC and RRC. An entry that can't be
- * read, a GLONASS one with a tb past the hour, gives a line with its number and the refusal's, and the program goes on.
+ * frames, corrections and refused entries there were. A satellite that is not to be used has "stop" for PRC and RRC. An
+ * entry that can't be read, a GLONASS one with a tb past the hour, gives a line with its number and the refusal's, and the
+ * program goes on.
  *
  *   rt staticlib rtcm2
  *   cc -std=c11 -O2 -Wall -Wextra -Iinclude examples/c/corrections.c target/staticlib/librtcm2.a -o corrections

@@ -121,7 +121,7 @@ pub record RecordsOfRtcm : Type 0 where
   pub issue-glonass : (change tb : ℕ) → tb < 2 ^ 7 → issueIn Glonass (change * 2 ^ 7 + tb) ≡ Age change tb
   pub condition-gps : (v : ℕ) → conditionOf Gps v ≡ Code v
   pub condition-glonass : (health reserved : ℕ) → reserved < 2 ^ 2 → conditionOf Glonass (health * 2 ^ 2 + reserved) ≡ Data health reserved
-  -- the characters of type 36 in Unicode: ASCII, then 64 letters from U+0410 on
+  -- the characters of types 16 and 36 in Unicode: ASCII, then 64 letters from U+0410 on
   pub letter-ascii : (c : ℕ) → 1 ≤ c → c ≤ 127 → saysLetter (letterOf c) ≡ answers c
   pub letter-russian : (c : ℕ) → 128 ≤ c → c ≤ 191 → saysLetter (letterOf c) ≡ answers (0x0410 + (c - 128))
   pub text-n : (f : Frame) (buffer : List ℕ) (c : ℕ) → saysCount (readText f buffer) ≡ answers c

@@ -57,7 +57,7 @@ fill = 0xAAAAAA
 abbrev pub StandardFill : Frame → ℕ → Type 0
 StandardFill f c = FillAfter fill (c * 40) (frameBits f)
 
--- REFUSAL 10: scale over 1, UDRE over 3, satellite not 1 to 32, the other system's issue, tb over 119; any PRC, RRC and IOD may be sent
+-- REFUSAL 10: scale over 1, UDRE over 3, satellite not 1 to 32, the other system's issue, change over 1, tb over 119; any PRC, RRC, IOD may be sent
 abbrev pub least : List ℕ
 least = 0 ∷ 0 ∷ 1 ∷ []
 

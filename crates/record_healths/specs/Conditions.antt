@@ -1,5 +1,5 @@
--- The three health bits, the only ones in which the systems differ: GPS sends a code, GLONASS the data health in the first and two reserved
--- bits. Assumes nothing.
+-- The three health bits, the only ones in which the systems differ: GPS sends a code, GLONASS the data health in the first bit, then two
+-- reserved ones. Assumes nothing.
 use mathlib.Core.Bool.{_||_, cond}
 use Prim.Native.Nat.{ℕ, _+_, _*_, _/_, _%_, _^_, _<_}
 use lib.Dec.{ltb}

@@ -1,4 +1,4 @@
--- Type 3: what the layout owes; what can be sent is made, made then read, read then made; what a frame holds is read. Assumes nothing.
+-- Types 3 and 32: what the layout owes; what can be sent is made, made then read, read then made; what a frame holds is read. Assumes nothing.
 use mathlib.Core.Path.{_≡_, refl, sym, ap, ap₂, subst, _∙_}
 use mathlib.Core.Bool.{Bool, true, false, _||_, true≢false}
 use mathlib.Core.List.{List, [], _∷_}

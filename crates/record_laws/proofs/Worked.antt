@@ -1,5 +1,5 @@
--- Worked records, one of each type: what the makers answer, and what the readers answer of these frames, in the table's terms.
--- Assumes nothing.
+-- Worked records, one each of types 1, 3, 5, 6, 9, 16, 31, 34 (null) and 36: what the makers answer, and what the readers answer of these frames,
+-- in the table's terms. Assumes nothing.
 use mathlib.Core.Path.{_≡_, refl}
 use mathlib.Core.List.{List, [], _∷_}
 use Prim.Native.Nat.{ℕ}

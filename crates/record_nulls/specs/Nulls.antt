@@ -1,4 +1,4 @@
--- Types 6 and 34, the null frame: no record, and N says so. The answers in their orders. Assumes nothing.
+-- Types 6 and 34, the null frame: a frame without fields; its record is N. The answers in their orders. Assumes nothing.
 use mathlib.Core.Bool.{Bool, false, cond}
 use mathlib.Core.Path.{_≡_}
 use mathlib.Core.List.{[], _∷_}
@@ -51,7 +51,7 @@ unfoldable pub makeNull : Header → ℕ → Made
 makeNull h n =
     inOrder (makeOrder layout.Null h ((tooMany (systemOf (h .kind)) n, 12) ∷ [])) refusedMade (doneMade (framed h (replicate n fill)))
 
--- what is made: one frame or none, of the filled word or of no field
+-- as `make_frame` takes it: N over the most counts as no entry, which is 12; a word of fill is one field of 24 bits
 abbrev pub nullCount : System → ℕ → ℕ
 nullCount s n = cond (tooMany s n) 0 1
 

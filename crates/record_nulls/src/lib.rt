@@ -1,4 +1,4 @@
-// The null frame, no record: type 6 without data words, type 34 with none or one, which is filled.
+// The null frame, a frame without fields; its record is N: type 6 without data words, type 34 with none or one, which is filled.
 ghost use mathlib.Core.Path.{_≡_};
 ghost use Rattle.record_nulls.specs.Nulls.{mostWords, nullSize, nullCount, nullRows, readNull, makeNull};
 use frame::Clock;

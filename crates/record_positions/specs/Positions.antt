@@ -1,4 +1,4 @@
--- Type 3: the layout as data, what its codes mean, and the answers in their orders. Assumes nothing.
+-- Types 3 and 32: the layout as data, what its codes mean, and the answers in their orders. Assumes nothing.
 use mathlib.Core.Path.{_≡_}
 use mathlib.Core.Bool.{Bool, _||_, false}
 use mathlib.Core.List.{List, [], _∷_}

@@ -1,4 +1,4 @@
-// Type 3: the station's position, X, Y and Z in centimetres, four words.
+// Types 3 and 32: the station's position, X, Y and Z in centimetres, four words.
 ghost use mathlib.Core.Path.{_≡_};
 ghost use mathlib.Core.List.{_∷_, []};
 ghost use Rattle.bits.specs.Fields.{fieldsAt};

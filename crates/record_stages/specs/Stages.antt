@@ -51,7 +51,7 @@ layoutNumber layout.CorrectionOrNull = 6
 abbrev pub sameLayout : Layout → Layout → Bool
 sameLayout a b = eqb (layoutNumber a) (layoutNumber b)
 
--- a frame of the layout that is found is one of the layout that is asked for: the same, or corrections or null where N decides
+-- the layout found serves the one asked for: they are the same, or the found one is `CorrectionOrNull` and corrections or null are asked for
 abbrev pub isOf : Layout → Layout → Bool
 isOf found asked =
     sameLayout found asked

@@ -92,7 +92,7 @@ pub fn asked_of(layout: Layout, kind: u8) -> Asked
     if found == asked {
         return Asked::Same;
     }
-    // Else only corrections or null, the layout of number 6, have a second one: corrections, 0, and null, 3.
+    // Only `CorrectionOrNull`, 6, serves two others: corrections, 0, and null, 3.
     if found != 6 {
         return Asked::Other;
     }

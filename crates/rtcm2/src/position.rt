@@ -1,4 +1,4 @@
-// The station's position, type 3: X, Y and Z in centimetres.
+// The station's position, types 3 and 32: X, Y and Z in centimetres.
 ghost use mathlib.Core.Path.{_≡_};
 ghost use Rattle.rtcm2.specs.Answer.{numberOf, left};
 ghost use Rattle.rtcm2.specs.Frames.{frameSaid, keptTo, heldTo, sizeTo};

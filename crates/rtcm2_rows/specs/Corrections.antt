@@ -33,6 +33,7 @@ abbrev pub codes : Correction → List ℕ
 codes e =
     e .scale ∷ e .udre ∷ e .satellite ∷ code 15 (e .prc) % 256 ∷ code 15 (e .prc) / 256 % 256 ∷ code 7 (e .rrc) % 256 ∷ lastByte (e .issue) ∷ []
 
+-- what is put does not look at the system: `row Gps` stands for both there
 abbrev pub row : System → Coding Correction
 row s = record { widths = replicate 7 8; meant = meant s; codes = codes }
 

@@ -35,10 +35,11 @@ abbrev pub codes : SatelliteHealth → List ℕ
 codes e =
     e .reserved ∷ e .satellite ∷ e .link ∷ healthByte (e .health) ∷ e .cn0 ∷ e .enable ∷ e .new_data ∷ e .loss ∷ e .time ∷ e .spare ∷ []
 
+-- what is put does not look at the system: `row Gps` stands for both there
 abbrev pub row : System → Coding SatelliteHealth
 row s = record { widths = replicate 10 8; meant = meant s; codes = codes }
 
--- a byte of a system: two reserved bits, and before them the data health
+-- what the byte can hold, sendable or not: the low two bits are the reserved ones, the six above count as data health
 abbrev pub Byte : System → Condition → Type 0
 Byte Gps (Code v) = v < 2 ^ 8
 Byte Gps (Data health reserved) = ⊥

@@ -137,7 +137,7 @@ fn shortest() {
     show(b"G34a", 34, entries, 1, frame_of(0x668805, 0x032310, &data));
 }
 
-// Zeros for the fill are read, and made again they are the fill.
+// Entries with zeros for the fill are read; made, they have the fill.
 fn other_fill() {
     let entries = most_entries();
     let data = [

@@ -27,7 +27,7 @@ fn show(name: &[u8], n: usize, read: Frame) {
     print_null(read);
 }
 
-// No word; one of the fill; one of other bits, which made again is the fill.
+// No word; one of the fill; one of other bits, which are read; made, it has the fill.
 pub(crate) fn print_vectors() {
     show(b"G34b", 0, frame_of(0x668805, 0x032300, &[]));
     let fill = [0xAAAAAAu32];
