@@ -40,7 +40,7 @@ use Rattle.record_stages.specs.declared.Making.the-variants as making
 use Rattle.record_stages.specs.declared.Made.{Made}
 use Rattle.record_stages.proofs.StageLaws.{done-apart}
 use Rattle.record_stages.proofs.ListCode.{told-some-few}
-use Rattle.record_laws.proofs.CorrectionTrips.{corrections-made-read, corrections-read-made, corrections-read, corrections-held}
+use Rattle.record_laws.proofs.CorrectionTrips.{entry-late, corrections-made-read, corrections-read-made, corrections-read, corrections-held}
 use Rattle.record_laws.proofs.HealthTrips.{healths-made-read, healths-read-made, healths-read, healths-held}
 use Rattle.record_laws.proofs.PositionTrips.{position-made-read, position-read-made, position-read, position-held}
 use Rattle.record_laws.proofs.NullTrips.{null-made-read, null-read-made, null-read, null-held, null-n}
@@ -119,7 +119,8 @@ what-is-read = record {
   correction = λ f c i h l.
       let s = systemOf (f .header .kind) in
       let e = entryIn (coding s) i (frameBits f) in
-      ap saysCorrectionRead (corrections-read f c h .entries i l) ∙ held-says (outOfRange s e) e;
+      ap saysCorrectionRead (corrections-read f c h .entries i l) ∙ held-says (outOfRange s e) e
+      ∙ ap (λ b. cond b (refuses 10) (answers e)) (entry-late s i (frameBits f));
   healths = λ f c. (λ e. healths-held f c (count-told (countHealths f) c e), λ h. ap saysCount (healths-read f c h .counts));
   health = λ f c i h l. ap saysHealthRead (healths-read f c h .entries i l);
   position = λ f p. (

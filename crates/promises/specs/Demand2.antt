@@ -23,7 +23,8 @@ use Rattle.record_healths.specs.declared.SatelliteHealth.{SatelliteHealth}
 use Rattle.record_positions.specs.declared.Position.{Position}
 use Rattle.record_stages.specs.Stages.{otherLayout, saysCount, saysMade}
 use Rattle.record_corrections.specs.Corrections.{countCorrections, correctionAt, makeCorrections, StandardFill}
-use Rattle.record_corrections.specs.Corrections.{Typed, saysCorrectionRead, HoldsCorrections, coding as correctionCoding, outOfRange as correctionOut}
+use Rattle.record_corrections.specs.Corrections.{Typed, saysCorrectionRead, HoldsCorrections, coding as correctionCoding}
+use Rattle.record_corrections.specs.Issues.{lateTb}
 use Rattle.record_healths.specs.Healths.{countHealths, healthAt, makeHealths, saysHealthRead, HoldsHealths, coding as healthCoding}
 use Rattle.record_positions.specs.Positions.{readPosition, makePosition, positionIn, saysPositionRead, HoldsPosition}
 use Rattle.record_positions.specs.Positions as positions
@@ -49,7 +50,7 @@ pub record WhatIsRead : Type 0 where
   pub corrections : (f : Frame) (c : ℕ) → (saysCount (countCorrections f) ≡ answers c) ↔ HoldsCorrections f c
   pub correction : (f : Frame) (c i : ℕ) → HoldsCorrections f c → i < c
       → let s = systemOf (f .header .kind) in let e = entryIn (correctionCoding s) i (frameBits f) in
-      saysCorrectionRead (correctionAt f i) ≡ cond (correctionOut s e) (refuses 10) (answers e)
+      saysCorrectionRead (correctionAt f i) ≡ cond (lateTb (e .issue)) (refuses 10) (answers e)
   pub healths : (f : Frame) (c : ℕ) → (saysCount (countHealths f) ≡ answers c) ↔ HoldsHealths f c
   pub health : (f : Frame) (c i : ℕ) → HoldsHealths f c → i < c
       → saysHealthRead (healthAt f i) ≡ answers (entryIn (healthCoding (systemOf (f .header .kind))) i (frameBits f))

@@ -1,6 +1,8 @@
 -- The last eight bits of a correction, the only ones in which the systems differ: a bit and seven more. GPS sends an issue of data in
 -- all eight; GLONASS the change bit and tb, half minutes from the full hour. Assumes nothing.
+use mathlib.Core.Bool.{Bool, false}
 use Prim.Native.Nat.{ℕ, _+_, _*_, _/_, _%_, _^_, _≤_, _<_}
+use lib.Dec.{ltb}
 use Rattle.frame.specs.declared.System.{System}
 use Rattle.frame.specs.declared.System.the-variants.{Gps, Glonass}
 use Rattle.record_corrections.specs.declared.Issue.{Issue}
@@ -31,6 +33,11 @@ issueOthers Glonass (Age change tb) = tb
 unfoldable pub lastMost : System → ℕ
 lastMost Gps = 127
 lastMost Glonass = 119
+
+-- tb past the hour: all that refuses an entry which is read
+abbrev pub lateTb : Issue → Bool
+lateTb (Iod v) = false
+lateTb (Age change tb) = ltb 119 tb
 
 -- what the types of the fields say
 abbrev pub IssueTyped : Issue → Type 0

@@ -171,7 +171,7 @@ module _ {A : Type 0} (zs ws ls ms : List ℕ) (meant : List ℕ → A) (numbers
     codes-meant = λ vs f. ap (codesOf ws) (numbers-read vs f) ∙ numbers-codes 12 zs ws vs short f;
   }
 
-  -- and what is read is in range, but for what the widths leave to say
-  pub tables-range : (vs : List ℕ) → Fit ws vs → leftOut zs ws ls ms (numbers (meant vs)) ≡ false → rowOut ls ms (numbers (meant vs)) ≡ false
-  tables-range vs f o =
-      ap (rowOut ls ms) (numbers-read vs f) ∙ left-out 12 zs ws ls ms vs short f ∙ ap (leftOut zs ws ls ms) (sym (numbers-read vs f)) ∙ o
+  -- and what is read is out of range where what the widths leave to say says so, and nowhere else
+  pub tables-left : (vs : List ℕ) → Fit ws vs → rowOut ls ms (numbers (meant vs)) ≡ leftOut zs ws ls ms (numbers (meant vs))
+  tables-left vs f =
+      ap (rowOut ls ms) (numbers-read vs f) ∙ left-out 12 zs ws ls ms vs short f ∙ ap (leftOut zs ws ls ms) (sym (numbers-read vs f))

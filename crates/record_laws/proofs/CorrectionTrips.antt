@@ -1,13 +1,15 @@
 -- Types 1, 9, 31 and 34, once over the system: what the layout owes; what can be sent is made, made then read, read then made; what a frame
 -- holds is read. Assumes nothing.
 use mathlib.Core.Path.{_≡_, refl, ap, subst, _∙_}
-use mathlib.Core.Bool.{true, false}
+use mathlib.Core.Bool.{Bool, true, false, or-false}
 use mathlib.Core.List.{List}
 use Prim.Native.Nat.{ℕ, _+_, _*_, _/_, _%_, _^_, _≤_, _<_}
 use native.Mathlib.Omega.{arith}
 use lib.Dec.{ltb}
 use lib.ListN.{length, take, getD, length-take}
 use lib.Seq.{getD-take}
+use Rattle.bits.specs.Fields.{fieldsAt, Fit}
+use Rattle.bits.proofs.FieldLaws.{fits-fields}
 use Rattle.bits.proofs.SignedLaws.{code-signed, signed-code, code-lt}
 use Rattle.frame.specs.declared.Header.{Header}
 use Rattle.frame.specs.declared.Frame.{Frame}
@@ -15,10 +17,10 @@ use Rattle.frame.specs.declared.Layout.the-variants as layout
 use Rattle.frame.specs.declared.System.{System}
 use Rattle.frame.specs.declared.System.the-variants.{Gps, Glonass}
 use Rattle.frame.specs.Layout.{systemOf}
-use Rattle.record_fields.specs.Coding.{frameWith, Each}
+use Rattle.record_fields.specs.Coding.{entryIn, frameWith, Each}
 use Rattle.record_fields.specs.Tables.{row}
 use Rattle.record_fields.proofs.Round.{Faithful, Fine}
-use Rattle.record_fields.proofs.TableRound.{Below, placesFrom, numbersOf, codesWithin, tables-faithful}
+use Rattle.record_fields.proofs.TableRound.{Below, placesFrom, numbersOf, codesWithin, tables-faithful, tables-left}
 use Rattle.record_fields.proofs.TableLaws.{row-fine, row-told}
 use Rattle.record_fields.proofs.SatelliteLaws.{satellite-back}
 use Rattle.record_stages.specs.declared.Count.the-variants as count
@@ -29,7 +31,7 @@ use Rattle.record_corrections.specs.declared.Issue.the-variants.{Iod, Age}
 use Rattle.record_corrections.specs.declared.Correction.{Correction}
 use Rattle.record_corrections.specs.declared.CorrectionRead.{CorrectionRead}
 use Rattle.record_corrections.specs.declared.CorrectionRead.the-variants as read
-use Rattle.record_corrections.specs.Issues.{issueOf, issueFirst, issueOthers, lastMost, IssueTyped, IssueInRange}
+use Rattle.record_corrections.specs.Issues.{issueOf, issueFirst, issueOthers, lastMost, lateTb, IssueTyped, IssueInRange}
 use Rattle.record_corrections.specs.Corrections.{widths, meant, coding, fill, StandardFill, least, most, numbers, outOfRange}
 use Rattle.record_corrections.specs.Corrections.{countCorrections, correctionAt, makeCorrections, Typed, InRange}
 use Rattle.record_corrections.specs.Corrections.{CorrectionsMade, SendableCorrections, HoldsCorrections, ReadsCorrections}
@@ -147,6 +149,17 @@ module _ (s : System) where
     ranges = λ i l.
         (subst Typed (getD-take c es i d l) (each-at Typed (take c es) i d typed (omega (arith, length-take c es, k .there))), k .ranges i l);
   }
+
+-- of what is read the widths leave nothing to say but of tb, and GPS has none
+read-late : (s : System) (vs : List ℕ) → Fit widths vs → outOfRange s (meant s vs) ≡ lateTb (meant s vs .issue)
+unfolding issueOf issueFirst issueOthers lastMost
+read-late Gps vs f = tables-left least widths least (most Gps) (meant Gps) (numbers Gps) (omega arith) (again Gps) vs f
+read-late Glonass vs f =
+    tables-left least widths least (most Glonass) (meant Glonass) (numbers Glonass) (omega arith) (again Glonass) vs f ∙ or-false (ltb 119 (getD vs 6 0))
+
+pub entry-late : (s : System) (i : ℕ) (bs : List Bool)
+    → let e = entryIn (coding s) i bs in outOfRange s e ≡ lateTb (e .issue)
+entry-late s i bs = read-late s (fieldsAt widths (i * 40) bs) (fits-fields widths (i * 40) bs)
 
 sized : (c : ℕ) → 0 < c → c ≤ 18 → (c * 40 ≤ 744) × (entriesHeld 40 ((c * 40 + 23) / 24) ≡ c)
 sized c l h = (omega arith, omega arith)

@@ -19,7 +19,7 @@ use Rattle.frame.proofs.WidthLaws.{both-false}
 use Rattle.record_fields.specs.Coding.{frameWith}
 use Rattle.record_fields.specs.Tables.{row}
 use Rattle.record_fields.proofs.Round.{Faithful, Fine}
-use Rattle.record_fields.proofs.TableRound.{Below, placesFrom, numbersOf, tables-faithful, tables-range}
+use Rattle.record_fields.proofs.TableRound.{Below, placesFrom, numbersOf, tables-faithful, tables-left}
 use Rattle.record_fields.proofs.TableLaws.{row-fine, row-told}
 use Rattle.record_fields.proofs.SatelliteLaws.{satellite-back}
 use Rattle.record_stages.specs.declared.Count.the-variants as count
@@ -155,7 +155,7 @@ module _ (s : System) where
 
   -- what is read is in range
   in-range : (vs : List ℕ) → Fit widths vs → outOfRange s (meant s vs) ≡ false
-  in-range vs f = tables-range least widths least most (meant s) (numbers s) (omega arith) again vs f refl
+  in-range vs f = tables-left least widths least most (meant s) (numbers s) (omega arith) again vs f
 
 sized : (c : ℕ) → 0 < c → c ≤ 31 → (c * 24 ≤ 744) × (entriesHeld 24 ((c * 24 + 23) / 24) ≡ c)
 sized c l h = (omega arith, omega arith)
