@@ -45,8 +45,7 @@ enum {
     RTCM2_NO_ENTRY = 9,       /* entry number not below the count */
     RTCM2_FIELD = 10,         /* record field outside its range */
     RTCM2_CHARACTER = 11,     /* forbidden character */
-    RTCM2_ENTRIES = 12,       /* no entry, too many, or bytes that are no whole number of entries; or more data words than a
-                                 null frame of the type has */
+    RTCM2_ENTRIES = 12,       /* no entry, too many, or bytes that are no whole number of entries; N over 1 for a null frame */
     RTCM2_TOO_SHORT = 13,     /* lent buffer too short */
     RTCM2_NO_MARK = 14,       /* the bytes do not begin with the journal mark */
     RTCM2_CUT_SHORT = 15,     /* journal record cut short */
@@ -153,13 +152,13 @@ uint8_t rtcm2_read_position(const uint8_t *frame, size_t frame_size, int32_t *x_
 uint8_t rtcm2_make_position(uint8_t type, uint16_t station, uint16_t z, uint8_t sequence, uint8_t health, int32_t x_cm,
                             int32_t y_cm, int32_t z_cm, uint8_t *frame, size_t frame_size, size_t *length);
 
-/* ---- The null frame, types 6 and 34. Type 6 has no data word; type 34 has N 0 or 1. */
+/* ---- The null frame, types 6 and 34, with N 0 or 1: no data word or one. */
 
 /* Whether the frame is a null frame, and its N. A data word may hold any bits. Refusals: 14, 15, 16, 15, 16, then 6, 7, 8. */
 uint8_t rtcm2_read_null(const uint8_t *frame, size_t frame_size, uint8_t *n);
 
-/* Makes a null frame of `n` data words; a data word is filled with 10101010 three times. Refusals: 5, 6, 7, 12 (`n` over what the
- * type has), 13. */
+/* Makes a null frame of `n` data words; a data word is filled with 10101010 three times. Refusals: 5, 6, 7, 12 (`n` over 1),
+ * 13. */
 uint8_t rtcm2_make_null(uint8_t type, uint16_t station, uint16_t z, uint8_t sequence, uint8_t health, uint8_t n, uint8_t *frame,
                         size_t frame_size, size_t *length);
 

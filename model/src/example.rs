@@ -30,10 +30,10 @@ pub fn stream() -> Vec<u8> {
     let turned = bits.len();
     bits.push_noise(&mut rng, 2);
     bits.push_frame(&samples::correction_frame(&mut rng, 9, 3));
-    bits.push_frame(&samples::null_frame(&mut rng));
+    bits.push_frame(&samples::null_frame(&mut rng, 6, 1));
     bits.push_frame(&samples::correction_frame(&mut rng, 9, 1));
     bits.push_frame(&late_tb(&mut rng));
-    bits.push_frame(&samples::glonass_null_frame(&mut rng, 1));
+    bits.push_frame(&samples::null_frame(&mut rng, 34, 1));
     bits.push_frame(&samples::correction_frame(&mut rng, 34, 4));
     bits.push_frame(&samples::text_frame(&mut rng, 36, 11));
     bits.turn_from(turned);

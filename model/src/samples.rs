@@ -104,14 +104,15 @@ pub fn health_frame(rng: &mut Rng, type_number: u16, count: usize) -> Frame {
     health::make(&header(rng, type_number), &entries, count).expect("a correct record")
 }
 
-/// A frame of type 6.
-pub fn null_frame(rng: &mut Rng) -> Frame {
-    null::make(&header(rng, 6), 0).expect("a correct record")
+/// A null frame of type 6 or 34 with this N, 0 or 1.
+pub fn null_frame(rng: &mut Rng, type_number: u16, n: u8) -> Frame {
+    null::make(&header(rng, type_number), n).expect("a correct record")
 }
 
-/// A null frame of type 34 with this N, 0 or 1.
-pub fn glonass_null_frame(rng: &mut Rng, n: u8) -> Frame {
-    null::make(&header(rng, 34), n).expect("a correct record")
+/// A null frame of type 6 or 34 with either N.
+pub fn any_null_frame(rng: &mut Rng, type_number: u16) -> Frame {
+    let n = rng.below(2) as u8;
+    null_frame(rng, type_number, n)
 }
 
 /// A frame of type 16 or 36 with this many characters.
@@ -151,15 +152,12 @@ pub fn record_frame(rng: &mut Rng) -> Frame {
             let count = 1 + rng.place(health::MOST);
             health_frame(rng, type_number, count)
         }
-        6 => null_frame(rng),
+        6 => any_null_frame(rng, 6),
         16 | 36 => {
             let count = 1 + rng.place(text::MOST);
             text_frame(rng, type_number, count)
         }
-        34 if rng.bit() => {
-            let n = rng.below(2) as u8;
-            glonass_null_frame(rng, n)
-        }
+        34 if rng.bit() => any_null_frame(rng, 34),
         _ => {
             let count = 1 + rng.place(correction::MOST);
             correction_frame(rng, type_number, count)

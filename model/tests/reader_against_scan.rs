@@ -89,8 +89,8 @@ fn stream(rng: &mut Rng) -> Vec<u8> {
                 bits.push_words(&header_words(&samples::header(rng, 1), n));
             }
             2 => {
-                bits.push_frame(&samples::null_frame(rng));
-                bits.push_frame(&samples::null_frame(rng));
+                bits.push_frame(&samples::any_null_frame(rng, 6));
+                bits.push_frame(&samples::any_null_frame(rng, 6));
             }
             _ => {
                 bits.push_frame(&samples::any_frame(rng));
@@ -247,7 +247,7 @@ fn one_byte_releases_many_frames() {
     let mut bits = Bits::opened();
     bits.push_words(&header_words(&samples::header(&mut rng, 1), 31));
     for _ in 0..16 {
-        bits.push_frame(&samples::null_frame(&mut rng));
+        bits.push_frame(&samples::null_frame(&mut rng, 6, 0));
     }
     let end_of_last_word = 6 + 990;
     bits.turn(end_of_last_word - 10);

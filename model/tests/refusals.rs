@@ -154,7 +154,7 @@ fn reading_orders() {
         assert_eq!(reading_order(type_number, 4, 5, read), [5, 6, 7, 8, 0]);
     }
     let read = |whole: &Frame| number(null::read(whole));
-    for (type_number, good_n, bad_n) in [(6, 0, 1), (34, 0, 2), (34, 1, 31)] {
+    for (type_number, good_n, bad_n) in [(6, 0, 2), (6, 1, 31), (34, 0, 2), (34, 1, 31)] {
         let order = reading_order(type_number, good_n, bad_n, read);
         assert_eq!(order, [5, 6, 7, 8, 0]);
     }
@@ -163,6 +163,27 @@ fn reading_orders() {
         assert_eq!(reading_order(type_number, 1, 0, read), [5, 6, 7, 8, 11]);
         assert_eq!(reading_order(type_number, 30, 31, read), [5, 6, 7, 8, 11]);
     }
+}
+
+/// A null frame has N 0 or 1; 5, 6 and 7 come before 8 and 12.
+#[test]
+fn null_frames() {
+    let read = |type_number, n, z_count| {
+        let mut whole = frame(type_number, n);
+        whole.header.z_count = z_count;
+        number(null::read(&whole))
+    };
+    assert_eq!([0, 1, 2, 31].map(|n| read(6, n, 100)), [0, 0, 8, 8]);
+    assert_eq!(read(6, 2, 6000), 7);
+    assert_eq!(read(5, 1, 100), 6);
+    let make = |type_number, n| number(null::make(&header(type_number), n));
+    assert_eq!([0, 1, 2, 255].map(|n| make(6, n)), [0, 0, 12, 12]);
+    assert_eq!(make(5, 2), 6);
+    let mut late = header(6);
+    late.z_count = 6000;
+    assert_eq!(number(null::make(&late, 2)), 7);
+    late.sequence = 8;
+    assert_eq!(number(null::make(&late, 2)), 5);
 }
 
 #[test]
@@ -280,9 +301,9 @@ fn making_orders() {
     assert_eq!(making_order(32, make), [5, 6, 7, 10]);
     for n in 0..=255 {
         let make = |header: &Header| number(null::make(header, n));
-        let last = |most| if n <= most { 0 } else { 12 };
-        assert_eq!(making_order(6, make), [5, 6, 7, last(0)]);
-        assert_eq!(making_order(34, make), [5, 6, 7, last(1)]);
+        let last = if n <= 1 { 0 } else { 12 };
+        assert_eq!(making_order(6, make), [5, 6, 7, last]);
+        assert_eq!(making_order(34, make), [5, 6, 7, last]);
     }
 }
 

@@ -59,10 +59,11 @@ fn made_positions_nulls_and_texts_read_back_equal() {
         let frame = position::make(&header, &record).unwrap();
         assert_eq!(position::read(&frame), Ok(record));
 
-        let frame = samples::null_frame(&mut rng);
-        assert_eq!(null::read(&frame), Ok(0));
-        let frame = samples::glonass_null_frame(&mut rng, round as u8 % 2);
-        assert_eq!(null::read(&frame), Ok(round as u8 % 2));
+        for type_number in [6, 34] {
+            let n = round as u8 % 2;
+            let frame = samples::null_frame(&mut rng, type_number, n);
+            assert_eq!(null::read(&frame), Ok(n));
+        }
 
         let count = 1 + round % text::MOST;
         let type_number = [16, 36][rng.place(2)];

@@ -152,7 +152,7 @@ fn false_headers_that_stand_are_handed_out() {
 }
 
 /// Streams and the frames handed out for them, known from how they are made.
-const COUNTS: [(&str, usize); 48] = [
+const COUNTS: [(&str, usize); 49] = [
     ("corrections-1", 18),
     ("corrections-9", 18),
     ("corrections-31", 18),
@@ -161,7 +161,7 @@ const COUNTS: [(&str, usize); 48] = [
     ("positions-32", 20),
     ("healths", 31),
     ("healths-33", 31),
-    ("nulls", 40),
+    ("nulls", 36),
     ("nulls-34", 36),
     ("texts", 19),
     ("texts-36", 19),
@@ -170,6 +170,7 @@ const COUNTS: [(&str, usize); 48] = [
     ("type-64", 5),
     ("n-31", 8),
     ("every-n", 32),
+    ("every-n-6", 32),
     ("every-n-34", 32),
     ("every-health", 24),
     ("z-over-5999", 24),

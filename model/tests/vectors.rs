@@ -1,10 +1,10 @@
-//! The worked records V1a to V36c and G31a to G36c: made into frames, written to the
+//! The worked records V1a to V36c, G31a to G36c and N6a to N6e: made into frames, written to the
 //! bytes of the stream of that name, found again in them and read back.
 
 mod common;
 
 use common::header;
-use rtcm2_model::frame::Frame;
+use rtcm2_model::frame::{Frame, Header, State};
 use rtcm2_model::line::{bits_of_bytes, turned_over};
 use rtcm2_model::record::correction::{self, Correction, Issue};
 use rtcm2_model::record::health::{self, Condition, Health};
@@ -212,6 +212,43 @@ fn v6a() {
     assert_eq!(null::read(&frame), Ok(0));
 }
 
+#[test]
+fn n6a_n6b() {
+    let last = Header {
+        z_count: 5999,
+        sequence: 7,
+        state: State::of_code(7),
+        ..header(6)
+    };
+    for (header, words, name) in [
+        (header(6), "661805 032308", "N6a"),
+        (last, "661805 BB7F0F", "N6b"),
+    ] {
+        let frame = null::make(&header, 1).unwrap();
+        agrees(&frame, words, "AAAAAA", name);
+        assert_eq!(null::read(&frame), Ok(1));
+        assert_eq!(null::fill_is_standard(&frame), Ok(true));
+    }
+}
+
+/// Read only: any word is a null frame's, and made again it is the fill.
+#[test]
+fn n6c_n6d_n6e_g34d() {
+    for (header_words, word, name) in [
+        ("661805 032308", "555555", "N6c"),
+        ("661805 032308", "000000", "N6d"),
+        ("661805 032308", "FFFFFF", "N6e"),
+        ("668805 032308", "123456", "G34d"),
+    ] {
+        let frame = of_words(header_words, word);
+        agrees(&frame, header_words, word, name);
+        assert_eq!(null::read(&frame), Ok(1));
+        assert_eq!(null::fill_is_standard(&frame), Ok(false));
+        let again = null::make(&frame.header, 1).unwrap();
+        assert_eq!(again, of_words(header_words, "AAAAAA"));
+    }
+}
+
 fn a_text(type_number: u16, codes: &[u8], words: [&str; 3]) {
     let frame = text::make(&header(type_number), codes).unwrap();
     agrees(&frame, words[0], words[1], words[2]);
@@ -314,17 +351,6 @@ fn g34b_g34c() {
         assert_eq!(null::fill_is_standard(&frame), Ok(true));
         assert_eq!(correction::count(&frame), Err(Refusal::NDoesNotFit));
     }
-}
-
-/// Read only: any word is a null frame's, and made again it is the fill.
-#[test]
-fn g34d() {
-    let frame = of_words("668805 032308", "123456");
-    assert_eq!(written(&frame), bytes("G34d"));
-    assert_eq!(null::read(&frame), Ok(1));
-    assert_eq!(null::fill_is_standard(&frame), Ok(false));
-    let again = null::make(&frame.header, 1).unwrap();
-    assert_eq!(again, of_words("668805 032308", "AAAAAA"));
 }
 
 /// Read only: four satellites, zeros for the fill.

@@ -151,7 +151,7 @@ what-can-be-sent = record {
       (positions.PositionMade h p) (PositionBack h p) (position-back h p) sent (s .header) (sent .reads .header) (sent .reads .inside);
   null = λ h n s.
       let sent = null-sent h n s in
-      sent-reads-back layout.Null h (makeOrder layout.Null h ((nulls.tooMany (systemOf (h .kind)) n, 12) ∷ [])) (replicate n nulls.fill)
+      sent-reads-back layout.Null h (makeOrder layout.Null h ((nulls.tooMany n, 12) ∷ [])) (replicate n nulls.fill)
       (nulls.NullMade h n) (NullBack h n) (null-back h n) sent (s .header) (sent .reads .header) (sent .reads .inside);
   text = λ h t s.
       let sent = text-sent h t s in

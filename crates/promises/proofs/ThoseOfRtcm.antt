@@ -48,7 +48,7 @@ use Rattle.record_healths.specs.Conditions.{conditionOf}
 use Rattle.record_healths.specs.Healths as healths
 use Rattle.record_healths.specs.Healths.{countHealths}
 use Rattle.record_nulls.specs.declared.NullRead.the-variants as null
-use Rattle.record_nulls.specs.Nulls.{mostWords, tooMany, readNull, saysNullRead}
+use Rattle.record_nulls.specs.Nulls.{tooMany, readNull, saysNullRead}
 use Rattle.record_texts.specs.Texts.{lengthIn, textOrder, readText}
 use Rattle.record_stages.specs.declared.Count.{Count}
 use Rattle.record_stages.specs.declared.Count.the-variants as count
@@ -251,12 +251,12 @@ healths-fit f c e = let r = count-read layout.Health (healths.coding (systemOf (
     by : (n : ℕ) → (c * 24 + 23) / 24 ≡ n → n ≡ c
     by n up = omega arith
 
-null-fit : (f : Frame) (n : ℕ) → saysNullRead (readNull f) ≡ answers n → (f .n ≡ n) × (n ≤ mostWords (systemOf (f .header .kind)))
+null-fit : (f : Frame) (n : ℕ) → saysNullRead (readNull f) ≡ answers n → (f .n ≡ n) × (n ≤ 1)
 unfolding readNull
-null-fit f n e = (is, omega (arith, sym is, ltb-false (mostWords (systemOf (f .header .kind))) (f .n) (none .1 .1 .1 .0)))
+null-fit f n e = (is, omega (arith, sym is, ltb-false 1 (f .n) (none .1 .1 .1 .0)))
   where
     order : List Check
-    order = readOrder layout.Null f (tooMany (systemOf (f .header .kind)) (f .n)) []
+    order = readOrder layout.Null f (tooMany (f .n)) []
 
     none : NoneApplies order
     none = none-told (carries-its-number .read-null f) n e
@@ -292,7 +292,6 @@ records-of-rtcm = record {
   healths-n = healths-fit;
   position-n = λ f p e. eqb-true (f .n) 4 (not-false (eqb (f .n) 4) (none-told (carries-its-number .read-position f) p e .1 .1 .1 .0));
   null-n = null-fit;
-  null-most = unfold mostWords in (refl, refl);
   issue-gps = λ v. unfold issueOf in ap Iod (omega arith);
   issue-glonass = λ c t l. unfold issueOf in ap₂ Age (omega arith) (omega arith);
   condition-gps = λ v. unfold conditionOf in refl;

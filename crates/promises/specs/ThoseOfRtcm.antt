@@ -24,7 +24,6 @@ use Rattle.frame.specs.declared.State.the-variants.{Factor, Unmonitored, Down}
 use Rattle.frame.specs.declared.Header.{Header}
 use Rattle.frame.specs.declared.Frame.{Frame}
 use Rattle.frame.specs.declared.System.the-variants.{Gps, Glonass}
-use Rattle.frame.specs.Layout.{systemOf}
 use Rattle.stream.specs.Standing.{size, Stands, frameAt}
 use Rattle.record_stages.specs.Stages.{saysCount}
 use Rattle.record_corrections.specs.Corrections.{countCorrections}
@@ -35,7 +34,7 @@ use Rattle.record_healths.specs.Healths.{countHealths}
 use Rattle.record_healths.specs.declared.Condition.the-variants.{Code, Data}
 use Rattle.record_healths.specs.Conditions.{conditionOf}
 use Rattle.record_positions.specs.Positions.{readPosition, saysPositionRead}
-use Rattle.record_nulls.specs.Nulls.{mostWords, readNull, saysNullRead}
+use Rattle.record_nulls.specs.Nulls.{readNull, saysNullRead}
 use Rattle.record_texts.specs.Texts.{readText}
 use Rattle.record_positions.specs.declared.Position.{Position}
 use Rattle.record_fields.specs.Satellites.{satelliteOf, satelliteCode}
@@ -110,12 +109,11 @@ pub record RecordsOfRtcm : Type 0 where
   -- 3k satellites take 5k words, 3k + 1 take 5k + 2, 3k + 2 take 5k + 4: every count is one of these, so N is
   pub corrections-n : (f : Frame) (c k : ℕ) → saysCount (countCorrections f) ≡ answers c
       → ((c ≡ 3 * k) ↔ (f .n ≡ 5 * k)) × ((c ≡ 3 * k + 1) ↔ (f .n ≡ 5 * k + 2)) × ((c ≡ 3 * k + 2) ↔ (f .n ≡ 5 * k + 4))
-  -- types 5 and 33 have one word per satellite, types 3 and 32 N = 4, a null frame N = 0, in type 34 also 1, types 16 and 36 N 1 to 30 with three
+  -- types 5 and 33 have one word per satellite, types 3 and 32 N = 4, a null frame N = 0 or 1, types 16 and 36 N 1 to 30 with three
   -- characters a word, the last one or two fill
   pub healths-n : (f : Frame) (c : ℕ) → saysCount (countHealths f) ≡ answers c → f .n ≡ c
   pub position-n : (f : Frame) (p : Position) → saysPositionRead (readPosition f) ≡ answers p → f .n ≡ 4
-  pub null-n : (f : Frame) (n : ℕ) → saysNullRead (readNull f) ≡ answers n → (f .n ≡ n) × (n ≤ mostWords (systemOf (f .header .kind)))
-  pub null-most : (mostWords Gps ≡ 0) × (mostWords Glonass ≡ 1)
+  pub null-n : (f : Frame) (n : ℕ) → saysNullRead (readNull f) ≡ answers n → (f .n ≡ n) × (n ≤ 1)
   -- the last eight bits of a correction are an IOD, or a change bit and tb; three health bits are a code, or the data health and two reserved bits
   pub issue-gps : (v : ℕ) → issueIn Gps v ≡ Iod v
   pub issue-glonass : (change tb : ℕ) → tb < 2 ^ 7 → issueIn Glonass (change * 2 ^ 7 + tb) ≡ Age change tb

@@ -1,4 +1,4 @@
--- Types 6 and 34, once over the system: what can be sent is made, made then read, read then made; a null frame is read. Assumes nothing.
+-- Types 6 and 34: what can be sent is made, made then read, read then made; a null frame is read. Assumes nothing.
 use mathlib.Core.Path.{_≡_, refl, sym, ap, subst, _∙_}
 use mathlib.Core.Bool.{false}
 use mathlib.Core.List.{List, [], _∷_}
@@ -10,12 +10,9 @@ use Rattle.answer.specs.Order.{Check, NoneApplies}
 use Rattle.answer.proofs.OrderLaws.{order-answers, order-told}
 use Rattle.frame.specs.Frames.{framed, Below}
 use Rattle.frame.specs.Widths.{outside}
-use Rattle.frame.specs.Layout.{systemOf}
 use Rattle.frame.specs.declared.Header.{Header}
 use Rattle.frame.specs.declared.Frame.{Frame}
 use Rattle.frame.specs.declared.Layout.the-variants as layout
-use Rattle.frame.specs.declared.System.{System}
-use Rattle.frame.specs.declared.System.the-variants.{Gps, Glonass}
 use Rattle.frame.proofs.FrameLaws.{header-within, framed-inside, framed-again, data-framed}
 use Rattle.record_stages.specs.Stages.{readOrder, makeOrder, refusedMade, doneMade, HeaderFor, IsMade}
 use Rattle.record_stages.proofs.StageLaws.{done-apart, done-frame}
@@ -26,12 +23,6 @@ use Rattle.record_laws.proofs.SentLaws.{make-passes, make-passed, read-
 apart : (n m : ℕ) → read.Refused n ≡ read.Null m → ⊥
 apart n m q = let z : _≡_ {A = ℕ} 0 1 = cc in omega arith
 
--- no type has more than one word
-few-words : (s : System) → mostWords s ≤ 1
-unfolding mostWords
-few-words Gps = omega arith
-few-words Glonass = omega arith
-
 -- the words of a null frame are within their widths
 filled-below : (n : ℕ) → Below (replicate n fill)
 filled-below zero = tt
@@ -39,15 +30,15 @@ filled-below (suc n) = (omega arith, filled-below n)
 
 module _ (f : Frame) where
   abbrev order : List Check
-  order = readOrder layout.Null f (tooMany (systemOf (f .header .kind)) (f .n)) []
+  order = readOrder layout.Null f (tooMany (f .n)) []
 
   -- READ: a null frame is read, not refused, and no other frame is
   pub null-read : HoldsNull f → readNull f ≡ read.Null (f .n)
   unfolding readNull
   null-read s =
       order-answers read.Refused (read.Null (f .n)) order
-      (read-passes layout.Null f (tooMany (systemOf (f .header .kind)) (f .n)) [] (s .frame)
-      (le-ltb (mostWords (systemOf (f .header .kind))) (f .n) (s .few)) tt)
+      (read-passes layout.Null f (tooMany (f .n)) [] (s .frame)
+      (le-ltb mostWords (f .n) (s .few)) tt)
 
   told-read : (n : ℕ) → readNull f ≡ read.Null n → NoneApplies order × (read.Null (f .n) ≡ read.Null n)
   unfolding readNull
@@ -57,8 +48,8 @@ module _ (f : Frame) where
   null-held n e =
       let t = told-read n e .0 in
       record {
-        frame = read-passed layout.Null f (tooMany (systemOf (f .header .kind)) (f .n)) [] t;
-        few = ltb-false (mostWords (systemOf (f .header .kind))) (f .n) (t .1 .1 .1 .0);
+        frame = read-passed layout.Null f (tooMany (f .n)) [] t;
+        few = ltb-false mostWords (f .n) (t .1 .1 .1 .0);
       }
 
   pub null-n : (n : ℕ) → readNull f ≡ read.Null n → f .n ≡ n
@@ -69,7 +60,7 @@ module _ (h : Header) (n : ℕ) where
   made = framed h (replicate n fill)
 
   abbrev asked : List Check
-  asked = makeOrder layout.Null h ((tooMany (systemOf (h .kind)) n, 12) ∷ [])
+  asked = makeOrder layout.Null h ((tooMany n, 12) ∷ [])
 
   made-reads : SendableNull h n → NullMade h n made
   unfolding framed
@@ -85,7 +76,7 @@ module _ (h : Header) (n : ℕ) where
       size = length-replicate n fill
 
       short : n ≤ 1
-      short = omega (arith, s .few, few-words (systemOf (h .kind)))
+      short = s .few
 
       within : outside made ≡ false
       within = framed-inside h (replicate n fill) (s .header .inside) (filled-below n) (omega (arith, size, short))
@@ -98,7 +89,7 @@ module _ (h : Header) (n : ℕ) where
   unfolding makeNull
   passes s =
       order-answers refusedMade (doneMade made) asked
-      (make-passes layout.Null h ((tooMany (systemOf (h .kind)) n, 12) ∷ []) (s .header) (le-ltb (mostWords (systemOf (h .kind))) n (s .few), tt))
+      (make-passes layout.Null h ((tooMany n, 12) ∷ []) (s .header) (le-ltb mostWords n (s .few), tt))
 
   -- SENT: what can be sent is made, not refused, and reads back
   pub null-sent : SendableNull h n → IsMade (makeNull h n) (NullMade h n)
@@ -107,8 +98,8 @@ module _ (h : Header) (n : ℕ) where
   -- and only what can be sent is made
   pub null-told : (f : Frame) → makeNull h n ≡ doneMade f → SendableNull h n
   null-told f e = record {
-    header = make-passed layout.Null h ((tooMany (systemOf (h .kind)) n, 12) ∷ []) (told f e .0);
-    few = ltb-false (mostWords (systemOf (h .kind))) n (told f e .0 .1 .1 .1 .0);
+    header = make-passed layout.Null h ((tooMany n, 12) ∷ []) (told f e .0);
+    few = ltb-false mostWords n (told f e .0 .1 .1 .1 .0);
   }
 
   -- MADE, THEN READ

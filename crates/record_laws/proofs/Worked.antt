@@ -28,7 +28,7 @@ use Rattle.record_healths.specs.Conditions.{conditionOf, conditionNumber}
 use Rattle.record_healths.specs.Healths.{countHealths, healthAt, makeHealths, saysHealthRead}
 use Rattle.record_positions.specs.declared.Position.{Position}
 use Rattle.record_positions.specs.Positions.{tooLow, outOfRange as positionOut, readPosition, makePosition, saysPositionRead}
-use Rattle.record_nulls.specs.Nulls.{mostWords, readNull, makeNull, saysNullRead}
+use Rattle.record_nulls.specs.Nulls.{readNull, makeNull, saysNullRead}
 use Rattle.record_texts.specs.Texts.{characters, textLength, lastCode, readText, bufferAfter, makeText}
 
 -- the header of a type: station 5, Z count 100, sequence 3, health 0
@@ -131,11 +131,11 @@ health-5-read-1 = refl
 -- ---- type 6: no data word
 
 pub null-6-made : saysMade (makeNull (header 6) 0) ≡ answers (framed (header 6) [])
-unfolding factors stateOutside numbersOutside headerOutside layoutOf layoutNumber otherLayout doneMade refusedMade framed systemOf mostWords makeNull
+unfolding factors stateOutside numbersOutside headerOutside layoutOf layoutNumber otherLayout doneMade refusedMade framed makeNull
 null-6-made = refl
 
 pub null-6-read : saysNullRead (readNull (framed (header 6) [])) ≡ answers 0
-unfolding factors stateOutside numbersOutside headerOutside layoutOf layoutNumber otherLayout framed outside systemOf mostWords readNull
+unfolding factors stateOutside numbersOutside headerOutside layoutOf layoutNumber otherLayout framed outside readNull
 null-6-read = refl
 
 -- ---- type 34 with one word: the fill
@@ -144,11 +144,11 @@ abbrev pub nullFrame : Frame
 nullFrame = framed (header 34) (0xAAAAAA ∷ [])
 
 pub null-34-made : saysMade (makeNull (header 34) 1) ≡ answers nullFrame
-unfolding factors stateOutside numbersOutside headerOutside layoutOf layoutNumber otherLayout doneMade refusedMade framed systemOf mostWords makeNull
+unfolding factors stateOutside numbersOutside headerOutside layoutOf layoutNumber otherLayout doneMade refusedMade framed makeNull
 null-34-made = refl
 
 pub null-34-read : saysNullRead (readNull nullFrame) ≡ answers 1
-unfolding factors stateOutside numbersOutside headerOutside layoutOf layoutNumber otherLayout framed outside systemOf mostWords readNull
+unfolding factors stateOutside numbersOutside headerOutside layoutOf layoutNumber otherLayout framed outside readNull
 null-34-read = refl
 
 -- ---- type 16: QUICK, and one zero that closes the last word

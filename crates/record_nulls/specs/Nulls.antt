@@ -8,12 +8,9 @@ use lib.ListN.{replicate}
 use Rattle.answer.specs.Order.{Says, refuses, answers, inOrder}
 use Rattle.frame.specs.Widths.{outside}
 use Rattle.frame.specs.Frames.{framed, dataWords}
-use Rattle.frame.specs.Layout.{systemOf}
 use Rattle.frame.specs.declared.Header.{Header}
 use Rattle.frame.specs.declared.Frame.{Frame}
 use Rattle.frame.specs.declared.Layout.the-variants as layout
-use Rattle.frame.specs.declared.System.{System}
-use Rattle.frame.specs.declared.System.the-variants.{Gps, Glonass}
 use Rattle.record_fields.specs.declared.Rows.{Rows}
 use Rattle.record_fields.specs.Tables.{row, noRows, putRow}
 use Rattle.record_stages.specs.declared.Made.{Made}
@@ -23,16 +20,15 @@ use Rattle.record_stages.specs.Stages.{readOrder, makeOrder, refusedMade, doneM
 use Rattle.record_nulls.specs.declared.NullRead.{NullRead}
 use Rattle.record_nulls.specs.declared.NullRead.the-variants as read
 
--- THE MOST DATA WORDS: type 6 has none, type 34 none or one
-unfoldable pub mostWords : System → ℕ
-mostWords Gps = 0
-mostWords Glonass = 1
+-- THE MOST DATA WORDS: a null frame has none or one
+abbrev pub mostWords : ℕ
+mostWords = 1
 
-abbrev pub tooMany : System → ℕ → Bool
-tooMany s n = ltb (mostWords s) n
+abbrev pub tooMany : ℕ → Bool
+tooMany n = ltb mostWords n
 
-abbrev pub nullSize : System → ℕ → Size
-nullSize s n = cond (tooMany s n) Wrong Right
+abbrev pub nullSize : ℕ → Size
+nullSize n = cond (tooMany n) Wrong Right
 
 -- the fill of a word: 10101010 three times
 abbrev pub fill : ℕ
@@ -44,16 +40,16 @@ StandardFill f = dataWords f ≡ replicate (f .n) fill
 
 -- READING: 5, 6, 7, 8; the record is N
 unfoldable pub readNull : Frame → NullRead
-readNull f = inOrder (readOrder layout.Null f (tooMany (systemOf (f .header .kind)) (f .n)) []) read.Refused (read.Null (f .n))
+readNull f = inOrder (readOrder layout.Null f (tooMany (f .n)) []) read.Refused (read.Null (f .n))
 
 -- MAKING with N words: 5, 6, 7, 12
 unfoldable pub makeNull : Header → ℕ → Made
 makeNull h n =
-    inOrder (makeOrder layout.Null h ((tooMany (systemOf (h .kind)) n, 12) ∷ [])) refusedMade (doneMade (framed h (replicate n fill)))
+    inOrder (makeOrder layout.Null h ((tooMany n, 12) ∷ [])) refusedMade (doneMade (framed h (replicate n fill)))
 
 -- as `make_frame` takes it: N over the most counts as no entry, which is 12; a word of fill is one field of 24 bits
-abbrev pub nullCount : System → ℕ → ℕ
-nullCount s n = cond (tooMany s n) 0 1
+abbrev pub nullCount : ℕ → ℕ
+nullCount n = cond (tooMany n) 0 1
 
 abbrev pub nullRows : ℕ → Rows
 nullRows n = cond (eqb n 0) noRows (putRow (24 ∷ []) [] [] (row (fill ∷ [])) noRows)
@@ -71,12 +67,12 @@ pub record NullMade (h : Header) (wanted : ℕ) (f : Frame) : Type 0 where
   pub n : f .n ≡ wanted
   pub fill : StandardFill f
 
--- A NULL FRAME CAN BE SENT under every header that is for it, with as many words as its type may have
+-- A NULL FRAME CAN BE SENT under every header that is for it, with no word or one
 pub record SendableNull (h : Header) (n : ℕ) : Type 0 where
   pub header : HeaderFor layout.Null h
-  pub few : n ≤ mostWords (systemOf (h .kind))
+  pub few : n ≤ mostWords
 
--- A FRAME THAT IS NULL: it is for the layout, and N is no more than its type may have
+-- A FRAME THAT IS NULL: it is for the layout, and N is 0 or 1
 pub record HoldsNull (f : Frame) : Type 0 where
   pub frame : FrameFor layout.Null f
-  pub few : f .n ≤ mostWords (systemOf (f .header .kind))
+  pub few : f .n ≤ mostWords

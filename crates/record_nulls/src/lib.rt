@@ -1,11 +1,10 @@
-// The null frame, a frame without fields; its record is N: type 6 without data words, type 34 with none or one, which is filled.
+// The null frame, types 6 and 34, a frame without fields; its record is N: no data word or one, which is filled.
 ghost use mathlib.Core.Path.{_≡_};
-ghost use Rattle.record_nulls.specs.Nulls.{mostWords, nullSize, nullCount, nullRows, readNull, makeNull};
+ghost use Rattle.record_nulls.specs.Nulls.{nullSize, nullCount, nullRows, readNull, makeNull};
 use frame::Clock;
 use frame::Frame;
 use frame::Header;
 use frame::Layout;
-use frame::System;
 use frame::Widths;
 use record_fields::Rows;
 use record_stages::Asked;
@@ -24,20 +23,13 @@ const FILL: u32 = 0xAAAAAA;
 const WORD: [u32; 1] = [24];
 
 // The most data words of a null frame.
-fn most_words(system: System) -> usize
-    ensures { λ r. ⌜ r ≡ mostWords system ⌝ }
-{
-    match system {
-        System::Gps => 0,
-        System::Glonass => 1,
-    }
-}
+const MOST_WORDS: usize = 1;
 
 // Whether a null frame may have N data words.
-fn null_size(system: System, n: usize) -> Size
-    ensures { λ r. ⌜ r ≡ nullSize system n ⌝ }
+fn null_size(n: usize) -> Size
+    ensures { λ r. ⌜ r ≡ nullSize n ⌝ }
 {
-    if n > most_words(system) {
+    if n > MOST_WORDS {
         return Size::Wrong;
     }
     Size::Right
@@ -57,18 +49,17 @@ pub fn read_null(frame: Frame) -> NullRead
     let Clock::Hour = frame::clock_of(header.z) else {
         return NullRead::Refused(7);
     };
-    let system = frame::system_of(header.kind);
-    let Size::Right = null_size(system, frame.n) else {
+    let Size::Right = null_size(frame.n) else {
         return NullRead::Refused(8);
     };
     NullRead::Null(frame.n)
 }
 
 // One null frame of N words to be made, or none, where it can't have as many.
-fn null_count(system: System, n: usize) -> usize
-    ensures { λ r. ⌜ r ≡ nullCount system n ⌝ }
+fn null_count(n: usize) -> usize
+    ensures { λ r. ⌜ r ≡ nullCount n ⌝ }
 {
-    if n > most_words(system) {
+    if n > MOST_WORDS {
         return 0;
     }
     1
@@ -90,8 +81,7 @@ fn null_rows(n: usize) -> Rows
 pub fn make_null(header: Header, n: usize) -> Made
     ensures { λ r. ⌜ r ≡ makeNull header n ⌝ }
 {
-    let system = frame::system_of(header.kind);
-    let count = null_count(system, n);
+    let count = null_count(n);
     let rows = null_rows(n);
     record_stages::make_frame(Layout::Null, 1, FILL, header, count, rows)
 }

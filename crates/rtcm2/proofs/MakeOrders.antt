@@ -18,8 +18,6 @@ use Rattle.frame.specs.declared.Frame.{Frame}
 use Rattle.frame.specs.declared.Header.{Header}
 use Rattle.frame.specs.declared.Layout.{Layout}
 use Rattle.frame.specs.declared.Layout.the-variants as layout
-use Rattle.frame.specs.declared.System.{System}
-use Rattle.frame.specs.declared.System.the-variants.{Gps, Glonass}
 use Rattle.frame.specs.Layout.{systemOf}
 use Rattle.frame.proofs.FrameLaws.{framed-inside}
 use Rattle.frame.proofs.WidthLaws.{both-false}
@@ -156,12 +154,7 @@ module _ (kind station z sequence code : ℕ) (buffer : List ℕ) where
 
   -- ---- the null frame: 5, 6, 7, 12, 13
 
-  -- at most one word, and it is within its width
-  one-word : (s : System) → null.mostWords s ≤ 1
-  unfolding null.mostWords
-  one-word Gps = omega arith
-  one-word Glonass = omega arith
-
+  -- a word of fill is within its width
   filled : (n : ℕ) → Below (replicate n null.fill)
   filled zero = tt
   filled (suc n) = (omega arith, filled n)
@@ -170,10 +163,9 @@ module _ (kind station z sequence code : ℕ) (buffer : List ℕ) where
       ≡ inOrder (nullMadeOrder kind station z sequence code n buffer) refuses (answers (3 * nullFrame kind station z sequence code n .n + 9))
   unfolding null.makeNull
   null-made n =
-      let s = systemOf kind in
-      make-order layout.Null ((null.tooMany s n, 12) ∷ []) (framed H (replicate n null.fill)) (λ h. null.makeNull h n) refl
+      make-order layout.Null ((null.tooMany n, 12) ∷ []) (framed H (replicate n null.fill)) (λ h. null.makeNull h n) refl
       (λ none. framed-inside H (replicate n null.fill) (none .0) (filled n)
-      (omega (arith, length-replicate {A = ℕ} n null.fill, ltb-false (null.mostWords s) n (none .1 .1 .1 .0), one-word s)))
+      (omega (arith, length-replicate {A = ℕ} n null.fill, ltb-false null.mostWords n (none .1 .1 .1 .0))))
 
   -- ---- a frame of any type: 5, 13
 

@@ -125,7 +125,7 @@ module _ (bs : List ℕ) (fits : AreBytes bs) where
   pub null-order : nullSaid (frameSaid bs) ≡ inOrder (nullOrder bs) refuses (answers (frameFrom bs .n))
   unfolding null.readNull
   null-order =
-      record-order bs fits layout.Null (null.tooMany (systemFrom bs) (F .n)) [] null.saysNullRead null-read.Refused (λ n. refl) null.readNull
+      record-order bs fits layout.Null (null.tooMany (F .n)) [] null.saysNullRead null-read.Refused (λ n. refl) null.readNull
       (null-read.Null (F .n)) refl refl
 
   -- TEXT: 14, 15, 16, 15, 16, 6, 7, 8, 11, 13

@@ -106,7 +106,7 @@ positionOrder bs =
 
 -- NULL: then 6, 7, 8
 abbrev pub nullOrder : List ℕ → List Check
-nullOrder bs = recallOrder bs ++ recordChecks layout.Null (frameFrom bs) (null.tooMany (systemFrom bs) (frameFrom bs .n)) []
+nullOrder bs = recallOrder bs ++ recordChecks layout.Null (frameFrom bs) (null.tooMany (frameFrom bs .n)) []
 
 -- TEXT: then 6, 7, 8, 11, 13
 abbrev pub textReadOrder : List ℕ → List ℕ → List Check
@@ -176,7 +176,7 @@ module _ (kind station z sequence code : ℕ) where
   nullFrame n = framed H (replicate n null.fill)
 
   abbrev pub nullMadeOrder : ℕ → List ℕ → List Check
-  nullMadeOrder n buffer = madeOrder layout.Null ((null.tooMany S n, 12) ∷ []) (nullFrame n) buffer
+  nullMadeOrder n buffer = madeOrder layout.Null ((null.tooMany n, 12) ∷ []) (nullFrame n) buffer
 
   -- a text: 12, 11
   abbrev pub textFrame : List ℕ → Frame

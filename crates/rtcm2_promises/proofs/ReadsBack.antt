@@ -93,7 +93,7 @@ module _ (h : Header) where
 
   null-framed : (n : ℕ) (f : Frame) → saysMade (null.makeNull h n) ≡ answers f → (ws : List ℕ) × (framed h ws ≡ f)
   unfolding null.makeNull
-  null-framed n = framed-by (makeOrder layout.Null h ((null.tooMany (systemOf (h .kind)) n, 12) ∷ [])) h (replicate n null.fill) (null.makeNull h n) refl
+  null-framed n = framed-by (makeOrder layout.Null h ((null.tooMany n, 12) ∷ [])) h (replicate n null.fill) (null.makeNull h n) refl
 
   text-framed : (t : List ℕ) (f : Frame) → saysMade (text.makeText h t) ≡ answers f → (ws : List ℕ) × (framed h ws ≡ f)
   unfolding text.makeText frameWith

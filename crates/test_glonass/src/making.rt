@@ -4,21 +4,8 @@ use frame::Header;
 use frame::State;
 use record_corrections::Correction;
 use record_corrections::Issue;
-use record_stages::Made;
-use record_stages::Making;
 use test_vectors::header_with;
-use test_vectors::print;
-use test_vectors::print_refusal;
-
-// Writes the name of a case, and whether a frame is made.
-fn print_outcome(name: &[u8], made: Made) {
-    print(name);
-    let answer = made.answer;
-    match answer {
-        Making::Done => print(b"made\n"),
-        Making::Refused(number) => print_refusal(number),
-    }
-}
+use test_vectors::print_outcome;
 
 // Makes `count` times an entry into a frame of that type.
 fn list(name: &[u8], kind: u8, entry: Correction, count: usize) {

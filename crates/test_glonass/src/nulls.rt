@@ -1,23 +1,9 @@
 // The null frame of type 34.
 use frame::Frame;
-use record_nulls::NullRead;
 use test_vectors::frame_of;
 use test_vectors::header_with;
-use test_vectors::print;
-use test_vectors::print_number;
-use test_vectors::print_refusal;
+use test_vectors::nulls::print_null;
 use test_vectors::print_vector;
-
-// Writes the number of words of a null frame.
-pub(crate) fn print_null(frame: Frame) {
-    match record_nulls::read_null(frame) {
-        NullRead::Null(n) => {
-            print_number(b"null, N ", n as u64);
-            print(b"\n");
-        }
-        NullRead::Refused(number) => print_refusal(number),
-    }
-}
 
 // Makes a null frame of N words, and reads the frame of the words.
 fn show(name: &[u8], n: usize, read: Frame) {

@@ -1,9 +1,9 @@
 // What reading answers at the ends of the ranges and of N, and past them.
-use crate::nulls::print_null;
 use frame::Frame;
 use record_stages::Count;
 use test_vectors::corrections::print_at;
 use test_vectors::frame_of;
+use test_vectors::nulls::print_null;
 use test_vectors::positions::print_position;
 use test_vectors::print;
 use test_vectors::print_number;

@@ -1,6 +1,7 @@
 // What the programs of the worked vectors share: the header that vectors are made with, a frame of their words, and both and records in print.
 pub mod corrections;
 pub mod healths;
+pub mod nulls;
 pub mod positions;
 pub mod texts;
 
@@ -142,4 +143,14 @@ pub fn print_vector(name: &[u8], made: Made, read: Frame) {
     print_number(b", N ", read.n as u64);
     print(b"\n");
     print_made(made);
+}
+
+// Writes the name of a case, and whether a frame is made.
+pub fn print_outcome(name: &[u8], made: Made) {
+    print(name);
+    let answer = made.answer;
+    match answer {
+        Making::Done => print(b"made\n"),
+        Making::Refused(number) => print_refusal(number),
+    }
 }

@@ -37,7 +37,7 @@ fn lone_header(rng: &mut Rng, n: u8) -> [u32; 2] {
 /// Small frames, two to five words each.
 fn small_frames(rng: &mut Rng, count: usize) -> Vec<Frame> {
     let small = |rng: &mut Rng| match rng.below(3) {
-        0 => samples::null_frame(rng),
+        0 => samples::any_null_frame(rng, 6),
         1 => samples::text_frame(rng, 16, 5),
         _ => samples::health_frame(rng, 5, 3),
     };
@@ -107,14 +107,14 @@ fn false_on_grid(rng: &mut Rng, slip: bool) -> Vec<u8> {
     bits.to_bytes()
 }
 
-/// A lone header with N 31, then fifteen null frames and a word with one turned
-/// bit: the last of the 33 words fails and releases all fifteen at once.
+/// A lone header with N 31, then fifteen null frames without data and a word with
+/// one turned bit: the last of the 33 words fails and releases all fifteen at once.
 fn false_last_word(rng: &mut Rng) -> Vec<u8> {
     let mut bits = Bits::opened();
     for _ in 0..3 {
         bits.push_words(&lone_header(rng, 31));
         for _ in 0..15 {
-            bits.push_frame(&samples::null_frame(rng));
+            bits.push_frame(&samples::null_frame(rng, 6, 0));
         }
         let broken = bits.push_frame(&samples::text_frame(rng, 16, 9));
         bits.turn(broken + rng.place(30));

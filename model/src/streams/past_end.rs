@@ -22,8 +22,8 @@ pub(super) const STREAMS: &[Entry] = &[
     ("cut-both", |rng| cut(rng, 37, 11)),
 ];
 
-/// Frames, then lone headers with N 31, then null frames that the stream's end
-/// releases.
+/// Frames, then lone headers with N 31, then null frames without data that the
+/// stream's end releases.
 fn past_end(rng: &mut Rng, headers: usize, nulls: usize) -> Vec<u8> {
     let mut bits = Bits::opened();
     bits.push_frames(&samples::frames(rng, 8));
@@ -31,7 +31,7 @@ fn past_end(rng: &mut Rng, headers: usize, nulls: usize) -> Vec<u8> {
         bits.push_words(&header_words(&samples::header(rng, 9), 31));
     }
     for _ in 0..nulls {
-        bits.push_frame(&samples::null_frame(rng));
+        bits.push_frame(&samples::null_frame(rng, 6, 0));
     }
     bits.to_bytes()
 }

@@ -23,8 +23,8 @@ pub(super) const STREAMS: &[Entry] = &[
     ("positions-32", |rng| positions(rng, 32)),
     ("healths", |rng| healths(rng, 5)),
     ("healths-33", |rng| healths(rng, 33)),
-    ("nulls", |rng| repeat(rng, 40, samples::null_frame)),
-    ("nulls-34", nulls_34),
+    ("nulls", |rng| nulls(rng, 6)),
+    ("nulls-34", |rng| nulls(rng, 34)),
     ("texts", |rng| texts(rng, 16)),
     ("texts-36", |rng| texts(rng, 36)),
     ("other-system", other_system),
@@ -35,6 +35,7 @@ pub(super) const STREAMS: &[Entry] = &[
     ("type-64", |rng| of_type(rng, 64)),
     ("n-31", n_31),
     ("every-n", |rng| every_n(rng, 2)),
+    ("every-n-6", |rng| every_n(rng, 6)),
     ("every-n-34", |rng| every_n(rng, 34)),
     ("every-health", every_health),
     ("z-over-5999", z_over_5999),
@@ -72,13 +73,13 @@ fn healths(rng: &mut Rng, type_number: u16) -> Vec<u8> {
     written(&(1..=31).map(make).collect::<Vec<Frame>>())
 }
 
-/// Null frames of type 34: without a word, with fill, with any word.
-fn nulls_34(rng: &mut Rng) -> Vec<u8> {
+/// Null frames: without a word, with fill, with any word.
+fn nulls(rng: &mut Rng, type_number: u16) -> Vec<u8> {
     let mut frames = Vec::new();
     for _ in 0..12 {
-        frames.push(samples::glonass_null_frame(rng, 0));
-        frames.push(samples::glonass_null_frame(rng, 1));
-        frames.push(samples::plain_frame(rng, 34, 1));
+        frames.push(samples::null_frame(rng, type_number, 0));
+        frames.push(samples::null_frame(rng, type_number, 1));
+        frames.push(samples::plain_frame(rng, type_number, 1));
     }
     written(&frames)
 }
@@ -110,8 +111,9 @@ fn other_system(rng: &mut Rng) -> Vec<u8> {
             push(samples::text_frame(rng, of, count), other);
         }
         push(samples::position_frame(rng, 3), 32);
-        push(samples::glonass_null_frame(rng, count as u8 % 2), 6);
-        push(samples::null_frame(rng), 34);
+        for (of, other) in [(34, 6), (6, 34)] {
+            push(samples::null_frame(rng, of, count as u8 % 2), other);
+        }
     }
     written(&frames)
 }
@@ -144,7 +146,7 @@ fn every_health(rng: &mut Rng) -> Vec<u8> {
     for code in 0..8 {
         let mut three = [
             samples::correction_frame(rng, 1, 2),
-            samples::null_frame(rng),
+            samples::any_null_frame(rng, 6),
             samples::text_frame(rng, 16, 8),
         ];
         for frame in &mut three {

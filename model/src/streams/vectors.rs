@@ -1,5 +1,5 @@
 //! One frame each, made from a record of a known type: the streams of the
-//! worked records, V or G and the type number, then a letter.
+//! worked records, V, G or N and the type number, then a letter.
 
 use super::Entry;
 
@@ -32,6 +32,21 @@ pub(super) const STREAMS: &[Entry] = &[
         bytes("40 66 61 42 68 4F 40 53 4C 42 76 7E 40 50 40 62 5F 7D 5F 63 59")
     }),
     ("V6a", |_| bytes("40 66 61 41 68 7F 7F 6C 73 7F 44")),
+    ("N6a", |_| {
+        bytes("40 66 61 41 68 7F 7F 6C 73 7B 5E 55 55 55 55 6A")
+    }),
+    ("N6b", |_| {
+        bytes("40 66 61 41 68 7F 62 44 70 43 66 6A 6A 6A 6A 55")
+    }),
+    ("N6c", |_| {
+        bytes("40 66 61 41 68 7F 7F 6C 73 7B 5E 6A 6A 6A 6A 5A")
+    }),
+    ("N6d", |_| {
+        bytes("40 66 61 41 68 7F 7F 6C 73 7B 5E 40 40 40 40 65")
+    }),
+    ("N6e", |_| {
+        bytes("40 66 61 41 68 7F 7F 6C 73 7B 5E 7F 7F 7F 7F 55")
+    }),
     ("V16a", |_| {
         bytes("40 66 49 40 68 66 7F 6C 73 7D 6C 75 55 55 5B 7D 7D 74 72 7F 72")
     }),

@@ -1,5 +1,5 @@
 -- `make_null` meets its contract: a frame of no field or of the filled word. Assumes nothing.
-use mathlib.Core.Path.{_≡_, refl, ap, ap₂, _∙_}
+use mathlib.Core.Path.{_≡_, refl, ap₂, _∙_}
 use mathlib.Core.List.{[], _∷_}
 use Prim.Native.Nat.{ℕ, zero, suc}
 use native.Mathlib.Omega.{arith}
@@ -9,10 +9,7 @@ use borrow.Author.Needs.{needs}
 use Rattle.answer.specs.Order.{inOrder}
 use Rattle.frame.specs.declared.Header.{Header}
 use Rattle.frame.specs.declared.Layout.the-variants as layout
-use Rattle.frame.specs.declared.System.{System}
-use Rattle.frame.specs.declared.System.the-variants.{Gps, Glonass}
 use Rattle.frame.specs.Frames.{framed}
-use Rattle.frame.specs.Layout.{systemOf}
 use Rattle.record_fields.specs.Packing.{emptyPacker, joined, flushed, pushed, filledUp}
 use Rattle.record_fields.specs.Tables.{noRows, putRow}
 use Rattle.record_stages.specs.Stages.{makeOrder, madeBy, refusedMade, doneMade}
@@ -20,26 +17,21 @@ use Rattle.record_nulls.specs.Nulls.{mostWords, tooMany, fill, nullCount
 use Rattle.record_nulls.proofs.make_null.Statement.{statement}
 use Rattle.record_nulls.proofs.make_null.Tie as tie
 
--- what the rows hold is the frame of N filled words, where its system has as many
-null-made : (h : Header) (s : System) (n : ℕ) → madeBy layout.Null 1 fill h (nullCount s n) (nullRows n)
-    ≡ inOrder (makeOrder layout.Null h ((tooMany s n, 12) ∷ [])) refusedMade (doneMade (framed h (replicate n fill)))
-unfolding mostWords framed noRows putRow emptyPacker pushed joined flushed filledUp
-null-made h Gps zero = refl
-null-made h Gps (suc n) = rw (lt-ltb 0 (suc n) (omega arith))
-null-made h Glonass zero = refl
-null-made h Glonass (suc zero) = refl
-null-made h Glonass (suc (suc n)) = rw (lt-ltb 1 (suc (suc n)) (omega arith))
+-- what the rows hold is the frame of N filled words, where there are not too many
+null-made : (h : Header) (n : ℕ) → madeBy layout.Null 1 fill h (nullCount n) (nullRows n)
+    ≡ inOrder (makeOrder layout.Null h ((tooMany n, 12) ∷ [])) refusedMade (doneMade (framed h (replicate n fill)))
+unfolding framed noRows putRow emptyPacker pushed joined flushed filledUp
+null-made h zero = refl
+null-made h (suc zero) = refl
+null-made h (suc (suc n)) = rw (lt-ltb mostWords (suc (suc n)) (omega arith))
 
 returns : tie.Need-returns
 unfolding makeNull
 returns c =
-    let y = c .before .before .before in
-    let a = y .before .args in
+    let a = c .before .before .before .args in
     c .make-frame .ensures
-    ∙ ap₂ (madeBy layout.Null 1 fill (a .header)) (c .before .before .null-count .ensures ∙ ap (λ s. nullCount s (a .n)) (y .system-of .ensures))
-    (c .before .null-rows .ensures)
-    ∙ null-made (a .header) (systemOf (a .header .kind)) (a .n)
+    ∙ ap₂ (madeBy layout.Null 1 fill (a .header)) (c .before .before .null-count .ensures) (c .before .null-rows .ensures)
+    ∙ null-made (a .header) (a .n)
 
 pub make-null-spec : {M : Type 1} → statement M
-make-null-spec =
-    tie.close (tie.spec (λ c κs. search needs) (λ c κs. search needs) (λ c κs. search needs) (λ c κs. search needs) returns)
+make-null-spec = tie.close (tie.spec (λ c κs. search needs) (λ c κs. search needs) (λ c κs. search needs) returns)

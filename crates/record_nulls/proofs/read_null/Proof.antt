@@ -1,5 +1,5 @@
 -- `read_null` meets its contract: the stages in their order. Assumes nothing.
-use mathlib.Core.Path.{_≡_, sym, ap, _∙_}
+use mathlib.Core.Path.{_≡_, sym, _∙_}
 use mathlib.Core.Bool.{Bool}
 use mathlib.Core.List.{[]}
 use borrow.Author.Needs.{needs}
@@ -8,11 +8,10 @@ use Rattle.frame.specs.declared.Widths.the-variants.{Within}
 use Rattle.frame.specs.declared.Clock.the-variants.{Hour}
 use Rattle.frame.specs.declared.Frame.{Frame}
 use Rattle.frame.specs.declared.Layout.the-variants as layout
-use Rattle.frame.specs.Layout.{systemOf}
 use Rattle.record_stages.specs.declared.Asked.the-variants.{Same}
 use Rattle.record_stages.specs.Stages.{askedOf}
 use Rattle.record_stages.proofs.StageLaws.{read5, read6, read7, read8, read-on, told-wrong, told-right}
-use Rattle.record_nulls.specs.Nulls.{tooMany, nullSize, readNull}
+use Rattle.record_nulls.specs.Nulls.{tooMany, readNull}
 use Rattle.record_nulls.specs.declared.NullRead.the-variants as read
 use Rattle.record_nulls.proofs.read_null.Statement.{statement}
 use Rattle.record_nulls.proofs.read_null.Tie as tie
@@ -42,7 +41,7 @@ abbrev asked : tie.After-enum-told5 → Frame
 asked h = start (five (six h)) .args .frame
 
 abbrev wrong : Frame → Bool
-wrong f = tooMany (systemOf (f .header .kind)) (f .n)
+wrong f = tooMany (f .n)
 
 returns : tie.Need-returns
 unfolding readNull
@@ -68,33 +67,26 @@ returns-3 c =
     read7 layout.Null f (wrong f) [] read.Refused (read.Null (f .n))
     (within (five s)) (same s) (sym (c .enum-told6 .given .1) ∙ c .before .before .clock-of .ensures)
 
--- N as the code held it to its system's most
-abbrev sized : tie.After-null-size → tie.After-enum-told5
-sized z = z .before .before
-
-size : (z : tie.After-null-size) → z .null-size .result ≡ nullSize (systemOf (asked (sized z) .header .kind)) (asked (sized z) .n)
-size z = z .null-size .ensures ∙ ap (λ s. nullSize s (asked (sized z) .n)) (z .before .system-of .ensures)
-
 returns-4 : tie.Need-returns-4
 unfolding readNull
 returns-4 c =
-    let h = sized (c .before .before) in
+    let h = c .before .before .before in
     let f = asked h in
     read8 layout.Null f (wrong f) [] read.Refused (read.Null (f .n)) (within (five (six h)))
-    (same (six h)) (hour h) (told-wrong (wrong f) (sym (c .enum-told8 .given .1) ∙ size (c .before .before)))
+    (same (six h)) (hour h) (told-wrong (wrong f) (sym (c .enum-told8 .given .1) ∙ c .before .before .null-size .ensures))
 
 returns-5 : tie.Need-returns-5
 unfolding readNull
 returns-5 c =
-    let h = sized (c .before .before) in
+    let h = c .before .before .before in
     let f = asked h in
     read-on layout.Null f (wrong f) [] read.Refused (read.Null (f .n)) (within (five (six h)))
-    (same (six h)) (hour h) (told-right (wrong f) (sym (c .enum-told7 .given .1) ∙ size (c .before .before)))
+    (same (six h)) (hour h) (told-right (wrong f) (sym (c .enum-told7 .given .1) ∙ c .before .before .null-size .ensures))
 
 pub read-null-spec : {M : Type 1} → statement M
 read-null-spec =
     tie.close
     (tie.spec (λ c κs. search needs) (λ c. search needs) (λ c. search needs) returns (λ c κs. search needs)
     (λ c. search needs) (λ c. search needs) returns-2 (λ c κs. search needs) (λ c. search needs)
-    (λ c. search needs) returns-3 (λ c κs. search needs) (λ c κs. search needs) (λ c. search needs) (λ c. search needs) returns-4
+    (λ c. search needs) returns-3 (λ c κs. search needs) (λ c. search needs) (λ c. search needs) returns-4
     returns-5)

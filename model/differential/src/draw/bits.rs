@@ -23,7 +23,7 @@ pub fn line_bits(rng: &mut Rng) -> Bits {
             1 => false_header(rng, &mut bits),
             2 => bits.turn_from(bits.len()),
             3 => {
-                let frame = samples::null_frame(rng);
+                let frame = samples::any_null_frame(rng, 6);
                 bits.push_frame(&frame);
             }
             4 => {

@@ -98,7 +98,7 @@ pub fn frame(rng: &mut Rng, type_number: u16) -> Frame {
             let entries = [(); health::MOST].map(|()| satellite_health(rng, system));
             health::make(&header, &entries, count(rng, health::MOST))
         }
-        6 => null::make(&header, 0),
+        6 => null::make(&header, rng.below(2) as u8),
         16 | 36 => {
             let count = count(rng, text::MOST);
             text::make(&header, &characters(rng, type_number, count))

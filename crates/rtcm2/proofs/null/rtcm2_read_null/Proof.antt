@@ -6,7 +6,6 @@ use native.Mathlib.Omega.{arith}
 use denote.Ref.{now}
 use borrow.Author.Needs.{needs}
 use Rattle.answer.proofs.OrderLaws.{order-told}
-use Rattle.frame.specs.Layout.{systemOf}
 use Rattle.frame.specs.declared.Frame.{Frame}
 use Rattle.frame.specs.declared.Layout.the-variants as layout
 use Rattle.record_stages.specs.Stages.{readOrder}
@@ -31,7 +30,7 @@ words-told : (f : Frame) (n : ℕ) → readNull f ≡ Null n → n ≡ f .n
 unfolding readNull
 words-told f n e =
     same (f .n) n
-    (order-told Refused (Null (f .n)) (Null n) (λ m. apart m n) (readOrder layout.Null f (tooMany (systemOf (f .header .kind)) (f .n)) []) e .1)
+    (order-told Refused (Null (f .n)) (Null n) (λ m. apart m n) (readOrder layout.Null f (tooMany (f .n)) []) e .1)
 
 -- what was read of the frame
 read : (c : tie.After-read-null) {x : NullRead} → c .read-null .result ≡ x
