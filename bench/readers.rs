@@ -24,6 +24,8 @@ extern "C" {
         frame_size: usize,
         length: &mut usize,
         at: &mut u32,
+        d29: &mut u8,
+        d30: &mut u8,
     ) -> u8;
     fn clock_gettime(clock: i32, time: &mut Time) -> i32;
 }
@@ -45,7 +47,7 @@ fn now() -> f64 {
 fn by_library(bytes: &[u8]) -> usize {
     let mut state = [0u8; STATE];
     let mut frame = [0u8; FRAME];
-    let (mut used, mut passed, mut length, mut at) = (0, 0, 0, 0);
+    let (mut used, mut passed, mut length, mut at, mut d29, mut d30) = (0, 0, 0, 0, 0, 0);
     let mut frames = 0;
     let mut rest = bytes;
     // Each place is lent with its own length, and no two overlap.
@@ -58,7 +60,7 @@ fn by_library(bytes: &[u8]) -> usize {
                 rtcm2_feed_all(state.as_mut_ptr(), STATE, rest.as_ptr(), rest.len(), &mut used, &mut passed)
             };
             assert_eq!(answer, 0);
-            while rtcm2_take(state.as_mut_ptr(), STATE, frame.as_mut_ptr(), FRAME, &mut length, &mut at) == 0 {
+            while rtcm2_take(state.as_mut_ptr(), STATE, frame.as_mut_ptr(), FRAME, &mut length, &mut at, &mut d29, &mut d30) == 0 {
                 frames += 1;
             }
             if rest.is_empty() {

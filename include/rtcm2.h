@@ -11,7 +11,8 @@
  *
  * Frames. A frame passes as its journal record: the mark 0x52 0x32, one byte N, then the header's two words and the N data
  * words, three bytes each with the highest bits first; 3N + 9 bytes, at most RTCM2_FRAME_MAX. Where a frame is read, bytes
- * that follow the record are ignored. "14, 15, 16, 15, 16" below is the order in which such a record is looked at:
+ * that follow the record are ignored. A record has no place for the two bits before word 1, and no call on a frame depends on
+ * them; rtcm2_take gives them beside it. "14, 15, 16, 15, 16" below is the order in which such a record is looked at:
  * no mark; the N byte missing; N over 31; cut short; N unequal to N of word 2, or a wrong preamble.
  *
  * Headers. Where a frame is made, its header comes as five numbers: type 1 to 64, station 0 to 1023, Z count 0 to 8191
@@ -82,10 +83,12 @@ uint8_t rtcm2_feed_all(uint8_t *state, size_t state_size, const uint8_t *bytes, 
 /* The input has ended. This may release frames: take until none waits. Refusals: 5, 3, 2. */
 uint8_t rtcm2_end(uint8_t *state, size_t state_size);
 
-/* Takes the frame that waits: its record of `length` bytes at the start of `frame`, and the position `at` of its first bit in
- * the line bits taken, modulo 2^32. Another may wait at once. Only a frame that stands in the bits held is handed out: where a
- * state says that one waits and none stands, the refusal is 4. Refusals: 5, 4, 13. */
-uint8_t rtcm2_take(uint8_t *state, size_t state_size, uint8_t *frame, size_t frame_size, size_t *length, uint32_t *at);
+/* Takes the frame that waits: its record of `length` bytes at the start of `frame`, the position `at` of its first bit in the
+ * line bits taken, modulo 2^32, and the two line bits before it, D29* and D30*, each 0 or 1. Either value of the two occurs on a
+ * sound line: they do not tell whether a line is turned. Another frame may wait at once. Only a frame that stands in the bits
+ * held is handed out: where a state says that one waits and none stands, the refusal is 4. Refusals: 5, 4, 13. */
+uint8_t rtcm2_take(uint8_t *state, size_t state_size, uint8_t *frame, size_t frame_size, size_t *length, uint32_t *at,
+                   uint8_t *d29, uint8_t *d30);
 
 /* ---- Writing the line. Two bits are carried from frame to frame, D29* and D30*; after opening both are 0. */
 

@@ -1,8 +1,8 @@
-/* Prints the corrections of a line from standard input, one a line: position of the frame, station, Z count, system (GPS or
- * GLO), satellite, PRC in mm, RRC in mm/s, UDRE limit in mm, and the IOD of GPS or change bit/tb of GLONASS; then how many
- * frames, corrections and refused entries there were. A satellite that is not to be used has "stop" for PRC and RRC. An
- * entry that can't be read, a GLONASS one with a tb past the hour, gives a line with its number and the refusal's, and the
- * program goes on.
+/* Prints the corrections of a line from standard input, one a line: position of the frame, the two line bits before it,
+ * station, Z count, system (GPS or GLO), satellite, PRC in mm, RRC in mm/s, UDRE limit in mm, and the IOD of GPS or change
+ * bit/tb of GLONASS; then how many frames, corrections and refused entries there were. A satellite that is not to be used
+ * has "stop" for PRC and RRC. An entry that can't be read, a GLONASS one with a tb past the hour, gives a line with its
+ * number and the refusal's, and the program goes on.
  *
  *   rt staticlib rtcm2
  *   cc -std=c11 -O2 -Wall -Wextra -Iinclude examples/c/corrections.c target/staticlib/librtcm2.a -o corrections
@@ -19,6 +19,14 @@ struct totals {
     unsigned long long frames;
     unsigned long long corrections;
     unsigned long long refused;
+};
+
+/* A frame that was taken: its journal record, the position of its first bit, and the two line bits before it. */
+struct frame {
+    uint8_t record[RTCM2_FRAME_MAX];
+    size_t length;
+    uint32_t at;
+    uint8_t d29, d30;
 };
 
 /* Stops the program where a call that can't be refused here was refused. */
@@ -82,10 +90,10 @@ static void print_correction(const uint8_t *correction, uint8_t type, uint8_t he
 
 /* How many corrections a frame holds: none for another type, a Z count past the hour, or an N that doesn't fit, which a null
  * frame of type 34 has too. */
-static size_t count_corrections(const uint8_t *frame, size_t length)
+static size_t count_corrections(const struct frame *frame)
 {
     size_t count;
-    uint8_t answer = rtcm2_count_corrections(frame, length, &count);
+    uint8_t answer = rtcm2_count_corrections(frame->record, frame->length, &count);
 
     if (answer == RTCM2_OTHER_TYPE || answer == RTCM2_Z_COUNT || answer == RTCM2_WRONG_N)
         return 0;
@@ -94,18 +102,19 @@ static size_t count_corrections(const uint8_t *frame, size_t length)
 }
 
 /* A line for each correction of a frame, and for each entry with a number out of its range. */
-static void print_frame(const uint8_t *frame, size_t length, uint32_t at, struct totals *totals)
+static void print_frame(const struct frame *frame, struct totals *totals)
 {
     uint8_t type, sequence, health, n;
     uint16_t station, z;
-    size_t record_length, count = count_corrections(frame, length);
+    size_t length, count = count_corrections(frame);
 
-    check(rtcm2_recall(frame, length, &type, &station, &z, &sequence, &health, &n, &record_length), "rtcm2_recall");
+    check(rtcm2_recall(frame->record, frame->length, &type, &station, &z, &sequence, &health, &n, &length), "rtcm2_recall");
     for (size_t i = 0; i < count; i++) {
         uint8_t correction[RTCM2_CORRECTION_SIZE];
-        uint8_t answer = rtcm2_correction_at(frame, length, i, correction, sizeof correction);
+        uint8_t answer = rtcm2_correction_at(frame->record, frame->length, i, correction, sizeof correction);
 
-        printf("%" PRIu32 " %u %u %s", at, (unsigned)station, (unsigned)z, is_glonass(type) ? "GLO" : "GPS");
+        printf("%" PRIu32 " %u%u", frame->at, (unsigned)frame->d29, (unsigned)frame->d30);
+        printf(" %u %u %s", (unsigned)station, (unsigned)z, is_glonass(type) ? "GLO" : "GPS");
         if (answer == RTCM2_FIELD) {
             printf(" entry %zu refused %u\n", i, (unsigned)answer);
             totals->refused++;
@@ -122,15 +131,14 @@ static void print_frame(const uint8_t *frame, size_t length, uint32_t at, struct
 static void take_all(uint8_t *state, struct totals *totals)
 {
     for (;;) {
-        uint8_t frame[RTCM2_FRAME_MAX];
-        size_t length;
-        uint32_t at;
-        uint8_t answer = rtcm2_take(state, RTCM2_STATE_SIZE, frame, sizeof frame, &length, &at);
+        struct frame frame;
+        uint8_t answer = rtcm2_take(state, RTCM2_STATE_SIZE, frame.record, sizeof frame.record, &frame.length, &frame.at,
+                                    &frame.d29, &frame.d30);
 
         if (answer == RTCM2_NO_FRAME)
             return;
         check(answer, "rtcm2_take");
-        print_frame(frame, length, at, totals);
+        print_frame(&frame, totals);
     }
 }
 

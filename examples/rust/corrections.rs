@@ -1,10 +1,10 @@
 //! Prints the corrections of a line from standard input, one a line: position of
-//! the frame, station, Z count, system (GPS or GLO), satellite, PRC in mm, RRC in
-//! mm/s, UDRE limit in mm, and the IOD of GPS or change bit/tb of GLONASS; then how
-//! many frames, corrections and refused entries there were. A satellite that is not
-//! to be used has "stop" for PRC and RRC. An entry that can't be read, a GLONASS one
-//! with a tb past the hour, gives a line with its number and the refusal's, and the
-//! program goes on.
+//! the frame, the two line bits before it, station, Z count, system (GPS or GLO),
+//! satellite, PRC in mm, RRC in mm/s, UDRE limit in mm, and the IOD of GPS or change
+//! bit/tb of GLONASS; then how many frames, corrections and refused entries there
+//! were. A satellite that is not to be used has "stop" for PRC and RRC. An entry that
+//! can't be read, a GLONASS one with a tb past the hour, gives a line with its number
+//! and the refusal's, and the program goes on.
 //!
 //!     rt staticlib rtcm2
 //!     rustc --edition 2021 -O -L target/staticlib -l static=rtcm2 examples/rust/corrections.rs
@@ -102,8 +102,9 @@ fn print_frame(
                 values(&read?, header.health)?
             }
         };
-        let (at, station, z) = (frame.at, header.station, header.z);
-        writeln!(output, "{at} {station} {z} {system} {shown}")?;
+        let (at, [d29, d30]) = (frame.at, frame.carried);
+        let (station, z) = (header.station, header.z);
+        writeln!(output, "{at} {d29}{d30} {station} {z} {system} {shown}")?;
     }
     Ok(())
 }

@@ -27,6 +27,8 @@ extern "C" {
         frame_size: usize,
         length: *mut usize,
         at: *mut u32,
+        d29: *mut u8,
+        d30: *mut u8,
     ) -> u8;
     fn rtcm2_recall(
         frame: *const u8,
@@ -124,6 +126,7 @@ impl Reader {
     /// Takes the frame that waits, if one does.
     pub fn take(&mut self) -> Result<Option<Frame>, Refusal> {
         let (mut bytes, mut length, mut at) = ([0; FRAME_MAX], 0, 0);
+        let (mut d29, mut d30) = (0, 0);
         let answer = unsafe {
             rtcm2_take(
                 self.state.as_mut_ptr(),
@@ -132,22 +135,32 @@ impl Reader {
                 bytes.len(),
                 &mut length,
                 &mut at,
+                &mut d29,
+                &mut d30,
             )
         };
         match checked(answer) {
-            Ok(()) => Ok(Some(Frame { bytes, length, at })),
+            Ok(()) => Ok(Some(Frame {
+                bytes,
+                length,
+                at,
+                carried: [d29, d30],
+            })),
             Err(NO_FRAME) => Ok(None),
             Err(refusal) => Err(refusal),
         }
     }
 }
 
-/// A frame: its journal record, and the position of its first bit.
+/// A frame: its journal record, the position of its first bit, and the two line bits
+/// before it.
 pub struct Frame {
     bytes: [u8; FRAME_MAX],
     length: usize,
     /// Position of the first bit in the line bits, modulo 2^32.
     pub at: u32,
+    /// D29* and D30*, each 0 or 1.
+    pub carried: [u8; 2],
 }
 
 /// What a frame's header says.

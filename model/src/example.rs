@@ -87,14 +87,18 @@ pub fn expected(bytes: &[u8]) -> String {
     text + &format!("frames {frames} corrections {corrections} refused {refused}\n")
 }
 
-/// Where a correction comes from: station, Z count, system.
+/// Where a correction comes from: the two bits before its frame, station, Z count,
+/// system.
 fn source(frame: &Frame) -> String {
-    let header = &frame.header;
+    let (header, carried) = (&frame.header, frame.carried);
     let system = match system(header.type_number) {
         System::Gps => "GPS",
         System::Glonass => "GLO",
     };
-    format!("{} {} {system}", header.station, header.z_count)
+    format!(
+        "{}{} {} {} {system}",
+        carried.d29, carried.d30, header.station, header.z_count
+    )
 }
 
 /// What a correction says: satellite, PRC, RRC, UDRE limit, issue.

@@ -1,7 +1,8 @@
-//! Station state, header and frame values; the check behind refusal 5; the two
-//! header words both ways.
+//! Station state, header, carried bits and frame values; the check behind refusal
+//! 5; the two header words both ways.
 
 use crate::refusal::{refuse_if, Answer, Refusal};
+use crate::word::Pair;
 
 /// Most data words a frame can have.
 pub const MOST_WORDS: usize = 31;
@@ -72,11 +73,43 @@ pub struct Header {
     pub state: State,
 }
 
-/// A frame: header, N, and data words; words past N are zero.
+/// The two line bits just before a word, each 0 or 1. Either value occurs on a
+/// sound line: they do not tell whether it is turned.
+#[derive(Clone, Copy, Debug, PartialEq, Eq)]
+pub struct CarriedBits {
+    /// D29*, the earlier one.
+    pub d29: u8,
+    /// D30*, the later one.
+    pub d30: u8,
+}
+
+impl From<Pair> for CarriedBits {
+    fn from(pair: Pair) -> CarriedBits {
+        CarriedBits {
+            d29: pair.d29.into(),
+            d30: pair.d30.into(),
+        }
+    }
+}
+
+impl CarriedBits {
+    /// The bits of a frame that did not come from the line, and of an opened stream.
+    pub const ZEROS: CarriedBits = CarriedBits { d29: 0, d30: 0 };
+
+    /// Refuses bits that are neither 0 nor 1 with 5.
+    pub fn check(self) -> Answer<()> {
+        refuse_if(self.d29 > 1 || self.d30 > 1, Refusal::OutsideWidths)
+    }
+}
+
+/// A frame: header, the two bits before word 1, N, and data words; words past N
+/// are zero.
 #[derive(Clone, Copy, Debug, PartialEq, Eq)]
 pub struct Frame {
     /// The header.
     pub header: Header,
+    /// The two bits before word 1; 00 if it did not come from the line.
+    pub carried: CarriedBits,
     /// Number of data words.
     pub n: u8,
     /// Data of the words, 24 bits each.
@@ -93,9 +126,11 @@ pub fn check_header(header: &Header) -> Answer<()> {
     refuse_if(!inside, Refusal::OutsideWidths)
 }
 
-/// Refuses a frame outside its widths, with N over 31 or a word past N not zero.
+/// Refuses a frame outside its widths, with a carried bit neither 0 nor 1, N over
+/// 31 or a word past N not zero.
 pub fn check_frame(frame: &Frame) -> Answer<()> {
     check_header(&frame.header)?;
+    frame.carried.check()?;
     refuse_if(usize::from(frame.n) > MOST_WORDS, Refusal::OutsideWidths)?;
     let (used, past) = frame.words.split_at(usize::from(frame.n));
     let wide = used.iter().any(|word| *word >= 1 << 24);
@@ -138,15 +173,26 @@ pub fn header_of(first: u32, second: u32) -> Header {
 }
 
 impl Frame {
-    /// The frame value of the data of its N + 2 words.
+    /// The frame value of the data of its N + 2 words; its carried bits are 00.
     pub fn of_words(all: &[u32]) -> Frame {
         let mut words = [0; MOST_WORDS];
         words[..all.len() - 2].copy_from_slice(&all[2..]);
         Frame {
             header: header_of(all[0], all[1]),
+            carried: CarriedBits::ZEROS,
             n: n_of(all[1]),
             words,
         }
+    }
+
+    /// The same frame after these two bits.
+    pub fn after(self, carried: CarriedBits) -> Frame {
+        Frame { carried, ..self }
+    }
+
+    /// The same frame with 00: what two frames share that differ in these bits alone.
+    pub fn bare(self) -> Frame {
+        self.after(CarriedBits::ZEROS)
     }
 
     /// Data of all N + 2 words; the frame has passed its check.

@@ -12,8 +12,8 @@ pub fn length_for(n: usize) -> usize {
     3 * n + 9
 }
 
-/// Writes a frame's record to the buffer and answers its length. Refuses with
-/// 5, 13.
+/// Writes a frame's record to the buffer and answers its length; the record has no
+/// place for the carried bits. Refuses with 5, 13.
 pub fn keep(frame: &Frame, buffer: &mut [u8]) -> Answer<usize> {
     check_frame(frame)?;
     let length = length_for(usize::from(frame.n));
@@ -27,8 +27,8 @@ pub fn keep(frame: &Frame, buffer: &mut [u8]) -> Answer<usize> {
     Ok(length)
 }
 
-/// Reads the record at the start of the bytes and answers the frame and the
-/// record's length. Refuses with 14, 15, 16, 15, 16.
+/// Reads the record at the start of the bytes and answers the frame, after 00, and
+/// the record's length. Refuses with 14, 15, 16, 15, 16.
 pub fn recall(bytes: &[u8]) -> Answer<(Frame, usize)> {
     refuse_if(!bytes.starts_with(&MARK), Refusal::NoJournalMark)?;
     let n = *bytes.get(2).ok_or(Refusal::RecordCutShort)?;

@@ -8,11 +8,11 @@ use crate::refusal::{Answer, Refusal};
 use crate::scan::scan;
 use std::io::{self, Read, Write};
 
-/// The line of a frame with its first bit position.
+/// The line of a frame: its first bit position, its numbers, the two bits before it.
 fn frame_line(position: u32, frame: &Frame) -> String {
     let header = &frame.header;
     format!(
-        "{} {} {} {} {} {} {}\n",
+        "{} {} {} {} {} {} {} {}{}\n",
         position,
         header.type_number,
         header.station,
@@ -20,6 +20,8 @@ fn frame_line(position: u32, frame: &Frame) -> String {
         header.sequence,
         frame.n,
         header.state.code().unwrap_or(0),
+        frame.carried.d29,
+        frame.carried.d30,
     )
 }
 

@@ -126,7 +126,8 @@ impl Reader {
         refuse_if(!self.waits(), Refusal::NoFrameWaits)?;
         let taken = Taken {
             position: self.position,
-            frame: Frame::of_words(&self.words[..self.tested]),
+            frame: Frame::of_words(&self.words[..self.tested])
+                .after(window::carried(self.window(self.start))),
         };
         self.move_on(30 * self.tested);
         self.hunt();

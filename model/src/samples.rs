@@ -1,6 +1,6 @@
 //! Random headers, records and frames, all correct, for streams and tests.
 
-use crate::frame::{Frame, Header, State, MOST_WORDS};
+use crate::frame::{CarriedBits, Frame, Header, State, MOST_WORDS};
 use crate::record::correction::{self, Correction, Issue, LAST_TB};
 use crate::record::health::{self, Condition, Health};
 use crate::record::position::{self, Position};
@@ -128,6 +128,7 @@ pub fn plain_frame(rng: &mut Rng, type_number: u16, n: u8) -> Frame {
     words[..usize::from(n)].fill_with(|| rng.word());
     Frame {
         header: header(rng, type_number),
+        carried: CarriedBits::ZEROS,
         n,
         words,
     }

@@ -15,14 +15,18 @@ pub enum Standing {
     Open,
 }
 
+/// The two line bits before a position.
+fn pair_before(bits: &[bool], at: usize) -> Pair {
+    Pair {
+        d29: bits[at - 2],
+        d30: bits[at - 1],
+    }
+}
+
 /// The line word at a position and the two bits before it, if it has come.
 fn word_at(bits: &[bool], at: usize) -> Option<([bool; 30], Pair)> {
     let word = bits.get(at..at + 30)?.try_into().ok()?;
-    let pair = Pair {
-        d29: bits[at - 2],
-        d30: bits[at - 1],
-    };
-    Some((word, pair))
+    Some((word, pair_before(bits, at)))
 }
 
 /// Whether a frame stands at position `p`, which is at least 2.
@@ -41,7 +45,8 @@ pub fn standing(bits: &[bool], p: usize) -> Standing {
             return Standing::RuledOut;
         }
         if all.len() >= 2 && all.len() == usize::from(n_of(all[1])) + 2 {
-            return Standing::Stands(Box::new(Frame::of_words(&all)));
+            let frame = Frame::of_words(&all).after(pair_before(bits, p).into());
+            return Standing::Stands(Box::new(frame));
         }
     }
 }

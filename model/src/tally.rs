@@ -1,14 +1,13 @@
 //! What becomes of the frames of a stream: each is kept and recalled, its record
 //! is read and made again, its fields are summed, and it is written.
 
-use crate::frame::Frame;
+use crate::frame::{CarriedBits, Frame};
 use crate::line::bits_of_bytes;
 use crate::record::correction::{self, Correction, Issue};
 use crate::record::health::{self, Condition, Health};
 use crate::record::{layout, null, position, text, Layout};
 use crate::refusal::{Answer, Refusal};
 use crate::scan::scan;
-use crate::writer::CarriedBits;
 use crate::{journal, writer};
 
 /// Frames counted, and the sums of the bytes kept and written and of the fields
@@ -41,12 +40,13 @@ impl Sum {
 }
 
 impl Tally {
-    /// Keeps and recalls a frame; the sums take the whole buffer.
+    /// Keeps and recalls a frame, all but its carried bits; the sums take the whole
+    /// buffer.
     fn keep(&mut self, frame: &Frame) {
         let mut buffer = [0; 102];
         let kept = journal::keep(frame, &mut buffer);
         let recalled = journal::recall(&buffer).map(|(frame, _)| frame);
-        self.kept += u64::from(kept.is_ok() && recalled == Ok(*frame));
+        self.kept += u64::from(kept.is_ok() && recalled == Ok(frame.bare()));
         self.bytes.add(&buffer);
     }
 
@@ -55,7 +55,7 @@ impl Tally {
     fn remake(&mut self, frame: &Frame) {
         let made = made_again(frame, &mut self.fields);
         self.records += u64::from(made.is_ok());
-        self.remade += u64::from(made == Ok(*frame));
+        self.remade += u64::from(made == Ok(frame.bare()));
         if let Err(refusal) = made {
             self.fields.add(&[refusal.number()]);
         }
@@ -75,7 +75,7 @@ impl Tally {
 /// The line of a stream, its frames by the definition.
 pub fn line(bytes: &[u8]) -> String {
     let mut tally = Tally::default();
-    let mut carried = CarriedBits { d29: 0, d30: 0 };
+    let mut carried = CarriedBits::ZEROS;
     for (_, frame) in scan(&bits_of_bytes(bytes), true) {
         tally.keep(&frame);
         tally.remake(&frame);

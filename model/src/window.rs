@@ -1,6 +1,7 @@
 //! The quick test of a word: its 32 bits with the carried pair as one number,
 //! D29* highest. The masks are worked out from the table of `word`.
 
+use crate::frame::CarriedBits;
 use crate::word::{Carried, Row, TABLE};
 
 /// D30* in a window.
@@ -39,6 +40,15 @@ pub fn passes(window: u32) -> bool {
     MASKS
         .iter()
         .all(|mask| (window & mask).count_ones().is_multiple_of(2))
+}
+
+/// The two bits before the word in this window.
+#[inline]
+pub fn carried(window: u32) -> CarriedBits {
+    CarriedBits {
+        d29: (window >> 31) as u8,
+        d30: (window >> 30) as u8 % 2,
+    }
 }
 
 /// The 24 data bits of the word in this window.

@@ -1,22 +1,13 @@
 //! The writer: opens a stream with the lead byte and writes frames back to
 //! back, carrying the last two line bits on.
 
-use crate::frame::{check_frame, Frame, Z_COUNTS};
+use crate::frame::{check_frame, CarriedBits, Frame, Z_COUNTS};
 use crate::line::{byte_of_bits, BITS_PER_BYTE};
 use crate::refusal::{refuse_if, Answer, Refusal};
 use crate::word::{bits_of, encode, Pair};
 
 /// The byte that opens a stream: six zero bits.
 pub const LEAD_BYTE: u8 = 0x40;
-
-/// The last two line bits written, each 0 or 1.
-#[derive(Clone, Copy, Debug, PartialEq, Eq)]
-pub struct CarriedBits {
-    /// D29* of the next word.
-    pub d29: u8,
-    /// D30* of the next word.
-    pub d30: u8,
-}
 
 /// What was written.
 #[derive(Clone, Copy, Debug, PartialEq, Eq)]
@@ -47,15 +38,15 @@ pub fn open(buffer: &mut [u8]) -> Answer<Written> {
     buffer[0] = LEAD_BYTE;
     Ok(Written {
         length: 1,
-        carried: CarriedBits { d29: 0, d30: 0 },
+        carried: CarriedBits::ZEROS,
     })
 }
 
-/// Writes a frame after the carried bits. Refuses with 5, 7, 13.
+/// Writes a frame after the carried bits, whatever bits it has of its own. Refuses
+/// with 5, 7, 13.
 pub fn write(frame: &Frame, carried: CarriedBits, buffer: &mut [u8]) -> Answer<Written> {
     check_frame(frame)?;
-    let bad_bit = carried.d29 > 1 || carried.d30 > 1;
-    refuse_if(bad_bit, Refusal::OutsideWidths)?;
+    carried.check()?;
     refuse_if(frame.header.z_count >= Z_COUNTS, Refusal::ZCount)?;
     let length = 5 * (usize::from(frame.n) + 2);
     refuse_if(buffer.len() < length, Refusal::BufferTooShort)?;

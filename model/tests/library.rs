@@ -1,6 +1,7 @@
 //! The library's calls against the definition: streams read in pieces through
 //! the state's bytes give the frames of `scan`, and what they give is read back.
 
+use rtcm2_model::library::line::Taking;
 use rtcm2_model::library::state::State;
 use rtcm2_model::library::{line, lists, state};
 use rtcm2_model::line::bits_of_bytes;
@@ -9,19 +10,45 @@ use rtcm2_model::rng::Rng;
 use rtcm2_model::scan::scan;
 use rtcm2_model::{journal, samples, streams};
 
+/// A frame taken: its position, its record and its two carried bits.
+type Found = (usize, Vec<u8>, [u8; 2]);
+
+/// The numbers that taking sets.
+fn taking<'a>(
+    length: &'a mut usize,
+    at: &'a mut u32,
+    d29: &'a mut u8,
+    d30: &'a mut u8,
+) -> Taking<'a> {
+    Taking {
+        length,
+        at,
+        d29,
+        d30,
+    }
+}
+
 /// Takes every frame that waits.
-fn take_all(state: &mut [u8], found: &mut Vec<(usize, Vec<u8>)>) {
+fn take_all(state: &mut [u8], found: &mut Vec<Found>) {
     loop {
         let (mut frame, mut length, mut at) = ([0; 102], 0, 0);
-        match line::take(state, &mut frame, &mut length, &mut at) {
-            0 => found.push((at as usize, frame[..length].to_vec())),
-            refusal => return assert_eq!(refusal, 4),
+        let (mut d29, mut d30) = (7, 7);
+        match line::take(
+            state,
+            &mut frame,
+            taking(&mut length, &mut at, &mut d29, &mut d30),
+        ) {
+            0 => found.push((at as usize, frame[..length].to_vec(), [d29, d30])),
+            refusal => {
+                assert_eq!((refusal, length, at, d29, d30), (4, 0, 0, 7, 7));
+                return;
+            }
         }
     }
 }
 
 /// The frames of a stream, read in random pieces.
-fn read(bytes: &[u8], rng: &mut Rng) -> Vec<(usize, Vec<u8>)> {
+fn read(bytes: &[u8], rng: &mut Rng) -> Vec<Found> {
     let mut state = [0xFF; state::SIZE];
     let mut found = Vec::new();
     let mut fed = 0;
@@ -47,7 +74,8 @@ fn streams_give_the_frames_of_the_scan() {
         for (at, frame) in scan(&bits_of_bytes(&stream.bytes), true) {
             let mut record = [0; 102];
             let length = journal::keep(&frame, &mut record).unwrap();
-            expected.push((at, record[..length].to_vec()));
+            let pair = [frame.carried.d29, frame.carried.d30];
+            expected.push((at, record[..length].to_vec(), pair));
         }
         assert_eq!(read(&stream.bytes, &mut rng), expected, "{}", stream.name);
     }
@@ -102,14 +130,16 @@ fn answers(state: &State) -> [u8; 4] {
     state.put(&mut bytes);
     let before = bytes;
     let (mut frame, mut length, mut at) = ([0; 102], 7, 7);
-    let (mut used, mut passed) = (7, 7);
+    let (mut used, mut passed, mut d29, mut d30) = (7, 7, 7, 7);
+    let into = taking(&mut length, &mut at, &mut d29, &mut d30);
     let answers = [
         line::feed(&mut bytes, 0x40),
         line::feed_all(&mut bytes, &[0x40], &mut used, &mut passed),
         line::end(&mut bytes),
-        line::take(&mut bytes, &mut frame, &mut length, &mut at),
+        line::take(&mut bytes, &mut frame, into),
     ];
     assert_eq!((bytes, length, at, used, passed), (before, 7, 7, 7, 7));
+    assert_eq!((frame, d29, d30), ([0; 102], 7, 7));
     answers
 }
 

@@ -138,8 +138,8 @@ fn nothing_begins_where_a_damaged_frame_began() {
         let before = 2 + rng.place(10);
         bits.push_noise(&mut rng, before);
         let frame = samples::any_frame(&mut rng);
+        let expected = Standing::Stands(Box::new(frame.after(bits.pair().into())));
         let first = bits.push_frame(&frame);
-        let expected = Standing::Stands(Box::new(frame));
         assert_eq!(standing(&bits.0, first), expected);
         let word = rng.place(usize::from(frame.n) + 2);
         if word > 0 {

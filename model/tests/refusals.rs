@@ -4,7 +4,7 @@
 mod common;
 
 use common::{frame, header};
-use rtcm2_model::frame::{check_frame, check_header, Frame, Header, State};
+use rtcm2_model::frame::{check_frame, check_header, CarriedBits, Frame, Header, State};
 use rtcm2_model::journal;
 use rtcm2_model::reader::Reader;
 use rtcm2_model::record::correction::{self, Correction};
@@ -13,7 +13,7 @@ use rtcm2_model::record::position::{self, Position};
 use rtcm2_model::record::values::{cn0_dbhz, minutes, prc_mm, rrc_mm_s, udre_limit_mm, z_tenths};
 use rtcm2_model::record::{layout, may_have, null, text, Layout};
 use rtcm2_model::refusal::Answer;
-use rtcm2_model::writer::{self, CarriedBits};
+use rtcm2_model::writer;
 
 fn number<T>(answer: Answer<T>) -> u8 {
     answer.map_or_else(|refusal| refusal.number(), |_| 0)
@@ -61,8 +61,7 @@ fn five_for_headers() {
         assert_eq!(number(check_header(&header)), 5);
         let whole = Frame {
             header,
-            n: 0,
-            words: [0; 31],
+            ..frame(64, 0)
         };
         assert_eq!(number(check_frame(&whole)), 5);
     }
@@ -81,6 +80,46 @@ fn five_for_frames() {
             assert_eq!(number(check_frame(&whole)), if past { 5 } else { 0 });
             whole.words[place] = 0x100_0000;
             assert_eq!(number(check_frame(&whole)), 5);
+        }
+    }
+}
+
+/// Every call that takes a frame, with room and a number that it would not refuse.
+fn calls_on(whole: &Frame) -> [u8; 10] {
+    let mut bytes = [0xEE; 165];
+    let answers = [
+        number(check_frame(whole)),
+        number(correction::count(whole)),
+        number(correction::entry(whole, 0)),
+        number(position::read(whole)),
+        number(health::count(whole)),
+        number(health::entry(whole, 0)),
+        number(null::read(whole)),
+        number(text::read(whole, &mut bytes)),
+        number(writer::write(whole, CarriedBits::ZEROS, &mut bytes)),
+        number(journal::keep(whole, &mut bytes)),
+    ];
+    assert!(answers != [5; 10] || bytes == [0xEE; 165]);
+    answers
+}
+
+#[test]
+fn five_for_carried_bits() {
+    for (d29, d30) in [(2, 0), (0, 2), (1, 255), (254, 1), (2, 2)] {
+        for type_number in [1, 2, 3, 5, 6, 16] {
+            let mut whole = frame(type_number, 5).after(CarriedBits { d29, d30 });
+            assert_eq!(calls_on(&whole), [5; 10]);
+            // 5 is the first number of every one of these orders
+            whole.header.z_count = 6000;
+            assert_eq!(calls_on(&whole), [5; 10]);
+        }
+    }
+    for (d29, d30) in [(0, 0), (0, 1), (1, 0), (1, 1)] {
+        for type_number in [1, 2, 3, 5, 6, 16] {
+            let whole = frame(type_number, 5);
+            let paired = whole.after(CarriedBits { d29, d30 });
+            assert_eq!(calls_on(&paired), calls_on(&whole));
+            assert_eq!(calls_on(&paired)[0], 0);
         }
     }
 }
@@ -122,8 +161,7 @@ fn layouts() {
 fn reading_order(type_number: u16, good_n: u8, bad_n: u8, read: fn(&Frame) -> u8) -> Vec<u8> {
     let mut whole = Frame {
         header: bad_header(),
-        n: bad_n,
-        words: [0; 31],
+        ..frame(2, bad_n)
     };
     let mut numbers = vec![read(&whole)];
     for _ in 0..3 {
@@ -397,7 +435,7 @@ fn values_outside_their_range() {
 
 #[test]
 fn writing_order() {
-    let zero = CarriedBits { d29: 0, d30: 0 };
+    let zero = CarriedBits::ZEROS;
     let mut whole = frame(64, 1);
     whole.header.z_count = 6000;
     whole.header.station = 1024;

@@ -1,7 +1,8 @@
 //! Round trips at random: records to frames and back, frames to bytes and back,
 //! frames to journal records and back.
 
-use rtcm2_model::frame::{check_frame, header_of, header_words, n_of, Frame, Header, State};
+use rtcm2_model::frame::{check_frame, header_of, header_words, n_of};
+use rtcm2_model::frame::{CarriedBits, Frame, Header, State};
 use rtcm2_model::line::bits_of_bytes;
 use rtcm2_model::record::correction::{self, Correction};
 use rtcm2_model::record::health::{self, Health};
@@ -9,7 +10,7 @@ use rtcm2_model::record::{layout, null, position, system, text, Layout};
 use rtcm2_model::refusal::Answer;
 use rtcm2_model::rng::Rng;
 use rtcm2_model::scan::scan;
-use rtcm2_model::writer::{self, CarriedBits};
+use rtcm2_model::writer;
 use rtcm2_model::{journal, samples};
 
 #[test]
@@ -103,7 +104,7 @@ fn made_anew(frame: &Frame) -> Answer<Frame> {
             let count = text::read(frame, &mut buffer)?;
             text::make(header, &buffer[..count])
         }
-        Layout::Plain => Ok(*frame),
+        Layout::Plain => Ok(frame.bare()),
     }
 }
 
@@ -113,6 +114,13 @@ fn fill_is_standard(frame: &Frame) -> bool {
         Layout::Correction => correction::fill_is_standard(frame).unwrap(),
         Layout::Null => null::fill_is_standard(frame).unwrap(),
         _ => true,
+    }
+}
+
+fn any_pair(rng: &mut Rng) -> CarriedBits {
+    CarriedBits {
+        d29: rng.below(2) as u8,
+        d30: rng.below(2) as u8,
     }
 }
 
@@ -132,7 +140,7 @@ fn readable_frames_made_anew_give_their_own_bits() {
         let type_number = types[rng.place(types.len())];
         let bound = if rng.bit() { 32 } else { 3 };
         let n = rng.below(bound) as u8;
-        let mut frame = samples::plain_frame(&mut rng, type_number, n);
+        let mut frame = samples::plain_frame(&mut rng, type_number, n).after(any_pair(&mut rng));
         if type_number == 16 || type_number == 36 {
             for word in &mut frame.words {
                 *word &= 0x7F_7F7F;
@@ -142,10 +150,8 @@ fn readable_frames_made_anew_give_their_own_bits() {
             continue;
         };
         readable += 1;
-        let carried = CarriedBits {
-            d29: rng.below(2) as u8,
-            d30: rng.below(2) as u8,
-        };
+        assert_eq!(anew.carried, CarriedBits::ZEROS);
+        let carried = any_pair(&mut rng);
         let same = written(&frame, carried) == written(&anew, carried);
         assert_eq!(same, fill_is_standard(&frame));
     }
@@ -156,8 +162,8 @@ fn readable_frames_made_anew_give_their_own_bits() {
 fn sample_frames_made_anew_are_equal() {
     let mut rng = Rng::named("samples made anew");
     for _ in 0..5000 {
-        let frame = samples::record_frame(&mut rng);
-        assert_eq!(made_anew(&frame), Ok(frame));
+        let frame = samples::record_frame(&mut rng).after(any_pair(&mut rng));
+        assert_eq!(made_anew(&frame), Ok(frame.bare()));
     }
 }
 
@@ -189,7 +195,7 @@ fn written_streams_give_their_frames() {
         let mut carried = writer::open(&mut bytes).unwrap().carried;
         let mut expected = Vec::new();
         for frame in &frames {
-            expected.push((6 * bytes.len(), *frame));
+            expected.push((6 * bytes.len(), frame.after(carried)));
             let mut buffer = [0; 165];
             let written = writer::write(frame, carried, &mut buffer).unwrap();
             assert_eq!(written.length, 5 * (usize::from(frame.n) + 2));
@@ -204,14 +210,18 @@ fn written_streams_give_their_frames() {
 fn journal_records_give_their_frames() {
     let mut rng = Rng::named("journal");
     for _ in 0..5000 {
-        let mut frame = samples::any_frame(&mut rng);
+        let mut frame = samples::any_frame(&mut rng).after(any_pair(&mut rng));
         frame.header.z_count = rng.below(8192) as u16;
         let mut buffer = [0xEE; 110];
         let length = journal::keep(&frame, &mut buffer).unwrap();
         assert_eq!(length, 3 * usize::from(frame.n) + 9);
         assert!(buffer[length..].iter().all(|byte| *byte == 0xEE));
-        assert_eq!(journal::recall(&buffer), Ok((frame, length)));
-        assert_eq!(journal::recall(&buffer[..length]), Ok((frame, length)));
+        let recalled = Ok((frame.bare(), length));
+        assert_eq!(journal::recall(&buffer), recalled);
+        assert_eq!(journal::recall(&buffer[..length]), recalled);
+        let mut of_bare = [0xEE; 110];
+        journal::keep(&frame.bare(), &mut of_bare).unwrap();
+        assert_eq!(of_bare, buffer);
     }
 }
 

@@ -3,7 +3,7 @@
 
 mod common;
 
-use common::header;
+use common::{header, turned};
 use rtcm2_model::frame::{Frame, Header, State};
 use rtcm2_model::line::{bits_of_bytes, turned_over};
 use rtcm2_model::record::correction::{self, Correction, Issue};
@@ -56,8 +56,8 @@ fn agrees(frame: &Frame, header_words: &str, data_words: &str, name: &str) {
     if !name.is_empty() {
         assert_eq!(made, bytes(name));
     }
-    for line in [made.clone(), turned_over(&made)] {
-        assert_eq!(scan(&bits_of_bytes(&line), true), [(6, *frame)]);
+    for (line, frame) in [(made.clone(), *frame), (turned_over(&made), turned(*frame))] {
+        assert_eq!(scan(&bits_of_bytes(&line), true), [(6, frame)]);
     }
 }
 

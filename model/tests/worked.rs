@@ -3,7 +3,7 @@
 
 mod common;
 
-use common::{frame, header};
+use common::{frame, header, turned};
 use rtcm2_model::frame::State;
 use rtcm2_model::line::{bits_of_byte, turned_over};
 use rtcm2_model::reader::{Fed, Reader};
@@ -19,7 +19,8 @@ const STREAM: [u8; 11] = [
 const TURNED: [u8; 11] = [
     0x7F, 0x59, 0x5E, 0x7E, 0x57, 0x40, 0x40, 0x53, 0x4C, 0x40, 0x7B,
 ];
-const TEXT: &str = "6 6 5 100 3 0 0\nframes 1 bytes 11 passed 0\n";
+const TEXT: &str = "6 6 5 100 3 0 0 00\nframes 1 bytes 11 passed 0\n";
+const TURNED_TEXT: &str = "6 6 5 100 3 0 0 11\nframes 1 bytes 11 passed 0\n";
 
 fn through_reader(bytes: &[u8]) -> String {
     let mut text = Vec::new();
@@ -34,9 +35,9 @@ fn line(text: &str) -> Vec<bool> {
 
 #[test]
 fn the_stream_is_listed() {
-    for bytes in [STREAM, TURNED] {
-        assert_eq!(listing::by_definition(&bytes), TEXT);
-        assert_eq!(through_reader(&bytes), TEXT);
+    for (bytes, text) in [(STREAM, TEXT), (TURNED, TURNED_TEXT)] {
+        assert_eq!(listing::by_definition(&bytes), text);
+        assert_eq!(through_reader(&bytes), text);
     }
     assert_eq!(turned_over(&STREAM), TURNED);
 }
@@ -81,8 +82,8 @@ fn the_journal_record_is_printed_so() {
 }
 
 #[test]
-fn both_streams_give_one_equal_frame_and_ten_bytes_none() {
-    for bytes in [STREAM, TURNED] {
+fn both_streams_give_one_frame_but_for_its_pair_and_ten_bytes_none() {
+    for (bytes, expected) in [(STREAM, frame(6, 0)), (TURNED, turned(frame(6, 0)))] {
         let mut reader = Reader::new();
         let fed = reader.feed_all(&bytes).unwrap();
         assert_eq!(
@@ -93,7 +94,7 @@ fn both_streams_give_one_equal_frame_and_ten_bytes_none() {
             }
         );
         let taken = reader.take().unwrap();
-        assert_eq!((taken.position, taken.frame), (6, frame(6, 0)));
+        assert_eq!((taken.position, taken.frame), (6, expected));
         assert_eq!(reader.end(), Ok(()));
         assert_eq!(reader.take(), Err(Refusal::NoFrameWaits));
 

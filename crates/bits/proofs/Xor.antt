@@ -92,13 +92,14 @@ pub val-lt : (b : Bool) → val b < 2
 val-lt true = omega arith
 val-lt false = omega arith
 
+-- a number that is 0 or 1 is that of a bit
+pub val-one : (m : ℕ) → m < 2 → val (isNonzero m) ≡ m
+val-one zero h = refl
+val-one (suc zero) h = refl
+val-one (suc (suc m)) h = absurd (omega arith)
+
 pub val-odd : (n : ℕ) → val (isOdd n) ≡ n % 2
 val-odd n = val-one (n % 2) (omega arith)
-  where
-    val-one : (m : ℕ) → m < 2 → val (isNonzero m) ≡ m
-    val-one zero h = refl
-    val-one (suc zero) h = refl
-    val-one (suc (suc m)) h = absurd (omega arith)
 
 pub val-xor : (a b : Bool) → val (a ⊻ b) ≡ (val a + val b) % 2
 val-xor true true = refl

@@ -11,9 +11,10 @@ use borrow.Author.Tests.{ltb-false, le-ltb}
 use Rattle.bits.specs.Bits.{bits, number, isNonzero}
 use Rattle.bits.proofs.Numbers.{length-bits, number-bits, number-lt, bits-number}
 use Rattle.frame.specs.Header.{preambled, nOf, headerOf, firstWord, secondWord}
-use Rattle.frame.specs.Frames.{builtOf, framed, dataWords, wordsOf, frameOf, Below}
-use Rattle.frame.specs.Widths.{anyOf, isWide, headerOutside, outside}
+use Rattle.frame.specs.Frames.{builtOf, framed, afterPair, bare, dataWords, wordsOf, frameOf, Below}
+use Rattle.frame.specs.Widths.{anyOf, isWide, headerOutside, pairOutside, outside}
 use Rattle.frame.specs.declared.Header.{Header}
+use Rattle.frame.specs.declared.Carried.{Carried}
 use Rattle.frame.specs.declared.Frame.{Frame}
 use Rattle.frame.proofs.HeaderLaws.{length-first, length-second, header-words, first-header, second-header, header-inside}
 use Rattle.frame.proofs.WidthLaws.{both-false, any-append, any-zeros, any-below, below-any, zeros-any}
@@ -39,13 +40,15 @@ below-at (suc i) (w ∷ ws) b = below-at i ws (b .1)
 -- ---- what it means that a frame is within its widths
 
 module _ (f : Frame) (e : outside f ≡ false) where
-  parts : (headerOutside (f .header) ≡ false) × ((f .n ≤ 31) × (Below (f .words) × (anyOf isNonzero (drop (f .n) (f .words)) ≡ false)))
+  parts : (headerOutside (f .header) ≡ false) × ((f .n ≤ 31) × (Below (f .words)
+      × ((anyOf isNonzero (drop (f .n) (f .words)) ≡ false) × (pairOutside (f .carried) ≡ false))))
   unfolding outside
   parts =
-      let z = both-false _ _ e in
+      let p = both-false _ _ e in
+      let z = both-false _ _ (p .0) in
       let w = both-false _ _ (z .0) in
       let n = both-false _ _ (w .0) in
-      (n .0, (ltb-false 31 (f .n) (n .1), (below-any (f .words) (w .1), z .1)))
+      (n .0, (ltb-false 31 (f .n) (n .1), (below-any (f .words) (w .1), (z .1, p .1))))
 
   pub header-within : headerOutside (f .header) ≡ false
   header-within = parts .0
@@ -56,6 +59,9 @@ module _ (f : Frame) (e : outside f ≡ false) where
   pub words-below : Below (f .words)
   words-below = parts .1 .1 .0
 
+  pub pair-within : pairOutside (f .carried) ≡ false
+  pair-within = parts .1 .1 .1 .1
+
   module _ (full : length (f .words) ≡ 31) where
     pub length-data : length (dataWords f) ≡ f .n
     length-data = length-take-le (f .n) (f .words) (omega (arith, n-within))
@@ -64,7 +70,7 @@ module _ (f : Frame) (e : outside f ≡ false) where
     pub words-padded : f .words ≡ dataWords f ++ replicate (31 - f .n) 0
     words-padded =
         sym (take-append-drop (f .n) (f .words))
-        ∙ ap (λ ws. dataWords f ++ ws) (zeros-any (drop (f .n) (f .words)) (parts .1 .1 .1) ∙ ap (λ k. replicate k 0) rest)
+        ∙ ap (λ ws. dataWords f ++ ws) (zeros-any (drop (f .n) (f .words)) (parts .1 .1 .1 .0) ∙ ap (λ k. replicate k 0) rest)
       where
         rest : length (drop (f .n) (f .words)) ≡ 31 - f .n
         rest = length-drop (f .n) (f .words) ∙ ap (λ k. k - f .n) full
@@ -73,15 +79,15 @@ module _ (f : Frame) (e : outside f ≡ false) where
     unfolding wordsOf
     length-words = omega (arith, length-data)
 
-    -- its header and its data words are all of it
-    pub framed-again : framed (f .header) (dataWords f) ≡ f
-    unfolding framed
+    -- its header and its data words are all of it but the pair
+    pub framed-again : framed (f .header) (dataWords f) ≡ bare f
+    unfolding framed afterPair
     framed-again =
         ap (λ n. builtOf (f .header) n (dataWords f ++ replicate (31 - n) 0)) length-data
         ∙ ap (λ ws. builtOf (f .header) (f .n) ws) (sym words-padded)
 
-    -- FRAME TO WORDS AND BACK
-    pub frame-words : frameOf (wordsOf f) ≡ f
+    -- FRAME TO WORDS AND BACK, without the pair
+    pub frame-words : frameOf (wordsOf f) ≡ bare f
     unfolding wordsOf frameOf
     frame-words =
         ap₂ (λ a b. framed (headerOf a b) (dataWords f))
@@ -111,7 +117,7 @@ unfolding framed
 length-framed h ws l = omega (arith, length-append ws (replicate (31 - length ws) 0), length-replicate {A = ℕ} (31 - length ws) 0)
 
 pub framed-inside : (h : Header) (ws : List ℕ) → headerOutside h ≡ false → Below ws → length ws ≤ 31 → outside (framed h ws) ≡ false
-unfolding framed outside
+unfolding framed outside pairOutside
 framed-inside h ws e b l =
     rw (
       e,
@@ -120,8 +126,8 @@ framed-inside h ws e b l =
       any-below ws b,
       any-zeros isWide refl (31 - length ws),
       drop-append-seam ws (replicate (31 - length ws) 0),
+      any-zeros isNonzero refl (31 - length ws),
     )
-    (any-zeros isNonzero refl (31 - length ws))
 
 -- WORDS TO FRAME AND BACK
 pub words-frame : (first second : ℕ) (ws : List ℕ) → Below (first ∷ second ∷ ws)
@@ -138,3 +144,24 @@ pub frame-inside : (first second : ℕ) (ws : List ℕ) → Below ws → length 
 unfolding frameOf
 frame-inside first second ws b l =
     framed-inside (headerOf (bits 24 first) (bits 24 second)) ws (header-inside (bits 24 first) (bits 24 second)) b l
+
+-- ---- a frame after other carried bits
+
+pub after-inside : (c : Carried) (f : Frame) → pairOutside c ≡ false → outside f ≡ false → outside (afterPair c f) ≡ false
+unfolding outside afterPair
+after-inside c f p e =
+    rw (
+      header-within f e,
+      le-ltb 31 (f .n) (n-within f e),
+      any-below (f .words) (words-below f e),
+      parts f e .1 .1 .1 .0,
+      p,
+    )
+
+pub words-after : (c : Carried) (f : Frame) → wordsOf (afterPair c f) ≡ wordsOf f
+unfolding wordsOf afterPair
+words-after c f = refl
+
+pub after-after : (c c′ : Carried) (f : Frame) → afterPair c (afterPair c′ f) ≡ afterPair c f
+unfolding afterPair
+after-after c c′ f = refl

@@ -6,11 +6,31 @@ use Rattle.bits.specs.Bits.{bits, number}
 use Rattle.frame.specs.Header.{headerOf, firstWord, secondWord}
 use Rattle.frame.specs.declared.State.the-variants.{Factor}
 use Rattle.frame.specs.declared.Header.{Header}
+use Rattle.frame.specs.declared.Carried.{Carried}
 use Rattle.frame.specs.declared.Frame.{Frame}
 
--- THE ONE FORM of a frame that did not come from the line: made, recalled, or given by its numbers
+-- carried bits 00
+abbrev pub zeroPair : Carried
+zeroPair = record { d29 = 0; d30 = 0 }
+
+-- THE ONE FORM of a frame that did not come from the line: made, recalled, or given by its numbers. It has carried bits 00
 abbrev pub builtOf : Header → ℕ → List ℕ → Frame
-builtOf h n ws = record { header = h; n = n; words = ws }
+builtOf h n ws = record { header = h; carried = zeroPair; n = n; words = ws }
+
+-- the same frame after these two bits
+unfoldable pub afterPair : Carried → Frame → Frame
+afterPair c f = record { header = f .header; carried = c; n = f .n; words = f .words }
+
+-- THE FRAME WITHOUT ITS PAIR, which writer and journal do not look at: the same after 00
+abbrev pub bare : Frame → Frame
+bare f = afterPair zeroPair f
+
+-- THE FRAME ON A LINE TURNED OVER: its two carried bits the other way round, and nothing else
+abbrev pub turnedPair : Carried → Carried
+turnedPair c = record { d29 = 1 - c .d29; d30 = 1 - c .d30 }
+
+abbrev pub turnedFrame : Frame → Frame
+turnedFrame f = afterPair (turnedPair (f .carried)) f
 
 -- the frame with this header and these data words: words past N are zero
 unfoldable pub framed : Header → List ℕ → Frame

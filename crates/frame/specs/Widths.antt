@@ -10,6 +10,7 @@ use Rattle.frame.specs.Header.{factors}
 use Rattle.frame.specs.declared.State.{State}
 use Rattle.frame.specs.declared.State.the-variants.{Factor, Unmonitored, Down}
 use Rattle.frame.specs.declared.Header.{Header}
+use Rattle.frame.specs.declared.Carried.{Carried}
 use Rattle.frame.specs.declared.Frame.{Frame}
 
 -- one of a list has a property
@@ -35,9 +36,15 @@ numbersOutside kind station z sequence = not (leb 1 kind && leb kind 64) || ltb 
 unfoldable pub headerOutside : Header → Bool
 headerOutside h = numbersOutside (h .kind) (h .station) (h .z) (h .sequence) || stateOutside (h .state)
 
--- REFUSAL 5 of a frame: its header, N over 31, a word over 24 bits, a word past N not zero
+-- a carried bit that is neither 0 nor 1
+unfoldable pub pairOutside : Carried → Bool
+pairOutside c = ltb 1 (c .d29) || ltb 1 (c .d30)
+
+-- REFUSAL 5 of a frame: its header, N over 31, a word over 24 bits, a word past N not zero, a carried bit not 0 or 1
 unfoldable pub outside : Frame → Bool
-outside f = headerOutside (f .header) || ltb 31 (f .n) || anyOf isWide (f .words) || anyOf isNonzero (drop (f .n) (f .words))
+outside f =
+    headerOutside (f .header) || ltb 31 (f .n) || anyOf isWide (f .words) || anyOf isNonzero (drop (f .n) (f .words))
+    || pairOutside (f .carried)
 
 -- REFUSAL 7: the hour has 6000 steps of 0.6 s; over 8191 is 5, which every order asks first
 abbrev pub late : ℕ → Bool

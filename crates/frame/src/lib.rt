@@ -12,6 +12,7 @@ ghost use Rattle.frame.specs.Layout.{layoutOf, systemOf};
 use crate::code::FACTORS;
 use crate::code::code_of;
 use crate::outside::any_from;
+use crate::outside::carried_outside;
 use crate::outside::header_outside;
 use crate::outside::state_outside;
 
@@ -31,9 +32,16 @@ pub struct Header {
     pub state: State,
 }
 
-// A frame: N data words, d1 of each in bit 23; the words past N are 0.
+// The two line bits before a word, each 0 or 1. Either value occurs on a sound line: they do not tell whether it is turned.
+pub struct Carried {
+    pub d29: u8,
+    pub d30: u8,
+}
+
+// A frame: the two bits before word 1; N data words, d1 of each in bit 23; the words past N are 0.
 pub struct Frame {
     pub header: Header,
+    pub carried: Carried,
     pub n: usize,
     pub words: [u32; 31],
 }
@@ -131,11 +139,16 @@ pub fn header_of(first: u32, second: u32) -> Header
     }
 }
 
-// A frame that did not come from the line: made, recalled, or given by its numbers.
+// A frame that did not come from the line: made, recalled, or given by its numbers. Its carried bits are 00.
 pub fn built(header: Header, n: usize, words: [u32; 31]) -> Frame
     ensures { λ r. ⌜ r ≡ builtOf header n words ⌝ }
 {
-    Frame { header, n, words }
+    Frame {
+        header,
+        carried: Carried { d29: 0, d30: 0 },
+        n,
+        words,
+    }
 }
 
 // What stands for a frame where there is none: type 0, which every call refuses with 5.
@@ -215,6 +228,10 @@ pub fn frame_widths(frame: Frame) -> Widths
     }
     // past N, and not zero
     if any_from(&words, n, 1) {
+        return Widths::Outside;
+    }
+    let carried = frame.carried;
+    if carried_outside(carried) {
         return Widths::Outside;
     }
     Widths::Within

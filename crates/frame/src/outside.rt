@@ -2,7 +2,8 @@
 ghost use mathlib.Core.Path.{_≡_};
 ghost use lib.Dec.{leb};
 ghost use lib.ListN.{length, drop};
-ghost use Rattle.frame.specs.Widths.{anyOf, stateOutside, numbersOutside, headerOutside};
+ghost use Rattle.frame.specs.Widths.{anyOf, stateOutside, numbersOutside, headerOutside, pairOutside};
+use crate::Carried;
 use crate::Header;
 use crate::State;
 use crate::code::place_of;
@@ -46,6 +47,16 @@ pub(crate) fn header_outside(header: Header) -> bool
     }
     let state = header.state;
     state_outside(state)
+}
+
+// A carried bit is neither 0 nor 1.
+pub(crate) fn carried_outside(carried: Carried) -> bool
+    ensures { λ r. ⌜ r ≡ pairOutside carried ⌝ }
+{
+    if carried.d29 > 1 {
+        return true;
+    }
+    carried.d30 > 1
 }
 
 // One of the words from `from` on is at least `least`.

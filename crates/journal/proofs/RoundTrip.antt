@@ -1,5 +1,5 @@
--- ROUND TRIP, over the definitions that the contracts cite. Recalling what was kept gives the frame and the record's length, whatever follows;
--- keeping what was recalled gives the record's own bytes. Assumes nothing.
+-- ROUND TRIP, over the definitions that the contracts cite. Recalling what was kept gives the frame without its pair and the record's length,
+-- whatever follows; keeping what was recalled gives the record's own bytes. Assumes nothing.
 use mathlib.Core.Path.{_≡_, refl, sym, ap, ap₂, subst, _∙_}
 use mathlib.Core.Bool.{true, false, not}
 use mathlib.Core.List.{List, [], _∷_, _++_}
@@ -14,11 +14,12 @@ use Rattle.bits.specs.Bits.{bits, number}
 use Rattle.bits.specs.Fields.{Fit, AreBytes}
 use Rattle.bits.proofs.Numbers.{bits-number}
 use Rattle.frame.specs.Header.{preambled, nOf, headerOf, firstWord, secondWord}
-use Rattle.frame.specs.Frames.{framed, wordsOf, frameOf, Below}
-use Rattle.frame.specs.Widths.{outside}
+use Rattle.frame.specs.Frames.{framed, afterPair, bare, wordsOf, frameOf, Below}
+use Rattle.frame.specs.Widths.{pairOutside, outside}
+use Rattle.frame.specs.declared.Carried.{Carried}
 use Rattle.frame.specs.declared.Frame.{Frame}
 use Rattle.frame.proofs.HeaderLaws.{length-first, length-second, n-words, first-preambled}
-use Rattle.frame.proofs.FrameLaws.{header-within, n-within, below-words, frame-words, length-framed, words-frame, frame-inside}
+use Rattle.frame.proofs.FrameLaws.{header-within, n-within, below-words, frame-words, length-framed, words-frame, frame-inside, after-inside}
 use Rattle.journal.specs.Forms.{nByte, wordsAfter, startOrder, recordWith}
 use Rattle.journal.specs.Journal.{recordOf, keepOrder, keptBy, heldBy, dataOrder, recallOrder}
 use Rattle.journal.specs.Journal.{refusedRecall, recalled, recalledBy, saysKept, saysRecalled}
@@ -69,8 +70,8 @@ module _ (f : Frame) (full : length (f .words) ≡ 31) (e : outside f ≡ false)
         (record-starts 0x32 3 (f .n) (wordsOf f) rest (count-words f e full) (n-within f e))
         (subst (λ ws. NoneApplies (dataOrder (f .n) ws)) (sym words-back) own-data)
 
-    -- THE FRAME AND THE LENGTH, exactly
-    pub recall-record : recalledBy (recordOf f ++ rest) ≡ record { answer = Record (3 * f .n + 9); frame = f }
+    -- THE FRAME WITHOUT ITS PAIR, AND THE LENGTH
+    pub recall-record : recalledBy (recordOf f ++ rest) ≡ record { answer = Record (3 * f .n + 9); frame = bare f }
     unfolding recordOf
     recall-record =
         order-answers refusedRecall (recalled (f .n) (wordsAfter 3 (recordOf f ++ rest))) (recallOrder (recordOf f ++ rest)) clear
@@ -139,6 +140,10 @@ module _ (bs : List ℕ) (fits : AreBytes bs) (f : Frame) (size : ℕ) (h : says
   pub reread : Reread bs f size
   reread = subst (λ (v : ℕ × Frame). Reread bs (v .1) (v .0)) values own
 
+  -- it has carried bits 00
+  pub recalled-bare : bare f ≡ f
+  recalled-bare = subst (λ (v : ℕ × Frame). bare (v .1) ≡ v .1) values (unfold frameOf framed afterPair in refl)
+
   -- KEPT AGAIN, into any buffer with room: the bytes that were read, and nothing else
   pub keep-recalled : (buffer : List ℕ) → size ≤ length buffer
       → (saysKept (keptBy f buffer) ≡ answers size) × (heldBy f buffer ≡ take size bs ++ drop size buffer)
@@ -165,3 +170,17 @@ module _ (f : Frame) (buffer : List ℕ) where
       go : (k : Kept) → saysKept k ≡ refuses number → held k ≡ buffer
       go (kept.Done n) e = let z : _≡_ {A = ℕ} 0 1 = cc in absurd (omega arith)
       go (kept.Refused n) e = refl
+
+-- ---- the frame's own pair is not looked at
+
+module _ (k : Carried) (f : Frame) (p : pairOutside k ≡ false) (o : outside f ≡ false) (buffer : List ℕ) where
+  same : outside (afterPair k f) ≡ outside f
+  same = after-inside k f p o ∙ sym o
+
+  pub unseen-answer : keptBy (afterPair k f) buffer ≡ keptBy f buffer
+  unfolding afterPair
+  unseen-answer = rw same
+
+  pub unseen-bytes : heldBy (afterPair k f) buffer ≡ heldBy f buffer
+  unfolding recordOf wordsOf afterPair
+  unseen-bytes = rw same

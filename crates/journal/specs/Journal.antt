@@ -20,7 +20,7 @@ use Rattle.journal.specs.declared.Recalled.{Recalled}
 
 -- ---- keep
 
--- the record of a frame: mark 0x52 0x32, N, three bytes a word
+-- the record of a frame: mark 0x52 0x32, N, three bytes a word; its pair is not kept
 unfoldable pub recordOf : Frame → List ℕ
 recordOf f = recordWith 0x32 3 (f .n) (wordsOf f)
 
@@ -53,7 +53,7 @@ recalled n ws = record { answer = found.Record (3 * n + 9); frame = frameOf ws }
 abbrev pub recallOrder : List ℕ → List Check
 recallOrder bs = startOrder 0x32 3 bs ++ dataOrder (nByte bs) (wordsAfter 3 bs)
 
--- RECALL: one record at the start of the bytes, its length and its frame; what follows it is ignored
+-- RECALL: one record at the start of the bytes, its length and its frame, which has carried bits 00; what follows it is ignored
 abbrev pub recalledBy : List ℕ → Recalled
 recalledBy bs = inOrder (recallOrder bs) refusedRecall (recalled (nByte bs) (wordsAfter 3 bs))
 

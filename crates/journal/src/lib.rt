@@ -66,7 +66,7 @@ fn put_record(first: u32, second: u32, words: &[u32; 31], n: usize, buffer: &mut
     put_data(words, n, 9, buffer);
 }
 
-// Keeps a frame as a record at the start of the buffer. Order 5, 13.
+// Keeps a frame without its pair, as a record at the start of the buffer. Order 5, 13.
 pub fn keep(frame: Frame, buffer: &mut [u8]) -> Kept
     ensures { λ r. ⌜ r ≡ keptBy frame (now (buffer .entry)) ⌝ }
     ensures { λ _. ⌜ now (buffer .exit) ≡ heldBy frame (now (buffer .entry)) ⌝ }
@@ -136,7 +136,7 @@ fn frame_in(n: usize, bytes: &[u8]) -> Recalled
     }
 }
 
-// Recalls the record at the start of the bytes; what follows it is ignored. Order 14, 15, 16, 15, 16.
+// Recalls the record at the start of the bytes, its frame after 00; what follows it is ignored. Order 14, 15, 16, 15, 16.
 pub fn recall(bytes: &[u8]) -> Recalled
     ensures { λ r. ⌜ r ≡ recalledBy (now (bytes .entry)) ⌝ }
 {

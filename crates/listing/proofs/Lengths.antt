@@ -11,7 +11,7 @@ use Rattle.reader.specs.declared.Answer.{Answer}
 use Rattle.reader.specs.declared.Answer.the-variants.{Done, Refused}
 use Rattle.printing.specs.Printing.{decimal}
 use Rattle.printing.proofs.DigitLaws.{decimal-le}
-use Rattle.listing.specs.Text.{newline, afterNumber, spaced, lineNumbers, frameLine, framesLabel, bytesLabel, passedLabel, lastLine}
+use Rattle.listing.specs.Text.{space, newline, spaced, lineNumbers, pairLast, frameLine, framesLabel, bytesLabel, passedLabel, lastLine}
 use Rattle.listing.specs.Listing.{fedOn, handedOn, endedOn, Lines, lineThen, linesOf, lineRoom, endRoom, finalLines}
 use Rattle.listing.specs.declared.Listing.{Listing}
 use Rattle.listing.proofs.LinesLaws.{fed-used}
@@ -19,10 +19,10 @@ use Rattle.listing.proofs.LinesLaws.{fed-used}
 spaced-le : (ns : List ℕ) → length (spaced ns) ≤ 21 * length ns
 unfolding spaced
 spaced-le [] = omega arith
-spaced-le (n ∷ ns) = omega (arith, length-append (decimal n) (afterNumber ns ∷ spaced ns), decimal-le n, spaced-le ns)
+spaced-le (n ∷ ns) = omega (arith, length-append (decimal n) (space ∷ spaced ns), decimal-le n, spaced-le ns)
 
 line-le : (at : ℕ) (f : Frame) → length (frameLine at f) ≤ lineRoom
-line-le at f = spaced-le (lineNumbers at f)
+line-le at f = omega (arith, length-append (spaced (lineNumbers at f)) (pairLast (f .carried)), spaced-le (lineNumbers at f))
 
 last-le : (a b c : ℕ) → length (lastLine a b c) ≤ lineRoom
 unfolding lastLine

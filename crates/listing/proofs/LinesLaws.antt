@@ -11,11 +11,14 @@ use Rattle.answer.specs.Order.{inOrder}
 use Rattle.bits.specs.Bits.{number}
 use Rattle.bits.proofs.Stores.{sets-append}
 use Rattle.line.specs.Line.{isData, six}
-use Rattle.frame.specs.Header.{factors, headerOf}
-use Rattle.frame.specs.Frames.{framed, blank}
-use Rattle.frame.specs.Widths.{stateOutside}
-use Rattle.frame.proofs.StateLaws.{state-inside}
+use Rattle.frame.specs.Header.{factors}
+use Rattle.frame.specs.Frames.{blank}
+use Rattle.frame.specs.Widths.{stateOutside, pairOutside}
+use Rattle.frame.specs.declared.Frame.{Frame}
+use Rattle.frame.proofs.WidthLaws.{to-inside}
+use Rattle.frame.proofs.FrameLaws.{header-within, pair-within}
 use Rattle.stream.specs.Standing.{frameAt}
+use Rattle.stream.proofs.Data.{frame-within}
 use Rattle.reader.specs.Reading.{Run, bitsOf, past, frameWaits, stepCells, stepTo, spent, runTo, ranBy, fedAllBy, takeTo, takenBy}
 use Rattle.reader.specs.declared.Candidate.{Candidate}
 use Rattle.reader.specs.declared.Reader.{Reader}
@@ -66,16 +69,19 @@ fed-tail l bs u fed e = e ∙ ap (fedOn l) (take-all (length bs - u) (drop u bs)
     all : length (drop u bs) ≤ length bs - u
     all = omega (arith, length-drop u bs)
 
--- the state of every frame that taking answers is within its widths
-blank-inside : stateOutside (blank .header .state) ≡ false
-unfolding blank stateOutside factors
-blank-inside = refl
+-- the state and the pair of every frame that taking answers are within their widths
+abbrev Inside : Frame → Type 0
+Inside f = (stateOutside (f .header .state) ≡ false) × (pairOutside (f .carried) ≡ false)
 
-frame-inside : (d : List Bool) → stateOutside (frameAt d .header .state) ≡ false
-unfolding frameAt framed headerOf
-frame-inside d = state-inside _
+blank-inside : Inside blank
+unfolding blank stateOutside pairOutside factors
+blank-inside = (refl, refl)
 
-taken-by-inside : (r : Reader) → stateOutside (takenBy r .frame .header .state) ≡ false
+frame-inside : (d : List Bool) → Inside (frameAt d)
+frame-inside d =
+    (to-inside (frameAt d .header) (header-within (frameAt d) (frame-within d)) .state, pair-within (frameAt d) (frame-within d))
+
+taken-by-inside : (r : Reader) → Inside (takenBy r .frame)
 unfolding takenBy
 taken-by-inside r = go (past r) (not (frameWaits r))
   where
@@ -83,14 +89,14 @@ taken-by-inside r = go (past r) (not (frameWaits r))
     next = record { cells = r .cells; candidate = takeTo (r .cells) (r .candidate) (r .ended); ended = r .ended }
 
     go : (p w : Bool)
-        → stateOutside (inOrder {A = Taken} ((p, 5) ∷ (w, 4) ∷ []) (λ n. record { answer = Refused n; at = 0; frame = blank; reader = r })
-        (record { answer = Done; at = r .candidate .at; frame = frameAt (bitsOf r); reader = next }) .frame .header .state) ≡ false
+        → Inside (inOrder {A = Taken} ((p, 5) ∷ (w, 4) ∷ []) (λ n. record { answer = Refused n; at = 0; frame = blank; reader = r })
+        (record { answer = Done; at = r .candidate .at; frame = frameAt (bitsOf r); reader = next }) .frame)
     go true w = blank-inside
     go false true = blank-inside
     go false false = frame-inside (bitsOf r)
 
-pub taken-inside : (r : Reader) (took : Taken) → took ≡ takenBy r → stateOutside (took .frame .header .state) ≡ false
-taken-inside r took e = ap (λ (t : Taken). stateOutside (t .frame .header .state)) e ∙ taken-by-inside r
+pub taken-inside : (r : Reader) (took : Taken) → took ≡ takenBy r → Inside (took .frame)
+taken-inside r took e = subst (λ (t : Taken). Inside (t .frame)) (sym e) (taken-by-inside r)
 
 -- ---- one turn
 

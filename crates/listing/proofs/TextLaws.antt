@@ -1,76 +1,78 @@
 -- Lines as the loop makes them. Assumes nothing.
 use mathlib.Core.Path.{_≡_, refl, sym, ap, ap₂, _∙_}
-use mathlib.Core.Bool.{Bool, true, false, cond}
+use mathlib.Core.Bool.{false, cond}
 use mathlib.Core.List.{List, [], _∷_, _++_}
 use Prim.Native.Nat.{ℕ, suc, _+_, _≤_, _<_}
 use native.Mathlib.Numerals.{add-one}
 use native.Mathlib.Omega.{arith}
-use lib.Dec.{eqb}
-use lib.ListN.{length, drop, getD, set, length-append, drop-of-length-le}
+use lib.Dec.{ltb}
+use lib.ListN.{length, drop, getD, set, length-append}
 use lib.Seq.{sets, drop-cons}
-use borrow.Author.Tests.{eqb-true, eqb-false}
+use borrow.Author.Tests.{ltb-false}
 use Rattle.bits.proofs.Stores.{sets-append}
 use Rattle.frame.specs.Header.{codeOf}
-use Rattle.frame.specs.Widths.{stateOutside}
+use Rattle.frame.specs.Widths.{stateOutside, pairOutside}
 use Rattle.frame.specs.Answer.{healthOf}
 use Rattle.frame.specs.declared.State.{State}
+use Rattle.frame.specs.declared.Carried.{Carried}
+use Rattle.frame.proofs.WidthLaws.{both-false}
 use Rattle.frame.specs.declared.HealthCode.the-variants.{Code, Refused}
 use Rattle.printing.specs.Printing.{decimal}
 use Rattle.printing.proofs.StoreLaws.{length-stored, length-marked, stored-then}
-use Rattle.listing.specs.Text.{space, newline, afterNumber, spaced, framesLabel, bytesLabel, passedLabel, lastLine}
+use Rattle.listing.specs.Text.{space, newline, spaced, pairLast, framesLabel, bytesLabel, passedLabel, lastLine}
 
 -- ---- a line of numbers
 
--- after number i of m + 1
-pub after-number : (ns : List ℕ) (i m : ℕ) → length ns ≡ suc m → i ≤ m → afterNumber (drop (i + 1) ns) ≡ cond (eqb i m) newline space
-after-number ns i m l h = go (eqb i m) refl
-  where
-    go : (t : Bool) → eqb i m ≡ t → afterNumber (drop (i + 1) ns) ≡ cond t newline space
-    go true e = ap afterNumber (drop-of-length-le ns {i = i + 1} all)
-      where
-        all : length ns ≤ i + 1
-        all = let last = eqb-true i m e in omega arith
-    go false e = ap afterNumber (drop-cons ns (i + 1) 0 more)
-      where
-        more : i + 1 < length ns
-        more = let not-last = eqb-false i m e in omega arith
-
--- number i of the line, what stands after it, and the rest
-pub spaced-next : (ns : List ℕ) (i m : ℕ) → length ns ≡ suc m → i ≤ m
-    → spaced (drop i ns) ≡ decimal (getD ns i 0) ++ (cond (eqb i m) newline space ∷ spaced (drop (i + 1) ns))
+-- number i, the space after it, and the rest
+spaced-next : (ns : List ℕ) (i : ℕ) → i < length ns → spaced (drop i ns) ≡ decimal (getD ns i 0) ++ (space ∷ spaced (drop (i + 1) ns))
 unfolding spaced
-spaced-next ns i m l h =
-    ap spaced (drop-cons ns i 0 inside ∙ ap (λ j. getD ns i 0 ∷ drop j ns) (sym (add-one i)))
-    ∙ ap (λ x. decimal (getD ns i 0) ++ (x ∷ spaced (drop (i + 1) ns))) (after-number ns i m l h)
-  where
-    inside : i < length ns
-    inside = omega arith
+spaced-next ns i h = ap spaced (drop-cons ns i 0 h ∙ ap (λ j. getD ns i 0 ∷ drop j ns) (sym (add-one i)))
 
--- stored: the digits, what stands after them, the rest
-pub store-spaced : (l ns : List ℕ) (next i m : ℕ) → length ns ≡ suc m → i ≤ m
+-- stored: the digits, the space after them, the rest
+pub store-spaced : (l ns : List ℕ) (next i : ℕ) → i < length ns
     → (l′ : List ℕ) → l′ ≡ sets l next (decimal (getD ns i 0)) → (next′ : ℕ) → next′ ≡ next + length (decimal (getD ns i 0))
-    → (after : ℕ) → after ≡ cond (eqb i m) newline space
-    → sets l next (spaced (drop i ns)) ≡ sets (set l′ next′ after) (next′ + 1) (spaced (drop (i + 1) ns))
-store-spaced l ns next i m e h l′ el next′ en after ea =
+    → sets l next (spaced (drop i ns)) ≡ sets (set l′ next′ space) (next′ + 1) (spaced (drop (i + 1) ns))
+store-spaced l ns next i h l′ el next′ en =
     let digits = decimal (getD ns i 0) in
-    let mark = cond (eqb i m) newline space in
     let rest = spaced (drop (i + 1) ns) in
     let end = next + length digits in
-    ap (sets l next) (spaced-next ns i m e h)
-    ∙ sets-append digits (mark ∷ rest) l next
-    ∙ ap (λ j. sets (set (sets l next digits) end mark) j rest) (sym (add-one end))
-    ∙ ap (λ k. sets (set k end mark) (end + 1) rest) (sym el)
-    ∙ ap₂ (λ j x. sets (set l′ j x) (j + 1) rest) (sym en) (sym ea)
+    ap (sets l next) (spaced-next ns i h)
+    ∙ sets-append digits (space ∷ rest) l next
+    ∙ ap (λ j. sets (set (sets l next digits) end space) j rest) (sym (add-one end))
+    ∙ ap₂ (λ k j. sets (set k j space) (j + 1) rest) (sym el) (sym en)
 
-pub length-spaced : (ns : List ℕ) (i m : ℕ) → length ns ≡ suc m → i ≤ m
+pub length-spaced : (ns : List ℕ) (i : ℕ) → i < length ns
     → length (spaced (drop i ns)) ≡ length (decimal (getD ns i 0)) + 1 + length (spaced (drop (i + 1) ns))
-length-spaced ns i m e h =
-    ap length (spaced-next ns i m e h)
-    ∙ length-append (decimal (getD ns i 0)) (cond (eqb i m) newline space ∷ spaced (drop (i + 1) ns))
+length-spaced ns i h =
+    ap length (spaced-next ns i h)
+    ∙ length-append (decimal (getD ns i 0)) (space ∷ spaced (drop (i + 1) ns))
     ∙ one-more (length (decimal (getD ns i 0))) (length (spaced (drop (i + 1) ns)))
   where
     one-more : (a b : ℕ) → a + suc b ≡ a + 1 + b
     one-more a b = omega arith
+
+-- ---- the carried pair at its end
+
+-- three bytes stored one by one
+pub store-three : (l : List ℕ) (place a b c : ℕ) → set (set (set l place a) (place + 1) b) (place + 2) c ≡ sets l place (a ∷ b ∷ c ∷ [])
+store-three l place a b c = ap₂ (λ i j. set (set (set l place a) i b) j c) (add-one place) two
+  where
+    two : place + 2 ≡ suc (suc place)
+    two = omega arith
+
+-- each of the two digits is a byte
+pub digit-small : (c : Carried) → pairOutside c ≡ false → (c .d29 ≤ 1) × (c .d30 ≤ 1)
+unfolding pairOutside
+digit-small c e = let both = both-false (ltb 1 (c .d29)) (ltb 1 (c .d30)) e in (ltb-false 1 (c .d29) (both .0), ltb-false 1 (c .d30) (both .1))
+
+-- the numbers stored, and the pair behind them
+pub store-line : (l ns : List ℕ) (place : ℕ) (c : Carried) (l₁ : List ℕ) → l₁ ≡ sets l place (spaced ns) → (next : ℕ) → next ≡ place + length (spaced ns)
+    → sets l₁ next (pairLast c) ≡ sets l place (spaced ns ++ pairLast c)
+store-line l ns place c l₁ el next en = sym (stored-then l (spaced ns) (pairLast c) place next l₁ en el)
+
+pub length-line : (ns : List ℕ) (place : ℕ) (c : Carried) (next : ℕ) → next ≡ place + length (spaced ns)
+    → next + 3 ≡ place + length (spaced ns ++ pairLast c)
+length-line ns place c next en = omega (arith, en, length-append (spaced ns) (pairLast c))
 
 -- ---- the last line
 

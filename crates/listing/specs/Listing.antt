@@ -64,9 +64,12 @@ linedBy x = record { used = x .used; written = length (x .text); listing = x .li
 
 -- ---- A PIECE: 5, 3, 13
 
--- room for a line: seven numbers of at most twenty digits, each with the byte after it
+-- room for seven numbers of at most twenty digits, each with the space after it; and for a line, which has two digits and a newline more
+abbrev pub numbersRoom : ℕ
+numbersRoom = 7 * (20 + 1)
+
 abbrev pub lineRoom : ℕ
-lineRoom = 7 * (20 + 1)
+lineRoom = numbersRoom + 3
 
 -- a reader takes bytes once its waiting frames are taken: 5, 3
 abbrev pub readyBy : Reader → Answer

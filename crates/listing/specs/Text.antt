@@ -1,10 +1,11 @@
 -- THE TEXT of a stream: a line for each frame of its scan, in order, and a last line of totals, which are counted over the stream itself.
 -- Bytes are ASCII codes. Assumes nothing.
 use mathlib.Core.List.{List, [], _∷_, _++_}
-use Prim.Native.Nat.{ℕ, _%_, _^_}
+use Prim.Native.Nat.{ℕ, _+_, _%_, _^_}
 use lib.ListN.{length}
 use Rattle.line.specs.Line.{lineBits, without}
 use Rattle.frame.specs.Header.{codeOf}
+use Rattle.frame.specs.declared.Carried.{Carried}
 use Rattle.frame.specs.declared.Frame.{Frame}
 use Rattle.stream.specs.Standing.{Placed, framesIn}
 use Rattle.printing.specs.Printing.{decimal}
@@ -17,24 +18,23 @@ space = 32
 abbrev pub newline : ℕ
 newline = 10
 
--- what stands after a number: a space where another one follows, a newline after the last
-abbrev pub afterNumber : List ℕ → ℕ
-afterNumber [] = newline
-afterNumber (n ∷ ns) = space
-
--- a line of numbers
+-- numbers, each with a space after it
 unfoldable pub spaced : List ℕ → List ℕ
 spaced [] = []
-spaced (n ∷ ns) = decimal n ++ (afterNumber ns ∷ spaced ns)
+spaced (n ∷ ns) = decimal n ++ (space ∷ spaced ns)
 
--- A FRAME'S LINE: where its first bit is, its type, station, Z count, sequence, N and health
+-- a carried pair as two digits, D29* first, and the end of the line
+abbrev pub pairLast : Carried → List ℕ
+pairLast c = (48 + c .d29) ∷ (48 + c .d30) ∷ newline ∷ []
+
+-- A FRAME'S LINE: where its first bit is, its type, station, Z count, sequence, N and health, and the two bits before it
 abbrev pub lineNumbers : ℕ → Frame → List ℕ
 lineNumbers at f =
     let h = f .header in
     at ∷ h .kind ∷ h .station ∷ h .z ∷ h .sequence ∷ f .n ∷ codeOf (h .state) ∷ []
 
 abbrev pub frameLine : ℕ → Frame → List ℕ
-frameLine at f = spaced (lineNumbers at f)
+frameLine at f = spaced (lineNumbers at f) ++ pairLast (f .carried)
 
 -- "frames ", " bytes ", " passed "
 abbrev pub framesLabel : List ℕ

@@ -40,8 +40,8 @@ pub struct Lined {
     pub listing: Listing,
 }
 
-// Room for a line: seven numbers of at most twenty digits, each with the byte after it.
-const LINE_ROOM: usize = 7 * (20 + 1);
+// Room for a line: seven numbers of at most twenty digits, each with the space after it, two digits and a newline.
+const LINE_ROOM: usize = 7 * (20 + 1) + 3;
 
 // Room for the lines that the end may release and for the last line.
 const END_ROOM: usize = (16 + 1) * LINE_ROOM;

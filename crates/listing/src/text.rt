@@ -1,33 +1,23 @@
 // Lines as text, in ASCII.
 ghost use mathlib.Core.Path.{_≡_};
-ghost use mathlib.Core.Bool.{false, cond};
+ghost use mathlib.Core.Bool.{false};
 ghost use mathlib.Core.List.{_++_};
 ghost use Prim.Native.Nat.{_+_, _≤_};
-ghost use lib.Dec.{eqb};
 ghost use lib.ListN.{length};
 ghost use lib.Seq.{sets};
-ghost use Rattle.frame.specs.Widths.{stateOutside};
+ghost use Rattle.frame.specs.Widths.{stateOutside, pairOutside};
 ghost use Rattle.printing.specs.Printing.{decimal};
-ghost use Rattle.listing.specs.Listing.{lineRoom};
-ghost use Rattle.listing.specs.Text.{spaced, frameLine, lastLine};
+ghost use Rattle.listing.specs.Listing.{numbersRoom, lineRoom};
+ghost use Rattle.listing.specs.Text.{spaced, pairLast, frameLine, lastLine};
+use frame::Carried;
 use frame::Frame;
 use frame::HealthCode;
 use printing::Printed;
 
-// What stands after number i of seven: a newline after the last, else a space.
-fn after_number(i: usize) -> u8
-    ensures { λ r. ⌜ r ≡ cond (eqb i 6) 10 32 ⌝ }
-{
-    if i == 6 {
-        return 10;
-    }
-    32
-}
-
-// Writes seven numbers as a line from `place` on, and answers the place after it. There is room for all, so none is refused.
+// Writes seven numbers from `place` on, each with a space after it, and answers the place after them. There is room for all, so none is refused.
 fn put_numbers(numbers: &[u64; 7], place: usize, buffer: &mut [u8]) -> usize
-    requires { ⌜ (length (now numbers) ≡ 7) × (place + lineRoom ≤ length (now buffer)) ⌝ }
-    ensures { λ r. ⌜ (r ≡ place + length (spaced (now (numbers .entry)))) × (r ≤ place + lineRoom) ⌝ }
+    requires { ⌜ (length (now numbers) ≡ 7) × (place + numbersRoom ≤ length (now buffer)) ⌝ }
+    ensures { λ r. ⌜ (r ≡ place + length (spaced (now (numbers .entry)))) × (r ≤ place + numbersRoom) ⌝ }
     ensures { λ _. ⌜ now (buffer .exit) ≡ sets (now (buffer .entry)) place (spaced (now (numbers .entry))) ⌝ }
 {
     let mut next = place;
@@ -36,19 +26,32 @@ fn put_numbers(numbers: &[u64; 7], place: usize, buffer: &mut [u8]) -> usize
         let Printed::At(end) = printing::put_number(numbers[i], next, buffer) else {
             return place;
         };
-        buffer[end] = after_number(i);
+        buffer[end] = 32;
         next = end + 1;
         i += 1;
     }
     next
 }
 
+// Writes a carried pair as two digits, D29* first, and a newline from `place` on, and answers the place after them.
+fn put_pair(carried: Carried, place: usize, buffer: &mut [u8]) -> usize
+    requires { ⌜ (pairOutside carried ≡ false) × (place + 3 ≤ length (now buffer)) ⌝ }
+    ensures { λ r. ⌜ r ≡ place + 3 ⌝ }
+    ensures { λ _. ⌜ now (buffer .exit) ≡ sets (now (buffer .entry)) place (pairLast carried) ⌝ }
+{
+    buffer[place] = 48 + carried.d29;
+    buffer[place + 1] = 48 + carried.d30;
+    buffer[place + 2] = 10;
+    place + 3
+}
+
 // Writes a frame's line from `place` on, and answers the place after it.
 pub(crate) fn put_frame(at: u32, frame: Frame, place: usize, buffer: &mut [u8]) -> usize
-    requires { ⌜ (stateOutside (frame .header .state) ≡ false) × (place + lineRoom ≤ length (now buffer)) ⌝ }
+    requires { ⌜ (stateOutside (frame .header .state) ≡ false) × (pairOutside (frame .carried) ≡ false) × (place + lineRoom ≤ length (now buffer)) ⌝ }
     ensures { λ r. ⌜ (r ≡ place + length (frameLine at frame)) × (r ≤ place + lineRoom) ⌝ }
     ensures { λ _. ⌜ now (buffer .exit) ≡ sets (now (buffer .entry)) place (frameLine at frame) ⌝ }
 {
+    let carried = frame.carried;
     let header = frame.header;
     let state = header.state;
     let HealthCode::Code(health) = frame::health_of(state) else {
@@ -63,7 +66,8 @@ pub(crate) fn put_frame(at: u32, frame: Frame, place: usize, buffer: &mut [u8]) 
         frame.n as u64,
         health as u64,
     ];
-    put_numbers(&numbers, place, buffer)
+    let next = put_numbers(&numbers, place, buffer);
+    put_pair(carried, next, buffer)
 }
 
 // Writes a label and a total from `place` on, and answers the place after them. There is room for both, so they are not refused.

@@ -10,13 +10,15 @@ use lib.ListN.{length, take, drop, getD}
 use lib.Seq.{take-at}
 use Rattle.answer.specs.Order.{refuses, answers, NoneApplies}
 use Rattle.answer.proofs.OrderLaws.{order-answers, refuses-apart}
+use Rattle.line.specs.Line.{lineBits}
 use Rattle.frame.specs.Layout.{layoutOf, systemOf}
-use Rattle.frame.specs.Widths.{anyOf, headerOutside, late}
+use Rattle.frame.specs.Frames.{zeroPair, bare}
+use Rattle.frame.specs.Widths.{anyOf, headerOutside, pairOutside, late}
 use Rattle.frame.specs.declared.Frame.{Frame}
 use Rattle.frame.specs.declared.Layout.{Layout}
 use Rattle.frame.specs.declared.Layout.the-variants as layout
-use Rattle.stream.specs.Standing.{frameAt}
-use Rattle.stream.proofs.Data.{frame-full}
+use Rattle.stream.specs.Standing.{size, pairBefore, frameAt}
+use Rattle.stream.proofs.Data.{frame-within, frame-full}
 use Rattle.record_fields.specs.Coding.{frameBits, entryIn, Each}
 use Rattle.record_stages.specs.Stages.{layoutNumber, isOf, otherLayout, refusedMade, doneMade, saysCount, saysMade}
 use Rattle.record_corrections.specs.Corrections.{coding, outOfRange, countCorrections, correctionAt, makeCorrections, saysCorrectionRead, Typed}
@@ -35,8 +37,6 @@ use Rattle.record_positions.specs.declared.PositionRead.{PositionRead}
 use Rattle.record_positions.specs.declared.PositionRead.the-variants as position
 use Rattle.record_nulls.specs.declared.NullRead.{NullRead}
 use Rattle.record_nulls.specs.declared.NullRead.the-variants as null
-use Rattle.record_stages.specs.declared.Making.{Making}
-use Rattle.record_stages.specs.declared.Making.the-variants as making
 use Rattle.record_stages.specs.declared.Made.{Made}
 use Rattle.record_stages.proofs.StageLaws.{done-apart}
 use Rattle.record_stages.proofs.ListCode.{told-some-few}
@@ -51,12 +51,14 @@ use Rattle.journal.specs.Journal.{recordOf, keepOrder, keptBy, heldBy, recalled
 use Rattle.journal.specs.declared.Kept.the-variants as kept
 use Rattle.journal.proofs.KeepLaws.{length-record}
 use Rattle.journal.proofs.RoundTrip.{recall-record, keep-recalled}
+use Rattle.writer.specs.Answer.{saysWritten}
 use Rattle.writer.specs.OneFrame.{WritesBack}
-use Rattle.writer.proofs.Wrote.{writes-back}
+use Rattle.writer.proofs.Wrote.{writes-back, unseen-answer, unseen-bytes}
 use Rattle.promises.specs.Demand2.{Remade, ofCorrections, ofHealths, ofPosition, ofNull, ofText}
 use Rattle.promises.specs.Demand2.{recordTypes, WhatIsRead, ReadsBackEqual, MadeAnew, ItsOwnBits, Demand2}
 use Rattle.promises.proofs.CarriesItsNumber.{carries-its-number, says-inj, none-told}
 use Rattle.promises.proofs.ThoseOfRtcm.{count-told, gps-parity-rule, frames-of-rtcm, records-of-rtcm}
+use Rattle.promises.proofs.PairBeside.{made-told, pair-beside}
 use Rattle.promises.proofs.ReadsBack.{corrections-back, healths-back, position-back, null-back, text-back, what-can-be-sent}
 
 -- ---- what a reader says, and its answer
@@ -139,13 +141,6 @@ what-is-read = record {
 
 -- ---- "A record we write reads back equal"
 
-pub made-told : (m : Made) (f : Frame) → saysMade m ≡ answers f → m ≡ doneMade f
-made-told m f e = go (m .answer) (m .frame) e
-  where
-    go : (a : Making) (g : Frame) → saysMade (record { answer = a; frame = g }) ≡ answers f → record { answer = a; frame = g } ≡ doneMade f
-    go making.Done g h = unfold doneMade in ap (λ x. record { answer = making.Done; frame = x }) (says-inj h)
-    go (making.Refused n) g h = let z : _≡_ {A = ℕ} 0 1 = cc in absurd (omega arith)
-
 each-take : {A : Type 0} (P : A → Type 0) (n : ℕ) (es : List A) → Each P es → Each P (take n es)
 each-take P zero es h = tt
 each-take P (suc n) [] h = tt
@@ -153,10 +148,10 @@ each-take P (suc n) (x ∷ es) h = (h .0, each-take P n es (h .1))
 
 -- the journal
 recall-front : (f : Frame) (buffer rest : List ℕ) (k : ℕ) → length (f .words) ≡ 31 → saysKept (keptBy f buffer) ≡ answers k
-    → (k ≡ 3 * f .n + 9) × (saysRecalled (recalledBy (take k (heldBy f buffer) ++ rest)) ≡ answers (k, f))
+    → (k ≡ 3 * f .n + 9) × (saysRecalled (recalledBy (take k (heldBy f buffer) ++ rest)) ≡ answers (k, bare f))
 recall-front f buffer rest k full e = (
   long,
-  ap (λ l. saysRecalled (recalledBy (l ++ rest))) front ∙ ap saysRecalled (recall-record f full (none .0) rest) ∙ ap (λ j. answers (j, f)) (sym long),
+  ap (λ l. saysRecalled (recalledBy (l ++ rest))) front ∙ ap saysRecalled (recall-record f full (none .0) rest) ∙ ap (λ j. answers (j, bare f)) (sym long),
 )
   where
     none : NoneApplies (keepOrder f buffer)
@@ -189,40 +184,51 @@ reads-back-equal = record {
 -- ---- "A frame whose record we can read .. gives its own bits"
 
 -- what a maker makes has a Z count below 6000: its first checks are those of the header
-in-time : (asked : Layout) (f : Frame) (rest : Made)
+in-time : (asked : Layout) (f g : Frame) (rest : Made)
     → cond (headerOutside (f .header)) (refusedMade 5)
     (cond (otherLayout asked (f .header .kind)) (refusedMade 6) (cond (late (f .header .z)) (refusedMade 7) rest))
-    ≡ doneMade f → late (f .header .z) ≡ false
-in-time asked f rest = go (headerOutside (f .header)) (otherLayout asked (f .header .kind)) (late (f .header .z))
+    ≡ doneMade g → late (f .header .z) ≡ false
+in-time asked f g rest = go (headerOutside (f .header)) (otherLayout asked (f .header .kind)) (late (f .header .z))
   where
-    go : (o w l : Bool) → cond o (refusedMade 5) (cond w (refusedMade 6) (cond l (refusedMade 7) rest)) ≡ doneMade f → l ≡ false
-    go true w l e = absurd (done-apart 5 f e)
-    go false true l e = absurd (done-apart 6 f e)
-    go false false true e = absurd (done-apart 7 f e)
+    go : (o w l : Bool) → cond o (refusedMade 5) (cond w (refusedMade 6) (cond l (refusedMade 7) rest)) ≡ doneMade g → l ≡ false
+    go true w l e = absurd (done-apart 5 g e)
+    go false true l e = absurd (done-apart 6 g e)
+    go false false true e = absurd (done-apart 7 g e)
     go false false false e = refl
 
--- every record made anew is the frame that was read, and its Z count can be sent
-again : (f : Frame) (m : Made) → length (f .words) ≡ 31 → Remade f m → (m ≡ doneMade f) × (late (f .header .z) ≡ false)
+-- every record made anew is the frame that was read, all but its pair, and its Z count can be sent
+again : (f : Frame) (m : Made) → length (f .words) ≡ 31 → Remade f m → (m ≡ doneMade (bare f)) × (late (f .header .z) ≡ false)
 unfolding makeCorrections makeHealths makePosition makeNull makeText
 again f m full (ofCorrections es c d l n e s q) =
     let made = corrections-read-made f es c d full l (count-told (countCorrections f) c n)
-    (λ i h. correction-told (correctionAt f i) (getD es i d) (e i h)) s in (q ∙ made, in-time layout.Correction f _ made)
+    (λ i h. correction-told (correctionAt f i) (getD es i d) (e i h)) s in (q ∙ made, in-time layout.Correction f (bare f) _ made)
 again f m full (ofHealths es c d l n e q) =
     let made = healths-read-made f es c d full l (count-told (countHealths f) c n)
-    (λ i h. health-told (healthAt f i) (getD es i d) (e i h)) in (q ∙ made, in-time layout.Health f _ made)
-again f m full (ofPosition p e q) = let made = position-read-made f p full (position-told (readPosition f) p e) in (q ∙ made, in-time layout.Position f _ made)
-again f m full (ofNull n e s q) = let made = null-read-made f n full (null-told (readNull f) n e) s in (q ∙ made, in-time layout.Null f _ made)
+    (λ i h. health-told (healthAt f i) (getD es i d) (e i h)) in (q ∙ made, in-time layout.Health f (bare f) _ made)
+again f m full (ofPosition p e q) =
+    let made = position-read-made f p full (position-told (readPosition f) p e) in (q ∙ made, in-time layout.Position f (bare f) _ made)
+again f m full (ofNull n e s q) = let made = null-read-made f n full (null-told (readNull f) n e) s in (q ∙ made, in-time layout.Null f (bare f) _ made)
 again f m full (ofText buffer c e q) =
-    let made = text-read-made f buffer c full (count-told (readText f buffer) c e) in (q ∙ made, in-time layout.Text f _ made)
+    let made = text-read-made f buffer c full (count-told (readText f buffer) c e) in (q ∙ made, in-time layout.Text f (bare f) _ made)
 
 pub made-anew : MadeAnew
 made-anew f m full r = unfold doneMade in ap saysMade (again f m full r .0)
 
+zero-inside : pairOutside zeroPair ≡ false
+zero-inside = unfold pairOutside in refl
+
 -- ITS OWN BITS, if the buffer has room for them
 pub its-own-bits : ItsOwnBits
-its-own-bits d s m r buffer room = record { frame = frameAt d; made = unfold doneMade in ap saysMade (anew .0); answer = back .answer; bits = back .bits }
+its-own-bits d s m r buffer room = record {
+  frame = bare (frameAt d);
+  made = unfold doneMade in ap saysMade (anew .0);
+  answer = ap saysWritten (unseen-answer zeroPair (frameAt d) zero-inside (frame-within d) (pairBefore d) buffer) ∙ back .answer;
+  bits =
+      ap (λ bs. lineBits (take (5 * size d) bs)) (unseen-bytes zeroPair (frameAt d) zero-inside (frame-within d) (pairBefore d) buffer)
+      ∙ back .bits;
+}
   where
-    anew : (m ≡ doneMade (frameAt d)) × (late (frameAt d .header .z) ≡ false)
+    anew : (m ≡ doneMade (bare (frameAt d))) × (late (frameAt d .header .z) ≡ false)
     anew = again (frameAt d) m (frame-full d) r
 
     back : WritesBack d buffer
@@ -236,6 +242,7 @@ demand-2 = record {
   read = what-is-read;
   sent = what-can-be-sent;
   reads-back = reads-back-equal;
+  pair = pair-beside;
   made-anew = made-anew;
   own-bits = its-own-bits;
 }

@@ -13,6 +13,7 @@ pub mod CarriesItsNumber
 pub mod ChangesNeither
 pub mod Demand1
 pub mod ThoseOfRtcm
+pub mod PairBeside
 pub mod ReadsBack
 pub mod Demand2
 pub mod Telling

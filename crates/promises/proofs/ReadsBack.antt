@@ -6,18 +6,19 @@ use Prim.Native.Nat.{ℕ, _≤_, _<_}
 use native.Mathlib.Omega.{arith}
 use lib.ListN.{length, take, replicate}
 use borrow.Author.Tests.{le-ltb, lt-leb}
-use Rattle.answer.specs.Order.{Check, inOrder, NoneApplies}
+use Rattle.answer.specs.Order.{Says, Check, inOrder, NoneApplies}
 use Rattle.answer.proofs.OrderLaws.{order-told}
 use Rattle.bits.specs.Rows.{wordsIn}
-use Rattle.frame.specs.Frames.{framed}
-use Rattle.frame.specs.Widths.{anyOf, outside}
+use Rattle.frame.specs.Frames.{framed, afterPair}
+use Rattle.frame.specs.Widths.{anyOf, pairOutside, outside}
 use Rattle.frame.specs.declared.Header.{Header}
+use Rattle.frame.specs.declared.Carried.{Carried}
 use Rattle.frame.specs.declared.Frame.{Frame}
 use Rattle.frame.specs.declared.Layout.{Layout}
 use Rattle.frame.specs.declared.Layout.the-variants as layout
 use Rattle.frame.specs.Layout.{systemOf}
-use Rattle.frame.proofs.FrameLaws.{n-within, length-framed}
-use Rattle.record_fields.specs.Coding.{entryBits, frameWith}
+use Rattle.frame.proofs.FrameLaws.{n-within, length-framed, after-inside}
+use Rattle.record_fields.specs.Coding.{frameBits, entryBits, frameWith}
 use Rattle.record_stages.specs.Stages.{wrongCount, makeOrder, refusedMade, doneMade, HeaderFor, IsMade, saysCount, saysMade}
 use Rattle.record_corrections.specs.declared.Correction.{Correction}
 use Rattle.record_healths.specs.declared.SatelliteHealth.{SatelliteHealth}
@@ -28,6 +29,7 @@ use Rattle.record_positions.specs.Positions as positions
 use Rattle.record_nulls.specs.Nulls as nulls
 use Rattle.record_texts.specs.Texts as texts
 use Rattle.record_stages.proofs.StageLaws.{done-apart, done-frame}
+use Rattle.record_laws.proofs.PairLaws.{corrections-count, correction-entry, healths-count, health-entry, position-same, null-same, text-count, text-left}
 use Rattle.record_laws.proofs.CorrectionTrips.{corrections-sent}
 use Rattle.record_laws.proofs.HealthTrips.{healths-sent}
 use Rattle.record_laws.proofs.PositionTrips.{position-sent}
@@ -39,7 +41,7 @@ use Rattle.writer.specs.OneFrame.{Wrote}
 use Rattle.writer.specs.declared.Written.the-variants.{Done}
 use Rattle.writer.proofs.Answers.{write-answers}
 use Rattle.writer.proofs.Wrote.{wrote}
-use Rattle.promises.specs.ReadsBack.{CorrectionsBack, HealthsBack, PositionBack, NullBack, TextBack, ReadsBack, WhatCanBeSent}
+use Rattle.promises.specs.ReadsBack.{ListBack, CorrectionsBack, HealthsBack, PositionBack, NullBack, TextBack, ReadsBack, WhatCanBeSent}
 
 -- ---- what was made reads back, in the table's terms
 
@@ -82,6 +84,63 @@ text-back h t f m = record {
   fill = m .fills;
 }
 
+-- ---- and after any pair too: no reader of records looks at it
+
+module _ (k : Carried) (p : pairOutside k ≡ false) where
+  list-unseen : {A : Type 0} (count : Frame → Says ℕ) (entry : Frame → ℕ → Says A) (width pattern : ℕ)
+      → ((f : Frame) → outside f ≡ false → count (afterPair k f) ≡ count f)
+      → ((f : Frame) → outside f ≡ false → (i : ℕ) → entry (afterPair k f) i ≡ entry f i)
+      → (h : Header) (es : List A) (c : ℕ) (d : A) (f : Frame) → ListBack count entry width pattern h es c d f
+      → ListBack count entry width pattern h es c d (afterPair k f)
+  unfolding frameBits afterPair
+  list-unseen count entry width pattern counts entries h es c d f b = record {
+    header = b .header;
+    inside = after-inside k f p (b .inside);
+    counted = counts f (b .inside) ∙ b .counted;
+    each = λ i l. entries f (b .inside) i ∙ b .each i l;
+    n = b .n;
+    fill = b .fill;
+  }
+
+  corrections-unseen : (h : Header) (es : List Correction) (c : ℕ) (d : Correction) (f : Frame) → CorrectionsBack h es c d f
+      → CorrectionsBack h es c d (afterPair k f)
+  corrections-unseen = list-unseen _ _ 40 0xAAAAAA (λ f o. ap saysCount (corrections-count k f p o))
+      (λ f o i. ap corrections.saysCorrectionRead (correction-entry k f p o i))
+
+  healths-unseen : (h : Header) (es : List SatelliteHealth) (c : ℕ) (d : SatelliteHealth) (f : Frame) → HealthsBack h es c d f
+      → HealthsBack h es c d (afterPair k f)
+  healths-unseen = list-unseen _ _ 24 0 (λ f o. ap saysCount (healths-count k f p o)) (λ f o i. ap healths.saysHealthRead (health-entry k f p o i))
+
+  position-unseen : (h : Header) (q : Position) (f : Frame) → PositionBack h q f → PositionBack h q (afterPair k f)
+  unfolding afterPair
+  position-unseen h q f b = record {
+    header = b .header;
+    inside = after-inside k f p (b .inside);
+    reads = ap positions.saysPositionRead (position-same k f p (b .inside)) ∙ b .reads;
+    n = b .n;
+  }
+
+  null-unseen : (h : Header) (n : ℕ) (f : Frame) → NullBack h n f → NullBack h n (afterPair k f)
+  unfolding afterPair
+  null-unseen h n f b = record {
+    header = b .header;
+    inside = after-inside k f p (b .inside);
+    reads = ap nulls.saysNullRead (null-same k f p (b .inside)) ∙ b .reads;
+    n = b .n;
+    fill = b .fill;
+  }
+
+  text-unseen : (h : Header) (t : List ℕ) (f : Frame) → TextBack h t f → TextBack h t (afterPair k f)
+  unfolding frameBits afterPair
+  text-unseen h t f b = record {
+    header = b .header;
+    inside = after-inside k f p (b .inside);
+    reads = λ buffer l. ap saysCount (text-count k f p (b .inside) buffer) ∙ b .reads buffer l;
+    writes = λ buffer l. text-left k f p (b .inside) buffer ∙ b .writes buffer l;
+    n = b .n;
+    fill = b .fill;
+  }
+
 -- a frame that is made within its widths has 31 words
 made-full : (cs : List Check) (h : Header) (ws : List ℕ) (f : Frame) → inOrder cs refusedMade (doneMade (framed h ws)) ≡ doneMade f
     → outside f ≡ false → length (f .words) ≡ 31
@@ -96,9 +155,10 @@ made-full cs h ws f e within = ap (λ g. length (g .words)) (sym same) ∙ lengt
 
 -- WHAT IS SENT under a header for its layout IS WRITTEN AND READS BACK: no check of the writer applies
 sent-reads-back : (asked : Layout) (h : Header) (cs : List Check) (ws : List ℕ) (Reads Back : Frame → Type 0) (to : (f : Frame) → Reads f → Back f)
+    (unseen : (k : Carried) → pairOutside k ≡ false → (f : Frame) → Back f → Back (afterPair k f))
     (s : IsMade (inOrder cs refusedMade (doneMade (framed h ws))) Reads)
     → HeaderFor asked h → s .frame .header ≡ h → outside (s .frame) ≡ false → ReadsBack (inOrder cs refusedMade (doneMade (framed h ws))) Back
-sent-reads-back asked h cs ws Reads Back to s for header within c buffer p q room = record {
+sent-reads-back asked h cs ws Reads Back to unseen s for header within c buffer p q room = record {
   frame = f;
   made = unfold doneMade in ap saysMade (s .done);
   reads = to f (s .reads);
@@ -106,7 +166,7 @@ sent-reads-back asked h cs ws Reads Back to s for header within c buffer p q roo
   on = carriedOn (bitsAfter c f);
   answer = ap saysWritten done;
   wrote = written;
-  back = λ rest. subst Back (sym (written .is rest)) (to f (s .reads));
+  back = λ rest. subst Back (sym (written .is rest)) (unseen c pair f (to f (s .reads)));
 }
   where
     f : Frame
@@ -114,6 +174,9 @@ sent-reads-back asked h cs ws Reads Back to s for header within c buffer p q roo
 
     hour : f .header .z < 6000
     hour = subst (λ x. x .z < 6000) (sym header) (for .hour)
+
+    pair : pairOutside c ≡ false
+    pair = unfold pairOutside in rw (le-ltb 1 (c .d29) p, le-ltb 1 (c .d30) q)
 
     none : NoneApplies (writeChecks f c buffer)
     none = (
@@ -136,27 +199,29 @@ what-can-be-sent = record {
       sent-reads-back layout.Correction h
       (makeOrder layout.Correction h ((wrongCount 18 c, 12) ∷ (anyOf (corrections.outOfRange (systemOf (h .kind))) (take c es), 10) ∷ []))
       (wordsIn corrections.fill (entryBits (corrections.coding (systemOf (h .kind))) (take c es)))
-      (corrections.CorrectionsMade h es c d) (CorrectionsBack h es c d) (corrections-back h es c d) sent
+      (corrections.CorrectionsMade h es c d) (CorrectionsBack h es c d) (corrections-back h es c d) (λ k o. corrections-unseen k o h es c d) sent
       (s .header) (sent .reads .header) (sent .reads .inside);
   healths = λ h es c d s.
       let sent = healths-sent h es c d s in
       sent-reads-back layout.Health h
       (makeOrder layout.Health h ((wrongCount 31 c, 12) ∷ (anyOf (healths.outOfRange (systemOf (h .kind))) (take c es), 10) ∷ []))
       (wordsIn healths.fill (entryBits (healths.coding (systemOf (h .kind))) (take c es)))
-      (healths.HealthsMade h es c d) (HealthsBack h es c d) (healths-back h es c d) sent (s .header) (sent .reads .header) (sent .reads .inside);
+      (healths.HealthsMade h es c d) (HealthsBack h es c d) (healths-back h es c d) (λ k o. healths-unseen k o h es c d) sent
+      (s .header) (sent .reads .header) (sent .reads .inside);
   position = λ h p typed s.
       let sent = position-sent h p typed s in
       sent-reads-back layout.Position h (makeOrder layout.Position h ((positions.outOfRange p, 10) ∷ []))
       (wordsIn positions.fill (entryBits positions.coding (p ∷ [])))
-      (positions.PositionMade h p) (PositionBack h p) (position-back h p) sent (s .header) (sent .reads .header) (sent .reads .inside);
+      (positions.PositionMade h p) (PositionBack h p) (position-back h p) (λ k o. position-unseen k o h p) sent
+      (s .header) (sent .reads .header) (sent .reads .inside);
   null = λ h n s.
       let sent = null-sent h n s in
       sent-reads-back layout.Null h (makeOrder layout.Null h ((nulls.tooMany n, 12) ∷ [])) (replicate n nulls.fill)
-      (nulls.NullMade h n) (NullBack h n) (null-back h n) sent (s .header) (sent .reads .header) (sent .reads .inside);
+      (nulls.NullMade h n) (NullBack h n) (null-back h n) (λ k o. null-unseen k o h n) sent (s .header) (sent .reads .header) (sent .reads .inside);
   text = λ h t s.
       let sent = text-sent h t s in
       sent-reads-back layout.Text h
       (makeOrder layout.Text h ((wrongCount 90 (length t), 12) ∷ (anyOf (texts.forbidden (systemOf (h .kind))) t, 11) ∷ []))
       (wordsIn texts.fill (entryBits texts.coding t))
-      (texts.TextMade h t) (TextBack h t) (text-back h t) sent (s .header) (sent .reads .header) (sent .reads .inside);
+      (texts.TextMade h t) (TextBack h t) (text-back h t) (λ k o. text-unseen k o h t) sent (s .header) (sent .reads .header) (sent .reads .inside);
 }

@@ -7,7 +7,6 @@ use native.Mathlib.Omega.{arith}
 use lib.ListN.{length, take, drop, length-append}
 use lib.Seq.{take-add, append-snoc, length-take-le}
 use Rattle.line.specs.Line.{isData, six, lineBits, without}
-use Rattle.frame.specs.Header.{codeOf}
 use Rattle.frame.specs.declared.Frame.{Frame}
 use Rattle.stream.specs.Standing.{Placed}
 use Rattle.reader.specs.Reading.{fedAllBy, takenBy, saysAnswer, carrying, saysTaken}
@@ -20,8 +19,7 @@ use Rattle.promises.proofs.Kept.{Kept, kept-started}
 use Rattle.promises.proofs.Runs.{not-done, given, sound-taken, Sound, kept-sound, all-bits, kept-call}
 use Rattle.promises.proofs.Serving.{take-ended, fewer}
 use Rattle.promises.proofs.EveryReader.{fed-parts}
-use Rattle.printing.specs.Printing.{decimal}
-use Rattle.listing.specs.Text.{spaced, frameLine, linesIn}
+use Rattle.listing.specs.Text.{spaced, lineNumbers, pairLast, frameLine, linesIn}
 use Rattle.listing.specs.Listing.{begun, fedOn, handedOn, Lines, lineThen, linesOf}
 use Rattle.listing.specs.declared.Listing.{Listing}
 use Rattle.listing.proofs.LinesLaws.{fed-used}
@@ -175,10 +173,7 @@ tells (suc k) l bs used out t =
 
 -- a line is not empty
 pub line-some : (at : ℕ) (f : Frame) → 1 ≤ length (frameLine at f)
-unfolding spaced
-line-some at f =
-    let h = f .header in
-    omega (arith, length-append (decimal at) (32 ∷ spaced (h .kind ∷ h .station ∷ h .z ∷ h .sequence ∷ f .n ∷ codeOf (h .state) ∷ [])))
+line-some at f = omega (arith, length-append (spaced (lineNumbers at f)) (pairLast (f .carried)))
 
 -- where taking is refused none waits
 pub none-there : (r : Reader) → Sound r → (n : ℕ) → takenBy r .answer ≡ Refused n → r .candidate .waits ≡ false

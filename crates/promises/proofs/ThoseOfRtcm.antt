@@ -58,7 +58,7 @@ use Rattle.record_values.proofs.Readings.{lowest-stops, only-lowest-stops, exac
 use Rattle.record_values.proofs.LimitLaws.{limit-whole}
 use Rattle.record_values.proofs.AnswerLaws.{prc-says, rrc-says, both-exact, udre-says, cn0-says, minutes-says, z-says}
 use Rattle.writer.specs.Answer.{saysWritten}
-use Rattle.writer.specs.declared.Carried.{Carried}
+use Rattle.frame.specs.declared.Carried.{Carried}
 use Rattle.writer.specs.declared.Written.{Written}
 use Rattle.writer.specs.declared.Written.the-variants.{Done, Refused}
 use Rattle.writer.proofs.Wrote.{wrote, writes-back, writes-back-turned}

@@ -1,4 +1,5 @@
--- "Turning over all bits from the start changes no frame handed out": calls that bring opposite bits are answered alike, at any time.
+-- "Turning over all bits from the start changes no frame handed out": calls that bring opposite bits are answered alike, at any time, but for
+-- the pair of a frame taken.
 -- Assumes nothing.
 use mathlib.Core.Path.{_≡_, refl, sym, ap, ap₂, subst, subst₂, _∙_}
 use mathlib.Core.Bool.{Bool, true, false, not}
@@ -25,7 +26,7 @@ use Rattle.reader.proofs.Accepted.{Accepted, length-step, accepted-step}
 use Rattle.reader.proofs.Running.{run-waits, run-on, run-over}
 use Rattle.promises.specs.Calls.{Call, feeds, feedsAll, ends, takes, replied, used, took, replyTo, after, replies}
 use Rattle.promises.specs.Demand3.{OppositeByte, OppositeBytes, no-bytes, byte-and, OppositeCalls, no-calls}
-use Rattle.promises.specs.Demand3.{fed-and, all-and, end-and, take-and, TurnedIsSame}
+use Rattle.promises.specs.Demand3.{fed-and, all-and, end-and, take-and, turnedReply, TurnedIsSame}
 use Rattle.promises.proofs.Kept.{Kept, kept-started}
 use Rattle.promises.proofs.Runs.{given, fed-by, all-by, ended-by, sound-taken, kept-sound, never-past, kept-call}
 use Rattle.promises.proofs.Opposed.{Opposed, step-opposed, end-opposed, take-opposed}
@@ -79,7 +80,7 @@ record Facing (r r′ : Reader) : Type 0 where
   ended : r′ .ended ≡ r .ended
 
 record Alike (r r′ : Reader) (c d : Call) : Type 0 where
-  reply : replyTo r′ d ≡ replyTo r c
+  reply : replyTo r′ d ≡ turnedReply (replyTo r c)
   facing : Facing (after r c) (after r′ d)
 
 module _ (s s′ : List Bool) (out out′ : List (ℕ × Frame)) (r r′ : Reader) (k : Kept s out r) (k′ : Kept s′ out′ r′) (f : Facing r r′) where
@@ -171,7 +172,7 @@ module _ (s s′ : List Bool) (out out′ : List (ℕ × Frame)) (r r′ : Reade
   take-alike = go (r .candidate .waits) refl
     where
       P : Taken → Taken → Type 0
-      P x x′ = (took (saysTaken x′) ≡ took (saysTaken x)) × Facing (x .reader) (x′ .reader)
+      P x x′ = (took (saysTaken x′) ≡ turnedReply (took (saysTaken x))) × Facing (x .reader) (x′ .reader)
 
       alike : P (takenBy r) (takenBy r′) → Alike r r′ takes takes
       alike q = record { reply = unfold replyTo in q .0; facing = unfold after in q .1 }
@@ -198,7 +199,7 @@ module _ (s s′ : List Bool) (out out′ : List (ℕ × Frame)) (r r′ : Reade
 
 calls-alike : {cs ds : List Call} → OppositeCalls cs ds → (s s′ : List Bool) (out out′ : List (ℕ × Frame)) (r r′ : Reader) → Kept s out r
     → Kept s′ out′ r′ → Facing r r′
-    → replies r′ ds ≡ replies r cs
+    → replies r′ ds ≡ map turnedReply (replies r cs)
 unfolding replies
 calls-alike no-calls s s′ out out′ r r′ k k′ f = refl
 calls-alike (fed-and {b = b} {c = d} t rest) s s′ out out′ r r′ k k′ f =

@@ -9,8 +9,8 @@ use Rattle.bits.specs.Bits.{bits, number}
 use Rattle.line.specs.Line.{six, lineBits, without}
 use Rattle.word.specs.Word.{rows, places, parity, dataOf, received, computed, remainderOf, passes, turnedBy, sent}
 use Rattle.frame.specs.Header.{factors, stateOf, codeOf, preambled, nOf, headerOf}
-use Rattle.frame.specs.Frames.{framed}
-use Rattle.frame.specs.Widths.{stateOutside, numbersOutside, headerOutside, outside}
+use Rattle.frame.specs.Frames.{framed, afterPair, turnedFrame}
+use Rattle.frame.specs.Widths.{stateOutside, numbersOutside, headerOutside, pairOutside, outside}
 use Rattle.frame.specs.Layout.{layoutOf}
 use Rattle.record_stages.specs.Stages.{layoutNumber, otherLayout, misfit}
 use Rattle.record_corrections.specs.Corrections.{countCorrections}
@@ -28,28 +28,28 @@ use Rattle.promises.proofs.Serving.{byte-bits}
 use Rattle.promises.proofs.Demand3.{one-by-one}
 use Rattle.promises.proofs.Progress.{text-comes}
 
-frames-eleven : map reported (framesIn (lineBits elevenBytes)) ≡ elevenFrame ∷ []
-unfolding bits number six lineBits rows places parity dataOf received computed remainderOf passes factors stateOf preambled nOf headerOf framed right
+frames-eleven : map reported (framesIn (lineBits elevenBytes)) ≡ (6, elevenFrame) ∷ []
+unfolding bits number six lineBits rows places parity dataOf received computed remainderOf passes factors stateOf preambled nOf headerOf framed afterPair right
     nAt dataFrom frameAt placed allRight stands scan reported
 frames-eleven = refl
 
-frames-turned : map reported (framesIn (lineBits turnedBytes)) ≡ elevenFrame ∷ []
-unfolding bits number six lineBits rows places parity dataOf received computed remainderOf passes factors stateOf preambled nOf headerOf framed right
+frames-turned : map reported (framesIn (lineBits turnedBytes)) ≡ (6, turnedFrame elevenFrame) ∷ []
+unfolding bits number six lineBits rows places parity dataOf received computed remainderOf passes factors stateOf preambled nOf headerOf framed afterPair right
     nAt dataFrom frameAt placed allRight stands scan reported
 frames-turned = refl
 
 frames-ten : map reported (framesIn (lineBits tenBytes)) ≡ []
-unfolding bits number six lineBits rows places parity dataOf received computed remainderOf passes factors stateOf preambled nOf headerOf framed right
+unfolding bits number six lineBits rows places parity dataOf received computed remainderOf passes factors stateOf preambled nOf headerOf framed afterPair right
     nAt dataFrom frameAt placed allRight stands scan reported
 frames-ten = refl
 
-text-eleven : textOf elevenBytes ≡ twoLines
-unfolding bits number six lineBits rows places parity dataOf received computed remainderOf passes factors stateOf codeOf preambled nOf headerOf framed
+text-eleven : textOf elevenBytes ≡ twoLines 48
+unfolding bits number six lineBits rows places parity dataOf received computed remainderOf passes factors stateOf codeOf preambled nOf headerOf framed afterPair
     right nAt dataFrom frameAt placed allRight stands scan without lastDigits digitsUpTo decimal spaced lastLine linesIn textOf twoLines
 text-eleven = refl
 
-text-turned : textOf turnedBytes ≡ twoLines
-unfolding bits number six lineBits rows places parity dataOf received computed remainderOf passes factors stateOf codeOf preambled nOf headerOf framed
+text-turned : textOf turnedBytes ≡ twoLines 49
+unfolding bits number six lineBits rows places parity dataOf received computed remainderOf passes factors stateOf codeOf preambled nOf headerOf framed afterPair
     right nAt dataFrom frameAt placed allRight stands scan without lastDigits digitsUpTo decimal spaced lastLine linesIn textOf twoLines
 text-turned = refl
 
@@ -68,7 +68,7 @@ zero-bits : six 0x40 ≡ replicate 6 false
 zero-bits = unfold bits number six in refl
 
 pub worked : WorkedValues
-unfolding factors stateOf signedValue hundredthsOf limits udreValue outside headerOutside numbersOutside stateOutside layoutOf layoutNumber
+unfolding factors stateOf signedValue hundredthsOf limits udreValue outside pairOutside headerOutside numbersOutside stateOutside layoutOf layoutNumber
     otherLayout misfit countCorrections
 worked = record {
   word-1 = unfold bits number rows parity turnedBy sent in refl;

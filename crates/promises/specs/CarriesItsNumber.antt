@@ -24,7 +24,7 @@ use Rattle.record_fields.specs.Coding.{frameBits, entryIn}
 use Rattle.reader.specs.Reading.{past, frameWaits, busy, fedBy, fedAllBy, endedBy, takenBy, saysAnswer}
 use Rattle.reader.specs.declared.Reader.{Reader}
 use Rattle.writer.specs.Answer.{openChecks, openedBy, writeChecks, writtenBy, saysOpened, saysWritten}
-use Rattle.writer.specs.declared.Carried.{Carried}
+use Rattle.frame.specs.declared.Carried.{Carried}
 use Rattle.journal.specs.Journal.{keepOrder, keptBy, recallOrder, recalledBy, saysKept, saysRecalled}
 use Rattle.record_fields.specs.declared.Rows.{Rows}
 use Rattle.record_stages.specs.Stages.{wrongCount, otherLayout, misfit, wrongSize, askedOf, countIn, placeBy, sizeOf, entryRefusal, madeBy}

@@ -13,7 +13,7 @@ use Rattle.frame.specs.declared.Frame.{Frame}
 use Rattle.reader.specs.Reading.{fedBy, fedAllBy, endedBy, takenBy, saysAnswer}
 use Rattle.reader.specs.declared.Reader.{Reader}
 use Rattle.writer.specs.Answer.{openedBy, openedTo, writtenBy, writtenTo, saysOpened, saysWritten}
-use Rattle.writer.specs.declared.Carried.{Carried}
+use Rattle.frame.specs.declared.Carried.{Carried}
 use Rattle.journal.specs.Journal.{keptBy, heldBy, recalledBy, saysKept, saysRecalled}
 use Rattle.record_stages.specs.Stages.{saysCount, saysMade}
 use Rattle.record_corrections.specs.Corrections.{makeCorrections}

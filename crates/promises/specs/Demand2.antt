@@ -1,7 +1,7 @@
 -- DEMAND 2, sentence by sentence: the papers' frames, parity and records are in ThoseOfRtcm; here a record that is written and read, and a frame that
 -- is read, made anew and written. Assumes nothing.
 use mathlib.Core.Path.{_≡_}
-use mathlib.Core.Bool.{Bool, cond}
+use mathlib.Core.Bool.{Bool, false, cond}
 use mathlib.Core.List.{List, [], _∷_, _++_}
 use mathlib.Core.Logic.{_↔_}
 use Prim.Native.Nat.{ℕ, _+_, _*_, _≤_, _<_}
@@ -10,12 +10,14 @@ use lib.ListN.{length, take, drop, getD}
 use Rattle.answer.specs.Order.{refuses, answers}
 use Rattle.bits.specs.Fields.{AreBytes}
 use Rattle.line.specs.Line.{lineBits}
+use Rattle.frame.specs.Frames.{afterPair, bare}
 use Rattle.frame.specs.declared.Header.{Header}
+use Rattle.frame.specs.declared.Carried.{Carried}
 use Rattle.frame.specs.declared.Frame.{Frame}
 use Rattle.frame.specs.declared.Layout.the-variants as layout
 use Rattle.frame.specs.Layout.{systemOf}
-use Rattle.frame.specs.Widths.{anyOf}
-use Rattle.stream.specs.Standing.{size, Stands, frameAt}
+use Rattle.frame.specs.Widths.{anyOf, pairOutside, outside}
+use Rattle.stream.specs.Standing.{size, Stands, pairBefore, frameAt}
 use Rattle.record_fields.specs.Coding.{frameBits, entryIn, Each}
 use Rattle.record_stages.specs.declared.Made.{Made}
 use Rattle.record_corrections.specs.declared.Correction.{Correction}
@@ -34,7 +36,7 @@ use Rattle.record_texts.specs.Texts.{textIn, readText, bufferAfter, makeText, H
 use Rattle.journal.specs.Journal.{keptBy, heldBy, recalledBy, saysKept, saysRecalled}
 use Rattle.writer.specs.Sending.{carriedOn}
 use Rattle.writer.specs.Answer.{writtenBy, writtenTo, saysWritten}
-use Rattle.writer.specs.OneFrame.{pairBefore, itsBits}
+use Rattle.writer.specs.OneFrame.{itsBits}
 use Rattle.promises.specs.ThoseOfRtcm.{GpsParityRule, FramesOfRtcm, RecordsOfRtcm}
 use Rattle.promises.specs.ReadsBack.{CorrectionsBack, HealthsBack, PositionBack, NullBack, TextBack, WhatCanBeSent}
 
@@ -72,9 +74,9 @@ pub record ReadsBackEqual : Type 0 where
   pub position : (h : Header) (p : Position) (f : Frame) → positions.Typed p → saysMade (makePosition h p) ≡ answers f → PositionBack h p f
   pub null : (h : Header) (n : ℕ) (f : Frame) → saysMade (makeNull h n) ≡ answers f → NullBack h n f
   pub text : (h : Header) (t : List ℕ) (f : Frame) → saysMade (makeText h t) ≡ answers f → TextBack h t f
-  -- the journal: a frame that is kept is recalled with its length, whatever follows
+  -- the journal: a frame that is kept is recalled with its length, all but its pair, whatever follows
   pub recalled : (f : Frame) (buffer rest : List ℕ) (k : ℕ) → length (f .words) ≡ 31 → saysKept (keptBy f buffer) ≡ answers k
-      → (k ≡ 3 * f .n + 9) × (saysRecalled (recalledBy (take k (heldBy f buffer) ++ rest)) ≡ answers (k, f))
+      → (k ≡ 3 * f .n + 9) × (saysRecalled (recalledBy (take k (heldBy f buffer) ++ rest)) ≡ answers (k, bare f))
   -- and every byte of a record that is recalled is kept again
   pub kept-again : (bs : List ℕ) (f : Frame) (k : ℕ) (buffer : List ℕ) → AreBytes bs → saysRecalled (recalledBy bs) ≡ answers (k, f)
       → k ≤ length buffer → (saysKept (keptBy f buffer) ≡ answers k) × (heldBy f buffer ≡ take k bs ++ drop k buffer)
@@ -103,13 +105,28 @@ pub record WritesItsBits (d : List Bool) (m : Made) (buffer : List ℕ) : Type 0
   pub answer : saysWritten (writtenBy frame (pairBefore d) buffer) ≡ answers (5 * size d, carriedOn (itsBits d))
   pub bits : lineBits (take (5 * size d) (writtenTo frame (pairBefore d) buffer)) ≡ itsBits d
 
--- made anew it is the same frame
+-- made anew it is the same frame, all but its pair
 abbrev pub MadeAnew : Type 0
-MadeAnew = (f : Frame) (m : Made) → length (f .words) ≡ 31 → Remade f m → saysMade m ≡ answers f
+MadeAnew = (f : Frame) (m : Made) → length (f .words) ≡ 31 → Remade f m → saysMade m ≡ answers (bare f)
 
 -- and where it stands, it gives its own bits, if the buffer has room for them
 abbrev pub ItsOwnBits : Type 0
 ItsOwnBits = (d : List Bool) → Stands d → (m : Made) → Remade (frameAt d) m → (buffer : List ℕ) → 5 * size d ≤ length buffer → WritesItsBits d m buffer
+
+-- ---- the carried pair of a frame
+
+-- writer and journal do not look at which of the four it is; a frame made and one recalled have 00
+pub record PairBeside : Type 0 where
+  pub written : (k : Carried) (f : Frame) (c : Carried) (buffer : List ℕ) → pairOutside k ≡ false → outside f ≡ false
+      → (writtenBy (afterPair k f) c buffer ≡ writtenBy f c buffer) × (writtenTo (afterPair k f) c buffer ≡ writtenTo f c buffer)
+  pub kept : (k : Carried) (f : Frame) (buffer : List ℕ) → pairOutside k ≡ false → outside f ≡ false
+      → (keptBy (afterPair k f) buffer ≡ keptBy f buffer) × (heldBy (afterPair k f) buffer ≡ heldBy f buffer)
+  pub corrections : (h : Header) (es : List Correction) (c : ℕ) (f : Frame) → saysMade (makeCorrections h es c) ≡ answers f → bare f ≡ f
+  pub healths : (h : Header) (es : List SatelliteHealth) (c : ℕ) (f : Frame) → saysMade (makeHealths h es c) ≡ answers f → bare f ≡ f
+  pub position : (h : Header) (p : Position) (f : Frame) → saysMade (makePosition h p) ≡ answers f → bare f ≡ f
+  pub null : (h : Header) (n : ℕ) (f : Frame) → saysMade (makeNull h n) ≡ answers f → bare f ≡ f
+  pub text : (h : Header) (t : List ℕ) (f : Frame) → saysMade (makeText h t) ≡ answers f → bare f ≡ f
+  pub recalled : (bs : List ℕ) (f : Frame) (k : ℕ) → AreBytes bs → saysRecalled (recalledBy bs) ≡ answers (k, f) → bare f ≡ f
 
 -- ---- THE DEMAND
 pub record Demand2 : Type 0 where
@@ -121,6 +138,7 @@ pub record Demand2 : Type 0 where
   -- "A record we write reads back equal."
   pub sent : WhatCanBeSent
   pub reads-back : ReadsBackEqual
+  pub pair : PairBeside
   -- "A frame whose record we can read, with standard fill, made anew from its header and that record .."
   pub made-anew : MadeAnew
   -- ".. and written after the same two carried bits, gives its own bits."

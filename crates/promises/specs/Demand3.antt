@@ -8,6 +8,7 @@ use Prim.Native.Nat.{ℕ, _+_, _*_, _≤_, _<_}
 use lib.ListN.{length, take, drop}
 use Rattle.answer.specs.Order.{refuses, answers}
 use Rattle.line.specs.Line.{isData, six, lineBits, without}
+use Rattle.frame.specs.Frames.{turnedFrame}
 use Rattle.frame.specs.Widths.{outside}
 use Rattle.frame.specs.declared.Frame.{Frame}
 use Rattle.stream.specs.Standing.{Stands, frameAt, Placed, placed, scan, framesIn}
@@ -16,7 +17,7 @@ use Rattle.stream.specs.Places.{StandsIn, FoundOrCovered, Apart, Damaged}
 use Rattle.record_fields.specs.Coding.{Each}
 use Rattle.reader.specs.Reading.{bitsOf, started, past, fedBy, fedAllBy, takenBy, saysNext, saysFedAll, saysTaken}
 use Rattle.reader.specs.declared.Reader.{Reader}
-use Rattle.promises.specs.Calls.{Call, feeds, feedsAll, ends, takes, Reply, replied, answerOf, replyTo, after}
+use Rattle.promises.specs.Calls.{Call, feeds, feedsAll, ends, takes, Reply, replied, used, took, answerOf, replyTo, after}
 use Rattle.promises.specs.Calls.{afterAll, replies, Outcome, outcome, reported, takesAll, served, inSlices, unused}
 
 -- Each sentence is of an outcome: of calls on this package's reader here, and of calls of the library in rtcm2_promises.
@@ -114,11 +115,19 @@ pub data OppositeCalls : List Call → List Call → Type 0 where
   end-and : {cs ds : List Call} → OppositeCalls cs ds → OppositeCalls (ends ∷ cs) (ends ∷ ds)
   take-and : {cs ds : List Call} → OppositeCalls cs ds → OppositeCalls (takes ∷ cs) (takes ∷ ds)
 
--- every answer is the same at any time; and the frame definition itself says the same of turned bits, so that an idle reader does not meet it
+-- a reply on the turned line: the pair of a frame taken is turned, and nothing else
+abbrev pub turnedReply : Reply → Reply
+turnedReply (replied x) = replied x
+turnedReply (used x) = used x
+turnedReply (took (answers v)) = took (answers (v .0, turnedFrame (v .1)))
+turnedReply (took (refuses n)) = took (refuses n)
+
+-- every answer is the same at any time, but for that pair; and the frame definition itself says the same of turned bits, so that an idle reader
+-- does not meet it
 pub record TurnedIsSame : Type 0 where
-  pub calls : (cs ds : List Call) → OppositeCalls cs ds → replies started ds ≡ replies started cs
+  pub calls : (cs ds : List Call) → OppositeCalls cs ds → replies started ds ≡ map turnedReply (replies started cs)
   pub stand : (d : List Bool) → Stands d ↔ Stands (map not d)
-  pub frame : (d : List Bool) → Stands d → frameAt (map not d) ≡ frameAt d
+  pub frame : (d : List Bool) → Stands d → frameAt (map not d) ≡ turnedFrame (frameAt d)
 
 -- ---- feeding bytes is feeding them one by one, for every reader
 

@@ -26,7 +26,7 @@ use Rattle.record_nulls.specs.Nulls as nulls
 use Rattle.record_texts.specs.Texts.{readText, bufferAfter, makeText, SendableText}
 use Rattle.writer.specs.Answer.{writtenBy, writtenTo, saysWritten}
 use Rattle.writer.specs.OneFrame.{lineAfter, Wrote}
-use Rattle.writer.specs.declared.Carried.{Carried}
+use Rattle.frame.specs.declared.Carried.{Carried}
 
 -- ---- WHAT READS BACK of a frame: its header and its record; it is within its widths, N is worked out, the fill is standard
 

@@ -17,6 +17,7 @@ use Rattle.line.specs.Answer.{sixOf, saysSix}
 use Rattle.word.specs.Word.{Row, rows, parityBit, d29*, d30*, D, dataOf, remainderOf, passes}
 use Rattle.word.specs.Answer.{wordOf, saysSent}
 use Rattle.frame.specs.Header.{stateOf, preambled, nOf, headerOf}
+use Rattle.frame.specs.Frames.{turnedFrame}
 use Rattle.frame.specs.Widths.{stateOutside, late}
 use Rattle.frame.specs.Answer.{headerWords, saysWords}
 use Rattle.frame.specs.declared.State.{State}
@@ -44,7 +45,7 @@ use Rattle.record_values.specs.Answer.{saysDistance, saysRate, saysLimit, saysS
 use Rattle.writer.specs.Answer.{writtenBy, saysWritten}
 use Rattle.writer.specs.OneFrame.{Wrote, itsBits, WritesBack}
 use Rattle.writer.specs.Streams.{AllWritable, streamBytes, StreamWritten}
-use Rattle.writer.specs.declared.Carried.{Carried}
+use Rattle.frame.specs.declared.Carried.{Carried}
 
 -- "the GPS parity rule". A window is a word with the two bits before it.
 pub record GpsParityRule : Type 0 where
@@ -71,15 +72,16 @@ pub record FramesOfRtcm : Type 0 where
       → (headerOf a b ≡ h) × (nOf b ≡ n) × (preambled a ≡ true)
   pub words-back : (a b : List Bool) → length a ≡ 24 → length b ≡ 24 → preambled a ≡ true
       → saysWords (headerWords (headerOf a b) (nOf b)) ≡ answers (a, b)
-  -- what is written after any two carried bits stands, and is that frame
+  -- what is written after any two carried bits stands, and is that frame after these two
   pub written : (f : Frame) (c : Carried) (buffer : List ℕ) (k : ℕ) (c′ : Carried) → length (f .words) ≡ 31
       → saysWritten (writtenBy f c buffer) ≡ answers (k, c′) → Wrote f c buffer k c′
   -- a stream of `open` and any frames back to back has each of them standing at its place, and no other
   pub stream : (fs : List Frame) (buffer : List ℕ) → AllWritable fs → streamBytes fs ≤ length buffer → StreamWritten fs buffer
-  -- a frame that stands, written after its own two bits, gives its own bits; in the other polarity it is the same frame and its bits are turned over
+  -- a frame that stands, written after its own two bits, gives its own bits; in the other polarity it is the same frame but for its pair, which is
+  -- turned, and its bits are turned over
   pub written-back : (d : List Bool) (buffer : List ℕ) → Stands d → late (frameAt d .header .z) ≡ false → 5 * size d ≤ length buffer
       → WritesBack d buffer × WritesBack (map not d) buffer
-      × (frameAt (map not d) ≡ frameAt d) × (itsBits (map not d) ≡ map not (itsBits d))
+      × (frameAt (map not d) ≡ turnedFrame (frameAt d)) × (itsBits (map not d) ≡ map not (itsBits d))
 
 -- PRC or RRC, what is said of its number z, in two's complement of h + 1 bits: the lowest means stop and no other does; any other is exact, the number
 -- times its step, at most 2^h - 1 steps to either side

@@ -10,7 +10,7 @@ use Rattle.bits.specs.Bits.{bits}
 use Rattle.line.specs.Answer.{sixOf, saysSix}
 use Rattle.word.specs.Answer.{wordOf, saysSent}
 use Rattle.frame.specs.Header.{stateOf}
-use Rattle.frame.specs.Frames.{builtOf}
+use Rattle.frame.specs.Frames.{builtOf, turnedFrame}
 use Rattle.frame.specs.declared.Frame.{Frame}
 use Rattle.frame.specs.declared.State.the-variants.{Factor}
 use Rattle.reader.specs.Reading.{started}
@@ -32,23 +32,23 @@ turnedBytes = 0x7F ∷ 0x59 ∷ 0x5E ∷ 0x7E ∷ 0x57 ∷ 0x40 ∷ 0x40 ∷ 0x5
 abbrev pub tenBytes : List ℕ
 tenBytes = 0x40 ∷ 0x66 ∷ 0x61 ∷ 0x41 ∷ 0x68 ∷ 0x7F ∷ 0x7F ∷ 0x6C ∷ 0x73 ∷ 0x7F ∷ []
 
--- its frame: type 6, station 5, Z count 100, sequence 3, health 0, N 0, from position 6 on
-abbrev pub elevenFrame : ℕ × Frame
-elevenFrame = (6, record { header = record { kind = 6; station = 5; z = 100; sequence = 3; state = Factor 100 }; n = 0; words = replicate 31 0 })
+-- its frame: type 6, station 5, Z count 100, sequence 3, health 0, N 0, after carried bits 00
+abbrev pub elevenFrame : Frame
+elevenFrame = builtOf (record { kind = 6; station = 5; z = 100; sequence = 3; state = Factor 100 }) 0 (replicate 31 0)
 
 -- all that a fresh reader hands out of bytes and their end, every waiting frame taken at once
 abbrev pub readOut : List ℕ → List (ℕ × Frame)
 readOut bs = handedOut started (served bs ++ (ends ∷ takesAll))
 
--- its text: "6 6 5 100 3 0 0", "frames 1 bytes 11 passed 0", each with a newline
-unfoldable pub twoLines : List ℕ
-twoLines =
-    54 ∷ 32 ∷ 54 ∷ 32 ∷ 53 ∷ 32 ∷ 49 ∷ 48 ∷ 48 ∷ 32 ∷ 51 ∷ 32 ∷ 48 ∷ 32 ∷ 48 ∷ 10
+-- its text: "6 6 5 100 3 0 0" and the carried pair, each of its bits this digit; "frames 1 bytes 11 passed 0"; each with a newline
+unfoldable pub twoLines : ℕ → List ℕ
+twoLines digit =
+    54 ∷ 32 ∷ 54 ∷ 32 ∷ 53 ∷ 32 ∷ 49 ∷ 48 ∷ 48 ∷ 32 ∷ 51 ∷ 32 ∷ 48 ∷ 32 ∷ 48 ∷ 32 ∷ digit ∷ digit ∷ 10
     ∷ 102 ∷ 114 ∷ 97 ∷ 109 ∷ 101 ∷ 115 ∷ 32 ∷ 49 ∷ 32 ∷ 98 ∷ 121 ∷ 116 ∷ 101 ∷ 115 ∷ 32 ∷ 49 ∷ 49 ∷ 32 ∷ 112 ∷ 97 ∷ 115 ∷ 115 ∷ 101 ∷ 100 ∷ 32 ∷ 48 ∷ 10 ∷ []
 
--- the bytes are listed to those lines by any pieces that are enough, each with a byte at least and room for a line, and by the end
-abbrev pub ListsAsTwoLines : List ℕ → Type 0
-ListsAsTwoLines bs = (ps : List Piece) (out : List ℕ) → Roomy ps → 7 * length bs ≤ length ps → endRoom ≤ length out → listedText bs ps out ≡ twoLines
+-- the bytes are listed to this text by any pieces that are enough, each with a byte at least and room for a line, and by the end
+abbrev pub ListsAs : List ℕ → List ℕ → Type 0
+ListsAs text bs = (ps : List Piece) (out : List ℕ) → Roomy ps → 7 * length bs ≤ length ps → endRoom ≤ length out → listedText bs ps out ≡ text
 
 -- a frame of type 1 with this Z count and this N
 abbrev pub typeOne : ℕ → ℕ → Frame
@@ -62,13 +62,13 @@ pub record WorkedValues : Type 0 where
   -- word 1, sent after carried bits 00, and word 2, which is sent turned over after 11, each with its parity
   pub word-1 : saysSent (wordOf 0b00 0x661805) ≡ answers (bits 30 0b011001100001100000000101111111)
   pub word-2 : saysSent (wordOf 0b11 0x032300) ≡ answers (bits 30 0b111111001101110011111111001000)
-  -- the eleven bytes give this frame, and turned over the same; the first ten of them and the end give none
-  pub eleven : readOut elevenBytes ≡ elevenFrame ∷ []
-  pub turned : readOut turnedBytes ≡ elevenFrame ∷ []
+  -- the eleven bytes give this frame at position 6, and turned over the same after 11; the first ten of them and the end give none
+  pub eleven : readOut elevenBytes ≡ (6, elevenFrame) ∷ []
+  pub turned : readOut turnedBytes ≡ (6, turnedFrame elevenFrame) ∷ []
   pub ten : readOut tenBytes ≡ []
-  -- both list as the same two lines
-  pub eleven-text : ListsAsTwoLines elevenBytes
-  pub turned-text : ListsAsTwoLines turnedBytes
+  -- both list as the same two lines but for the pair, 00 and 11
+  pub eleven-text : ListsAs (twoLines 48) elevenBytes
+  pub turned-text : ListsAs (twoLines 49) turnedBytes
   -- byte 0x3F is refusal 1; byte 0x40 is six zero bits; by the line's own call, and fed to a fresh reader
   pub byte-3F : saysSix (sixOf 0x3F) ≡ refuses 1
   pub byte-40 : saysSix (sixOf 0x40) ≡ answers (replicate 6 false)

@@ -2,19 +2,21 @@
 use mathlib.Core.Path.{_≡_, refl, sym, ap, ap₂, _∙_}
 use mathlib.Core.Bool.{Bool, true, false, cond, not, _&&_}
 use mathlib.Core.List.{List, [], _∷_, _++_, append-assoc}
-use Prim.Native.Nat.{ℕ, suc, _+_, _-_, _*_, _≤_, _<_}
+use Prim.Native.Nat.{ℕ, suc, _+_, _-_, _*_, _/_, _%_, _^_, _≤_, _<_}
 use native.Mathlib.Numerals.{add-one}
 use native.Mathlib.Omega.{arith}
 use lib.ListN.{length, set, replicate}
 use lib.Seq.{set-at}
 use borrow.Author.Count.{below-more}
 use Rattle.bits.specs.Bits.{bits, number}
+use Rattle.bits.proofs.Xor.{val-odd}
 use Rattle.word.specs.Word.{dataOf, passes}
 use Rattle.frame.specs.Header.{headerOf, nOf}
-use Rattle.frame.specs.Frames.{framed}
+use Rattle.frame.specs.Frames.{framed, afterPair}
 use Rattle.frame.specs.declared.Header.{Header}
+use Rattle.frame.specs.declared.Carried.{Carried}
 use Rattle.frame.specs.declared.Frame.{Frame}
-use Rattle.stream.specs.Standing.{wordAt, right, nAt, size, Stands, stands, dataFrom, frameAt}
+use Rattle.stream.specs.Standing.{wordAt, right, nAt, size, Stands, stands, dataFrom, pairBefore, frameAt}
 use Rattle.stream.proofs.Words.{length-dataFrom, data-more, frame-n, unlike, right-later}
 use Rattle.stream.proofs.Stand.{stands-long, test-stands, stands-test, not-test}
 use Rattle.reader.specs.Cells.{heldBits}
@@ -54,10 +56,21 @@ gather-step ws k x d e h f =
     zeros : replicate {A = ℕ} (31 - k) 0 ≡ 0 ∷ replicate (31 - suc k) 0
     zeros = ap (λ n. replicate {A = ℕ} n 0) less
 
-pub frame-law : (d : List Bool) (h : Header) (n : ℕ) (ws : List ℕ) → h ≡ headerOf (dataOf (wordAt 0 d)) (dataOf (wordAt 1 d)) → n ≡ nAt d → ws ≡ gathered n d
-    → record { header = h; n = n; words = ws } ≡ frameAt d
-unfolding frameAt framed
-frame-law d h n ws eh en ew = rw (eh, ew, length-dataFrom (nAt d) 2 d, en)
+pub frame-law : (d : List Bool) (h : Header) (c : Carried) (n : ℕ) (ws : List ℕ) → HeaderIn d h c n → ws ≡ gathered n d
+    → record { header = h; carried = c; n = n; words = ws } ≡ frameAt d
+unfolding frameAt framed afterPair
+frame-law d h c n ws e ew = rw (e .words, e .pair, ew, length-dataFrom (nAt d) 2 d, e .count)
+
+-- the first two bits of a window, as numbers
+pub pair-window : (w : ℕ) → record { d29 = w / 2 ^ 31 % 2; d30 = w / 2 ^ 30 % 2 } ≡ pairBefore (bits 32 w)
+unfolding bits
+pair-window w = ap₂ (λ x y. record { d29 = x; d30 = y }) (sym (val-odd (w / 2 ^ 31))) (sym (val-odd (w / 2 ^ 30)))
+
+-- word 1 begins with the two bits before it
+pair-first : (d : List Bool) → pairBefore (wordAt 0 d) ≡ pairBefore d
+pair-first [] = refl
+pair-first (a ∷ []) = refl
+pair-first (a ∷ b ∷ d) = refl
 
 -- ---- whether a frame stands
 
@@ -133,8 +146,9 @@ module _ (cells : List ℕ) (len : length cells ≡ 40) (end : ℕ) (top : end �
 
     pub header-here : true ≡ right 0 (bits 32 one) → true ≡ passes (bits 32 two) → (x y : ℕ) → x ≡ number (dataOf (bits 32 one))
         → y ≡ number (dataOf (bits 32 two))
-        → (h : Header) → h ≡ headerOf (bits 24 x) (bits 24 y) → HeaderIn d h n
-    header-here r1 r2 x y ex ey h eh = record {
+        → (h : Header) → h ≡ headerOf (bits 24 x) (bits 24 y) → (c : Carried) → c ≡ pairBefore (bits 32 one) → HeaderIn d h c n
+    header-here r1 r2 x y ex ey h eh c ec = record {
+      pair = ec ∙ ap pairBefore first ∙ pair-first d;
       words = eh ∙ ap₂ headerOf (bits-data one x ex ∙ ap dataOf first) (bits-data two y ey ∙ ap dataOf second);
       count = n-here;
       right = right-two d (ap (right 0) (sym first) ∙ sym r1) (ap (right 1) (sym second) ∙ right-later 1 (bits 32 two) (λ e. omega arith) ∙ sym r2);

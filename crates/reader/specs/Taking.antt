@@ -7,7 +7,8 @@ use Rattle.word.specs.Word.{dataOf}
 use Rattle.frame.specs.Header.{headerOf}
 use Rattle.frame.specs.Frames.{blank}
 use Rattle.frame.specs.declared.Header.{Header}
-use Rattle.stream.specs.Standing.{wordAt, right, nAt, stands, frameAt}
+use Rattle.frame.specs.declared.Carried.{Carried}
+use Rattle.stream.specs.Standing.{wordAt, right, nAt, stands, pairBefore, frameAt}
 use Rattle.reader.specs.declared.taking.There.{There}
 
 abbrev pub noneThere : There
@@ -23,8 +24,9 @@ thereIn d = cond (stands d) (someThere d) noneThere
 abbrev pub RightTo : ℕ → List Bool → Type 0
 RightTo m d = (j : ℕ) → j < m → right j (wordAt j d) ≡ true
 
--- the two words of a header and its N, each right
-pub record HeaderIn (d : List Bool) (header : Header) (n : ℕ) : Type 0 where
+-- the two words of a header, each right, the two bits before them, and N
+pub record HeaderIn (d : List Bool) (header : Header) (carried : Carried) (n : ℕ) : Type 0 where
+  pub pair : carried ≡ pairBefore d
   pub words : header ≡ headerOf (dataOf (wordAt 0 d)) (dataOf (wordAt 1 d))
   pub count : n ≡ nAt d
   pub right : RightTo 2 d

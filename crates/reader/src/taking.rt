@@ -2,11 +2,14 @@
 ghost use mathlib.Core.Path.{_≡_};
 ghost use Prim.Native.Nat.{_+_, _*_, _≤_};
 ghost use lib.ListN.{length};
+ghost use Rattle.bits.specs.Bits.{bits};
+ghost use Rattle.stream.specs.Standing.{pairBefore};
 ghost use Rattle.reader.specs.Cells.{heldBits};
 ghost use Rattle.reader.specs.Taking.{noneThere, thereIn, HeaderIn};
 use crate::cells::window;
 use crate::hunt::headed;
 use crate::hunt::n_in;
+use frame::Carried;
 use frame::Frame;
 use frame::Header;
 
@@ -26,9 +29,25 @@ fn nothing() -> There
     }
 }
 
+// The two bits before a word, which are the first of its window.
+fn pair_of(window: u32) -> Carried
+    ensures { λ r. ⌜ r ≡ pairBefore (bits 32 window) ⌝ }
+{
+    let one = (window / 2147483648 % 2) as u8;
+    let two = (window / 1073741824 % 2) as u8;
+    Carried { d29: one, d30: two }
+}
+
 // The header's two words are right and all words have come: the data words are tested and put in, one after the other.
-fn filled(cells: &[u32; 40], end: usize, held: usize, header: Header, n: usize) -> There
-    requires { ⌜ (length (now cells) ≡ 40) × (end ≤ 1280) × (held ≤ end) × HeaderIn (heldBits (now cells) end held) header n × (62 + 30 * n ≤ held) ⌝ }
+fn filled(
+    cells: &[u32; 40],
+    end: usize,
+    held: usize,
+    header: Header,
+    carried: Carried,
+    n: usize,
+) -> There
+    requires { ⌜ (length (now cells) ≡ 40) × (end ≤ 1280) × (held ≤ end) × HeaderIn (heldBits (now cells) end held) header carried n × (62 + 30 * n ≤ held) ⌝ }
     ensures { λ r. ⌜ r ≡ thereIn (heldBits (now (cells .entry)) end held) ⌝ }
 {
     let first = end - held + 60;
@@ -44,7 +63,12 @@ fn filled(cells: &[u32; 40], end: usize, held: usize, header: Header, n: usize) 
     }
     There {
         stands: true,
-        frame: Frame { header, n, words },
+        frame: Frame {
+            header,
+            carried,
+            n,
+            words,
+        },
     }
 }
 
@@ -69,5 +93,6 @@ pub(crate) fn standing(cells: &[u32; 40], end: usize, held: usize) -> There
         return nothing();
     }
     let header = frame::header_of(word::data_of(one), word::data_of(two));
-    filled(cells, end, held, header, n)
+    let carried = pair_of(one);
+    filled(cells, end, held, header, carried, n)
 }

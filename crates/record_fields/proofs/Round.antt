@@ -12,7 +12,7 @@ use Rattle.bits.specs.Fields.{fieldsAt, span, Fit}
 use Rattle.bits.specs.Rows.{dataBits, cutWords, packedRows, rowsAt, AllFit, fillOf, filled, wordsIn, FillAfter}
 use Rattle.bits.proofs.RowLaws.{length-rows, rows-put, put-rows, fits-rows, length-rows-at, rows-at}
 use Rattle.bits.proofs.WordLaws.{length-data, length-words, length-fill, data-wordsIn}
-use Rattle.frame.specs.Frames.{framed, dataWords}
+use Rattle.frame.specs.Frames.{framed, bare, dataWords}
 use Rattle.frame.specs.Widths.{headerOutside, outside}
 use Rattle.frame.specs.declared.Header.{Header}
 use Rattle.frame.specs.declared.Frame.{Frame}
@@ -158,8 +158,8 @@ module _ {A : Type 0} (k : Coding A) where
           ap (λ n. cutWords n (dataBits (dataWords f))) (sym (length-data-words f e full))
           ∙ words-data (dataWords f) (below-take (f .n) (f .words) (words-below f e))
 
-      -- and so is the frame
-      pub made-again : frameWith pattern k (f .header) read ≡ f
+      -- and so is the frame, without its pair
+      pub made-again : frameWith pattern k (f .header) read ≡ bare f
       unfolding frameWith wordsIn
       made-again =
           ap₂ (λ n bs. framed (f .header) (cutWords n bs)) count bits-again

@@ -11,6 +11,7 @@ use lib.Seq.{getD-take}
 use Rattle.bits.specs.Fields.{fieldsAt, Fit}
 use Rattle.bits.proofs.FieldLaws.{fits-fields}
 use Rattle.bits.proofs.SignedLaws.{code-signed, signed-code, code-lt}
+use Rattle.frame.specs.Frames.{bare}
 use Rattle.frame.specs.declared.Header.{Header}
 use Rattle.frame.specs.declared.Frame.{Frame}
 use Rattle.frame.specs.declared.Layout.the-variants as layout
@@ -191,10 +192,10 @@ corrections-made-read h es c d f l typed e = record {
         made-then-read layout.Correction (coding s) fill 18 (outOfRange s) (outOfRange s) read.Refused read.Entry Typed (faithful s) sized (λ e t o. o)
         h es c d f l typed e
 
--- READ, THEN MADE: a frame whose count and entries read, with standard fill, is made again from them
+-- READ, THEN MADE: a frame whose count and entries read, with standard fill, is made again from them, all but its pair
 pub corrections-read-made : (f : Frame) (es : List Correction) (c : ℕ) (d : Correction) → length (f .words) ≡ 31 → c ≤ length es
     → countCorrections f ≡ count.Of c → ((i : ℕ) → i < c → correctionAt f i ≡ read.Entry (getD es i d)) → StandardFill f c
-    → makeCorrections (f .header) es c ≡ doneMade f
+    → makeCorrections (f .header) es c ≡ doneMade (bare f)
 unfolding makeCorrections countCorrections correctionAt
 corrections-read-made f =
     let s = systemOf (f .header .kind) in

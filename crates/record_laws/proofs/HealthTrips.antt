@@ -9,6 +9,7 @@ use lib.Dec.{ltb}
 use lib.ListN.{length, take, getD}
 use borrow.Author.Tests.{le-ltb, ltb-false}
 use Rattle.bits.specs.Fields.{Fit}
+use Rattle.frame.specs.Frames.{bare}
 use Rattle.frame.specs.declared.Header.{Header}
 use Rattle.frame.specs.declared.Frame.{Frame}
 use Rattle.frame.specs.declared.Layout.the-variants as layout
@@ -186,10 +187,10 @@ healths-made-read h es c d f l e = record {
         made-then-read layout.Health (coding s) fill 31 (outOfRange s) (λ e. false) read.Refused read.Entry (λ e. Unit {0}) (faithful s) sized
         (λ e t o. refl) h es c d f l (each-any (λ e. Unit {0}) (λ e. tt) (take c es)) e
 
--- READ, THEN MADE: a frame whose count and entries read is made again from them; it has no fill
+-- READ, THEN MADE: a frame whose count and entries read is made again from them, all but its pair; it has no fill
 pub healths-read-made : (f : Frame) (es : List SatelliteHealth) (c : ℕ) (d : SatelliteHealth) → length (f .words) ≡ 31 → c ≤ length es
     → countHealths f ≡ count.Of c → ((i : ℕ) → i < c → healthAt f i ≡ read.Entry (getD es i d))
-    → makeHealths (f .header) es c ≡ doneMade f
+    → makeHealths (f .header) es c ≡ doneMade (bare f)
 unfolding makeHealths countHealths healthAt
 healths-read-made f es c d full l n e =
     let s = systemOf (f .header .kind) in

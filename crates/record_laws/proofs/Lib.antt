@@ -1,4 +1,5 @@
 pub mod SentLaws
+pub mod PairLaws
 pub mod ListTrips
 pub mod CorrectionTrips
 pub mod HealthTrips

@@ -15,7 +15,7 @@ use Rattle.bits.specs.Bits.{bits}
 use Rattle.bits.specs.Rows.{dataBits, rowsAt, fillOf, FillAfter}
 use Rattle.bits.proofs.FieldLaws.{fits-fields}
 use Rattle.bits.proofs.WordLaws.{length-data}
-use Rattle.frame.specs.Frames.{framed, dataWords}
+use Rattle.frame.specs.Frames.{framed, bare, dataWords}
 use Rattle.frame.specs.Widths.{anyOf, outside, late}
 use Rattle.frame.specs.declared.Header.{Header}
 use Rattle.frame.specs.declared.Frame.{Frame}
@@ -174,14 +174,14 @@ module _ {A B : Type 0} (asked : Layout) (k : Coding A) (pattern most : ℕ) (ou
         subst (Reads h es c d)
         (done-frame (sym (list-made asked k pattern most out (λ x. out x ≡ false) (λ x o. o) h es c d s) ∙ e)) (made-reads h es c d typed s)
 
-  -- READ, THEN MADE: what was read passed its range for reading, and the widths say the rest
+  -- READ, THEN MADE, all but the pair: what was read passed its range for reading, and the widths say the rest
   module _ (read-fine : (vs : List ℕ) → Fit (k .widths) vs → reads (k .meant vs) ≡ false → out (k .meant vs) ≡ false)
       (bounded : (n : ℕ) → n ≤ 31 → entriesHeld (span (k .widths)) n ≤ most)
       (refuse-apart : (n : ℕ) (e : A) → refuse n ≡ entry e → ⊥) (entry-inj : (a b : A) → entry a ≡ entry b → a ≡ b) where
     pub read-then-made : (f : Frame) (es : List A) (c : ℕ) (d : A) → length (f .words) ≡ 31 → c ≤ length es
         → listCount asked k f ≡ count.Of c → ((i : ℕ) → i < c → listRanged asked k reads refuse entry f i ≡ entry (getD es i d))
         → FillAfter pattern (c * span (k .widths)) (frameBits f)
-        → listMade asked k pattern most out (f .header) es c ≡ doneMade f
+        → listMade asked k pattern most out (f .header) es c ≡ doneMade (bare f)
     read-then-made f es c d full long n e fill =
         order-answers refusedMade _ (makeOrder asked (f .header) ((wrongCount most c, 12) ∷ (anyOf out (take c es), 10) ∷ []))
         (header-within f (r .inside), (r .same, (r .hour, (count-fits, (none-taken out es c d fine, tt)))))

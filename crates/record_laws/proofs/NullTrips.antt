@@ -8,7 +8,7 @@ use lib.ListN.{length, replicate, length-replicate}
 use borrow.Author.Tests.{le-ltb, ltb-false}
 use Rattle.answer.specs.Order.{Check, NoneApplies}
 use Rattle.answer.proofs.OrderLaws.{order-answers, order-told}
-use Rattle.frame.specs.Frames.{framed, Below}
+use Rattle.frame.specs.Frames.{framed, bare, Below}
 use Rattle.frame.specs.Widths.{outside}
 use Rattle.frame.specs.declared.Header.{Header}
 use Rattle.frame.specs.declared.Frame.{Frame}
@@ -106,8 +106,8 @@ module _ (h : Header) (n : ℕ) where
   pub null-made-read : (f : Frame) → makeNull h n ≡ doneMade f → NullMade h n f
   null-made-read f e = subst (NullMade h n) (done-frame (told f e .1)) (made-reads (null-told f e))
 
--- READ, THEN MADE: with standard fill
-pub null-read-made : (f : Frame) (n : ℕ) → length (f .words) ≡ 31 → readNull f ≡ read.Null n → StandardFill f → makeNull (f .header) n ≡ doneMade f
+-- READ, THEN MADE: with standard fill, all but the pair
+pub null-read-made : (f : Frame) (n : ℕ) → length (f .words) ≡ 31 → readNull f ≡ read.Null n → StandardFill f → makeNull (f .header) n ≡ doneMade (bare f)
 null-read-made f n full e filled =
     ap (makeNull (f .header)) (sym (null-n f n e))
     ∙ passes (f .header) (f .n) record { header = under; few = k .few }

@@ -18,7 +18,7 @@ use Rattle.bits.specs.Signed.{signed, code}
 use Rattle.bits.proofs.FieldLaws.{fits-fields}
 use Rattle.bits.proofs.SignedLaws.{code-signed, signed-code, mag-signed, code-lt}
 use Rattle.bits.proofs.WordLaws.{length-data}
-use Rattle.frame.specs.Frames.{framed, dataWords}
+use Rattle.frame.specs.Frames.{framed, bare, dataWords}
 use Rattle.frame.specs.Widths.{outside}
 use Rattle.frame.specs.declared.Header.{Header}
 use Rattle.frame.specs.declared.Frame.{Frame}
@@ -167,8 +167,8 @@ module _ (h : Header) (p : Position) where
 pub position-made-read : (h : Header) (p : Position) (f : Frame) → Typed p → makePosition h p ≡ doneMade f → PositionMade h p f
 position-made-read h p f typed e = subst (PositionMade h p) (done-frame (told h p f e .1)) (made-reads h p typed (position-told h p f e))
 
--- READ, THEN MADE: there is no fill
-pub position-read-made : (f : Frame) (p : Position) → length (f .words) ≡ 31 → readPosition f ≡ read.At p → makePosition (f .header) p ≡ doneMade f
+-- READ, THEN MADE, all but the pair: there is no fill
+pub position-read-made : (f : Frame) (p : Position) → length (f .words) ≡ 31 → readPosition f ≡ read.At p → makePosition (f .header) p ≡ doneMade (bare f)
 unfolding makePosition readPosition frameBits fillOf
 position-read-made f p full e =
     order-answers refusedMade (doneMade (frameWith fill coding (f .header) (p ∷ [])))

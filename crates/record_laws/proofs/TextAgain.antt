@@ -13,7 +13,7 @@ use Rattle.bits.specs.Fields.{fieldAt}
 use Rattle.bits.specs.Rows.{packedRows, rowsAt, fillOf, FillAfter}
 use Rattle.bits.proofs.RowLaws.{put-rows}
 use Rattle.bits.proofs.WordLaws.{length-data}
-use Rattle.frame.specs.Frames.{dataWords}
+use Rattle.frame.specs.Frames.{bare, dataWords}
 use Rattle.frame.specs.Widths.{anyOf, outside}
 use Rattle.frame.specs.declared.Frame.{Frame}
 use Rattle.frame.specs.declared.Layout.the-variants as layout
@@ -71,13 +71,13 @@ module _ (f : Frame) (full : length (f .words) ≡ 31) (inside : outside f ≡ f
               ∙ ap (packedRows widths) (zero-rows k (lengthIn f * 8) D (λ j b. ap (λ p. fieldAt p 8 D) (sym (at j)) ∙ z j b))
               ∙ sym (zeros-fill k l)
 
-  pub text-again : frameWith fill coding (f .header) (textIn f) ≡ f
+  pub text-again : frameWith fill coding (f .header) (textIn f) ≡ bare f
   unfolding characters
   text-again = made-again coding Good faithful fill f inside full (lengthIn f) (omega (arith, length-le (3 * f .n) (frameBits f))) fills
 
--- READ, THEN MADE: the text that stands in the buffer; what is not text is zeros, so there is no fill to ask for
+-- READ, THEN MADE, all but the pair: the text that stands in the buffer; what is not text is zeros, so there is no fill to ask for
 pub text-read-made : (f : Frame) (buffer : List ℕ) (c : ℕ) → length (f .words) ≡ 31 → readText f buffer ≡ count.Of c
-    → makeText (f .header) (take c (bufferAfter f buffer)) ≡ doneMade f
+    → makeText (f .header) (take c (bufferAfter f buffer)) ≡ doneMade (bare f)
 unfolding makeText readText bufferAfter
 text-read-made f buffer c full e =
     ap (makeText (f .header)) text-is

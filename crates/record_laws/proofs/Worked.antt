@@ -12,7 +12,7 @@ use Rattle.bits.specs.Signed.{signed, code}
 use Rattle.frame.specs.Frames.{framed}
 use Rattle.frame.specs.Header.{factors}
 use Rattle.frame.specs.Layout.{layoutOf, systemOf}
-use Rattle.frame.specs.Widths.{stateOutside, numbersOutside, headerOutside, outside}
+use Rattle.frame.specs.Widths.{stateOutside, numbersOutside, headerOutside, pairOutside, outside}
 use Rattle.frame.specs.declared.Header.{Header}
 use Rattle.frame.specs.declared.Frame.{Frame}
 use Rattle.frame.specs.declared.State.the-variants.{Factor}
@@ -54,12 +54,13 @@ unfolding factors stateOutside numbersOutside headerOutside layoutOf layoutNumbe
 correction-9-made = refl
 
 pub correction-1-count : saysCount (countCorrections (correctionFrame 1)) ≡ answers 1
-unfolding factors stateOutside numbersOutside headerOutside layoutOf layoutNumber otherLayout framed outside frameBits dataBits misfit systemOf countCorrections
+unfolding factors stateOutside numbersOutside headerOutside layoutOf layoutNumber otherLayout
+    framed outside pairOutside frameBits dataBits misfit systemOf countCorrections
 correction-1-count = refl
 
 pub correction-1-read : saysCorrectionRead (correctionAt (correctionFrame 1) 0) ≡ answers correction
 unfolding factors stateOutside numbersOutside headerOutside layoutOf layoutNumber otherLayout
-    framed outside frameBits dataBits bits number signed code misfit systemOf issueOf issueFirst issueOthers lastMost correctionAt
+    framed outside pairOutside frameBits dataBits bits number signed code misfit systemOf issueOf issueFirst issueOthers lastMost correctionAt
 correction-1-read = refl
 
 -- ---- type 31: every field at its least, change 0 and tb 0
@@ -77,7 +78,7 @@ correction-31-made = refl
 
 pub correction-31-read : saysCorrectionRead (correctionAt oldestFrame 0) ≡ answers oldest
 unfolding factors stateOutside numbersOutside headerOutside layoutOf layoutNumber otherLayout
-    framed outside frameBits dataBits bits number signed code misfit systemOf issueOf issueFirst issueOthers lastMost correctionAt
+    framed outside pairOutside frameBits dataBits bits number signed code misfit systemOf issueOf issueFirst issueOthers lastMost correctionAt
 correction-31-read = refl
 
 -- ---- type 3: X 123456789, Y -987654321, Z 2147483647
@@ -95,7 +96,7 @@ position-3-made = refl
 
 pub position-3-read : saysPositionRead (readPosition positionFrame) ≡ answers position
 unfolding factors stateOutside numbersOutside headerOutside layoutOf layoutNumber otherLayout
-    framed outside frameBits dataBits bits number signed tooLow positionOut readPosition
+    framed outside pairOutside frameBits dataBits bits number signed tooLow positionOut readPosition
 position-3-read = refl
 
 -- ---- type 5: reserved 1, satellite 32, link 1, health 7, C/N0 31, enable 1, new 0, loss 1, time 15, reserved 3; then a plainer one
@@ -115,17 +116,18 @@ unfolding factors stateOutside numbersOutside headerOutside layoutOf layoutNumbe
 health-5-made = refl
 
 pub health-5-count : saysCount (countHealths healthFrame) ≡ answers 2
-unfolding factors stateOutside numbersOutside headerOutside layoutOf layoutNumber otherLayout framed outside frameBits dataBits misfit systemOf countHealths
+unfolding factors stateOutside numbersOutside headerOutside layoutOf layoutNumber otherLayout
+    framed outside pairOutside frameBits dataBits misfit systemOf countHealths
 health-5-count = refl
 
 pub health-5-read-0 : saysHealthRead (healthAt healthFrame 0) ≡ answers highest
 unfolding factors stateOutside numbersOutside headerOutside layoutOf layoutNumber otherLayout
-    framed outside frameBits dataBits bits number misfit systemOf conditionOf healthAt
+    framed outside pairOutside frameBits dataBits bits number misfit systemOf conditionOf healthAt
 health-5-read-0 = refl
 
 pub health-5-read-1 : saysHealthRead (healthAt healthFrame 1) ≡ answers plainer
 unfolding factors stateOutside numbersOutside headerOutside layoutOf layoutNumber otherLayout
-    framed outside frameBits dataBits bits number misfit systemOf conditionOf healthAt
+    framed outside pairOutside frameBits dataBits bits number misfit systemOf conditionOf healthAt
 health-5-read-1 = refl
 
 -- ---- type 6: no data word
@@ -135,7 +137,7 @@ unfolding factors stateOutside numbersOutside headerOutside layoutOf layoutNumbe
 null-6-made = refl
 
 pub null-6-read : saysNullRead (readNull (framed (header 6) [])) ≡ answers 0
-unfolding factors stateOutside numbersOutside headerOutside layoutOf layoutNumber otherLayout framed outside readNull
+unfolding factors stateOutside numbersOutside headerOutside layoutOf layoutNumber otherLayout framed outside pairOutside readNull
 null-6-read = refl
 
 -- ---- type 34 with one word: the fill
@@ -148,7 +150,7 @@ unfolding factors stateOutside numbersOutside headerOutside layoutOf layoutNumbe
 null-34-made = refl
 
 pub null-34-read : saysNullRead (readNull nullFrame) ≡ answers 1
-unfolding factors stateOutside numbersOutside headerOutside layoutOf layoutNumber otherLayout framed outside readNull
+unfolding factors stateOutside numbersOutside headerOutside layoutOf layoutNumber otherLayout framed outside pairOutside readNull
 null-34-read = refl
 
 -- ---- type 16: QUICK, and one zero that closes the last word
@@ -167,12 +169,12 @@ text-16-made = refl
 -- read into a buffer of six: the characters, and what stood behind them
 pub text-16-read : saysCount (readText textFrame (replicate 6 9)) ≡ answers 5
 unfolding factors stateOutside numbersOutside headerOutside layoutOf systemOf layoutNumber otherLayout
-    framed outside frameBits dataBits bits number characters textLength lastCode readText
+    framed outside pairOutside frameBits dataBits bits number characters textLength lastCode readText
 text-16-read = refl
 
 pub text-16-written : bufferAfter textFrame (replicate 6 9) ≡ 81 ∷ 85 ∷ 73 ∷ 67 ∷ 75 ∷ 9 ∷ []
 unfolding factors stateOutside numbersOutside headerOutside layoutOf systemOf layoutNumber otherLayout
-    framed outside frameBits dataBits bits number characters textLength lastCode bufferAfter
+    framed outside pairOutside frameBits dataBits bits number characters textLength lastCode bufferAfter
 text-16-written = refl
 
 -- 90 characters have N 30; 91 are refusal 12
@@ -200,12 +202,12 @@ text-36-made = refl
 
 pub text-36-read : saysCount (readText lettersFrame (replicate 6 9)) ≡ answers 4
 unfolding factors stateOutside numbersOutside headerOutside layoutOf systemOf layoutNumber otherLayout
-    framed outside frameBits dataBits bits number characters textLength lastCode readText
+    framed outside pairOutside frameBits dataBits bits number characters textLength lastCode readText
 text-36-read = refl
 
 pub text-36-written : bufferAfter lettersFrame (replicate 6 9) ≡ 1 ∷ 127 ∷ 128 ∷ 191 ∷ 9 ∷ 9 ∷ []
 unfolding factors stateOutside numbersOutside headerOutside layoutOf systemOf layoutNumber otherLayout
-    framed outside frameBits dataBits bits number characters textLength lastCode bufferAfter
+    framed outside pairOutside frameBits dataBits bits number characters textLength lastCode bufferAfter
 text-36-written = refl
 
 -- code 192 is refusal 11; 128 is one in type 16

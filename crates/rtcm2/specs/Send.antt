@@ -4,7 +4,7 @@ use Prim.Native.Nat.{ℕ}
 use Rattle.answer.specs.Order.{Says}
 use Rattle.frame.specs.declared.Frame.{Frame}
 use Rattle.writer.specs.Answer.{openedBy, saysOpened, writtenBy, writtenTo, saysWritten}
-use Rattle.writer.specs.declared.Carried.{Carried}
+use Rattle.frame.specs.declared.Carried.{Carried}
 use Rattle.rtcm2.specs.Answer.{left, andThen}
 
 -- OPENING: 13

@@ -96,13 +96,15 @@ pub extern "C" fn rtcm2_end(state: &mut [u8]) -> u8
     0
 }
 
-// Takes the frame that waits: its record, the record's length and the position of its first bit. Refusals: 5, 4, 13.
+// Takes the frame that waits: its record, the record's length, the position of its first bit and the two bits before it. Refusals: 5, 4, 13.
 #[no_mangle]
 pub extern "C" fn rtcm2_take(
     state: &mut [u8],
     frame: &mut [u8],
     length: &mut usize,
     at: &mut u32,
+    d29: &mut u8,
+    d30: &mut u8,
 ) -> u8
     ensures { λ r. ⌜ r ≡ numberOf (takenIn (now (state .entry)) (now (frame .entry))) ⌝ }
     ensures { λ _. ⌜ now (state .exit) ≡ left (takenIn (now (state .entry)) (now (frame .entry)))
@@ -111,6 +113,8 @@ pub extern "C" fn rtcm2_take(
         (λ v. heldBy (v .1 .frame) (now (frame .entry))) (now (frame .entry)) ⌝ }
     ensures { λ _. ⌜ now (length .exit) ≡ left (takenIn (now (state .entry)) (now (frame .entry))) (λ v. v .0) (now (length .entry)) ⌝ }
     ensures { λ _. ⌜ now (at .exit) ≡ left (takenIn (now (state .entry)) (now (frame .entry))) (λ v. v .1 .at) (now (at .entry)) ⌝ }
+    ensures { λ _. ⌜ now (d29 .exit) ≡ left (takenIn (now (state .entry)) (now (frame .entry))) (λ v. v .1 .frame .carried .d29) (now (d29 .entry)) ⌝ }
+    ensures { λ _. ⌜ now (d30 .exit) ≡ left (takenIn (now (state .entry)) (now (frame .entry))) (λ v. v .1 .frame .carried .d30) (now (d30 .entry)) ⌝ }
 {
     if !rtcm2_state::holds_state(state) {
         return 5;
@@ -121,6 +125,7 @@ pub extern "C" fn rtcm2_take(
         return n;
     }
     let found = taken.frame;
+    let carried = found.carried;
     match journal::keep(found, frame) {
         Kept::Refused(n) => n,
         Kept::Done(size) => {
@@ -128,6 +133,8 @@ pub extern "C" fn rtcm2_take(
             rtcm2_state::put_start(candidate, taken.reader.ended, state);
             *length = size;
             *at = taken.at;
+            *d29 = carried.d29;
+            *d30 = carried.d30;
             0
         }
     }

@@ -5,9 +5,9 @@ ghost use Rattle.writer.specs.Answer.{openedTo};
 ghost use Rattle.rtcm2.specs.Answer.{numberOf};
 ghost use Rattle.rtcm2.specs.Frames.{frameSaid};
 ghost use Rattle.rtcm2.specs.Send.{openSaid, writeSaid, lineLent, d29After, d30After, countAfter};
+use frame::Carried;
 use frame::Frame;
 use journal::Found;
-use writer::Carried;
 use writer::Opened;
 use writer::Written;
 

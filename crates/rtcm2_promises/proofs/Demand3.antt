@@ -1,6 +1,6 @@
 -- DEMAND 3 holds of the library: what its calls come to is what those of the package's reader come to. Assumes nothing.
 use mathlib.Core.Path.{_≡_, refl, sym, ap, subst, subst₂, _∙_}
-use mathlib.Core.List.{List, _∷_, _++_}
+use mathlib.Core.List.{List, _∷_, _++_, map}
 use Prim.Native.Nat.{ℕ, _+_, _*_, _≤_}
 use lib.ListN.{length}
 use Rattle.answer.specs.Order.{Says, refuses, answers}
@@ -20,7 +20,7 @@ use Rattle.rtcm2.specs.Line.{readBy, takenIn}
 use Rattle.rtcm2.specs.Orders.{takeOrder}
 use Rattle.rtcm2.proofs.LineTaking.{taken, take-order}
 use Rattle.promises.specs.Calls.{Call, feeds, ends, replyTo, after, afterAll, Outcome, outcome, takesAll, served}
-use Rattle.promises.specs.Demand3.{OnlyFrames, AsSoonAs, NothingLost, HandedOut, OneByOne, InSlices, NeverFive, DamageBeginsNothing}
+use Rattle.promises.specs.Demand3.{OnlyFrames, AsSoonAs, NothingLost, HandedOut, OneByOne, InSlices, NeverFive, DamageBeginsNothing, turnedReply}
 use Rattle.promises.proofs.CarriesItsNumber.{says-inj}
 use Rattle.promises.proofs.Demand2.{reads-back-equal}
 use Rattle.promises.proofs.Demand3.{only-frames, as-soon-as, nothing-lost, damage-begins-nothing, handed-out, one-by-one, never-five}
@@ -118,7 +118,9 @@ module _ (state : List ℕ) (h : stateSize ≤ length state) where
         let w = sliced state h s started called-started (begun-is state h) room in
         subst₂ (InSlices ns bs) (sym (w .1)) (sym (same cs room ∙ ap outcome (w .0))) (in-slices ns bs);
     turned = λ cs ds a b o.
-        ap (λ (x : Outcome). x .replies) (same ds b) ∙ turned-is-same .calls (asked cs) (asked ds) o ∙ sym (ap (λ (x : Outcome). x .replies) (same cs a));
+        ap (λ (x : Outcome). x .replies) (same ds b)
+        ∙ turned-is-same .calls (asked cs) (asked ds) o
+        ∙ sym (ap (λ (x : Outcome). map turnedReply (x .replies)) (same cs a));
     damage = λ cs room. carry DamageBeginsNothing cs room (damage-begins-nothing (asked cs));
     only = λ cs room. carry OnlyFrames cs room (only-frames (asked cs));
     nothing-lost = λ cs room. carry NothingLost cs room (nothing-lost (asked cs));

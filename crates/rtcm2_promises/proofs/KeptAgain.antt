@@ -19,7 +19,7 @@ use Rattle.frame.proofs.StateLaws.{code-lt, state-code}
 use Rattle.frame.proofs.FrameLaws.{n-within, words-below, below-take, length-data, framed-again}
 use Rattle.journal.specs.Bytes.{written, wordsFrom}
 use Rattle.journal.proofs.WordLaws.{length-written, words-written}
-use Rattle.journal.proofs.RoundTrip.{fit-below, Reread, reread}
+use Rattle.journal.proofs.RoundTrip.{fit-below, Reread, reread, recalled-bare}
 use Rattle.rtcm2.specs.Frames.{wordsSaid, keepSaid, keptTo, heldTo, recallSaid}
 use Rattle.rtcm2.specs.Orders.{headerWith}
 use Rattle.rtcm2.proofs.MakeOrders.{headed-order}
@@ -61,7 +61,7 @@ module _ (bytes : List ℕ) (size : ℕ) (f : Frame) (fits : AreBytes bytes) (e 
       order-answers refuses (answers (framed (f .header) (wordsFrom 3 (length words / 3) words)))
       ((not (eqb (length words % 3) 0), 5) ∷ (ltb 31 (length words / 3), 5) ∷ [])
       (ap not (eq-eqb (length words % 3) 0 (omega (arith, long))), (le-ltb 31 (length words / 3) (omega (arith, third, n-within f (r .inside))), tt))
-      ∙ ap (λ ws. answers (framed (f .header) ws)) data-back ∙ ap answers (framed-again f (r .inside) (r .full))
+      ∙ ap (λ ws. answers (framed (f .header) ws)) data-back ∙ ap answers (framed-again f (r .inside) (r .full) ∙ recalled-bare bytes fits f size e)
 
   say-again : keepSaid (f .header .kind) (f .header .station) (f .header .z) (f .header .sequence) (codeOf (f .header .state)) words ≡ answers f
   say-again =

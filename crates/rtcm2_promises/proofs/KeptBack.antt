@@ -1,6 +1,6 @@
 -- The bytes that a function made or kept a frame in begin with the frame's record: recalled, it gives the header's numbers and the frame back.
 -- Assumes nothing.
-use mathlib.Core.Path.{_≡_, refl, sym, ap, subst, _∙_}
+use mathlib.Core.Path.{_≡_, refl, sym, ap, ap₂, subst, _∙_}
 use mathlib.Core.Bool.{Bool, true, false, cond}
 use mathlib.Core.List.{List, _++_}
 use Prim.Native.Nat.{ℕ, _+_, _*_, _≤_, _<_}
@@ -12,7 +12,7 @@ use borrow.Author.Tests.{ltb-false}
 use Rattle.answer.specs.Order.{Says, refuses, answers, NoneApplies}
 use Rattle.answer.proofs.OrderLaws.{order-answers, refuses-apart}
 use Rattle.frame.specs.Header.{codeOf}
-use Rattle.frame.specs.Frames.{framed}
+use Rattle.frame.specs.Frames.{framed, afterPair, bare}
 use Rattle.frame.specs.declared.Frame.{Frame}
 use Rattle.frame.specs.declared.Header.{Header}
 use Rattle.frame.proofs.StateLaws.{code-state}
@@ -58,7 +58,10 @@ module _ (h : Header) (ws : List ℕ) (f : Frame) (is : framed h ws ≡ f) (lent
       ∙ take-at (recordOf f) (drop (3 * f .n + 9) lent) size (length-record f (none .0) full ∙ sym long)
 
   recalls : (rest : List ℕ) → recallSaid (recordOf f ++ rest) ≡ answers (size, f)
-  recalls rest = ap saysRecalled (recall-record f full (none .0) rest) ∙ ap (λ m. answers (m, f)) (sym long)
+  recalls rest = ap saysRecalled (recall-record f full (none .0) rest) ∙ ap₂ (λ m g. answers (m, g)) (sym long) own
+    where
+      own : bare f ≡ f
+      own = subst (λ g. bare g ≡ g) is (unfold framed afterPair in refl)
 
 -- ---- made or kept of five numbers
 

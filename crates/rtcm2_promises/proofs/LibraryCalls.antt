@@ -34,7 +34,7 @@ library-calls = record {
   line-take = record {
     asks-nothing = λ κs a. tt;
     settles = λ κs a z e p. p .0;
-    leaves = λ κs a z e p. four-places (p .1);
+    leaves = λ κs a z e p. place-and (p .1 .0) (place-and (p .1 .1 .0) (four-places (p .1 .1 .1)));
     ends = rtcm2.line.rtcm2_take.Met.met;
   };
   line-open = record { asks-nothing = λ κs a. tt; settles = λ κs a z e p. p .0; leaves = λ κs a z e p. p .1; ends = rtcm2.send.rtcm2_open.Met.met };

@@ -11,6 +11,7 @@ use Rattle.answer.specs.Order.{Says, answers}
 use Rattle.answer.proofs.OrderLaws.{order-answers}
 use Rattle.frame.specs.Widths.{outside}
 use Rattle.frame.specs.declared.Frame.{Frame}
+use Rattle.frame.specs.Frames.{afterPair, bare}
 use Rattle.frame.proofs.FrameLaws.{n-within}
 use Rattle.stream.specs.Standing.{frameAt}
 use Rattle.stream.proofs.Data.{frame-within, frame-full}
@@ -34,7 +35,7 @@ use Rattle.promises.specs.Calls.{replied, used, took, replyTo, after}
 use Rattle.promises.proofs.CarriesItsNumber.{carries-its-number}
 use Rattle.promises.proofs.ChangesNeither.{changes-neither}
 use Rattle.promises.proofs.Demand2.{reads-back-equal}
-use Rattle.rtcm2_promises.specs.LineCalls.{LineCall, feed, feed-all, line-end, line-take, HasRoom, asks, saysRecord, replyIn, afterIn}
+use Rattle.rtcm2_promises.specs.LineCalls.{LineCall, feed, feed-all, line-end, line-take, HasRoom, asks, pairLeft, saysRecord, replyIn, afterIn}
 use Rattle.rtcm2_promises.proofs.Told.{number-told, left-told, no-value}
 use Rattle.rtcm2_promises.proofs.Called.{Called, handed-stood}
 
@@ -92,6 +93,10 @@ module _ (r : Reader) (k : Called r) (state : List ℕ) (h : stateSize ≤ lengt
       is : endedIn held ≡ doneBy (endedBy r .answer) (endedBy r)
       is = call-storable r (k .storable) state h (λ (n : Next). n .answer) endedBy
 
+  -- a frame is the one without its pair, after that pair
+  own : (g : Frame) → afterPair (g .carried) (bare g) ≡ g
+  own g = unfold afterPair in refl
+
   -- taking, into bytes with room for the longest record: keeping adds no refusal, and the record recalled is the frame
   module _ (lent : List ℕ) (long : 102 ≤ length lent) where
     abbrev f : Frame
@@ -102,7 +107,7 @@ module _ (r : Reader) (k : Called r) (state : List ℕ) (h : stateSize ≤ lengt
 
     record Recorded : Type 0 where
       kept : saysKept (keptBy f lent) ≡ answers size
-      back : frameSaid (take size (heldBy f lent)) ≡ answers f
+      back : frameSaid (take size (heldBy f lent)) ≡ answers (bare f)
 
     recorded : takenBy r .answer ≡ Done → Recorded
     recorded e = record {
@@ -124,11 +129,11 @@ module _ (r : Reader) (k : Called r) (state : List ℕ) (h : stateSize ≤ lengt
         kept = ap saysKept (order-answers kept-as.Refused (kept-as.Done size) (keepOrder f lent)
             (inside, (le-ltb (length lent) size (omega (arith, n-within f inside)), tt)))
 
-    same-take : (n at : ℕ) → Same r state (line-take lent n at)
+    same-take : (n at d29 d30 : ℕ) → Same r state (line-take lent n at d29 d30)
     unfolding replyIn afterIn replyTo after takenIn
-    same-take n at = record {
+    same-take n at d29 d30 = record {
       reply = ap (λ s. took (andThen s saysRecord)) (number-told (x .answer) (size, x) (is (x .answer) refl) (carries-its-number .reader-take r)
-          (λ s. (left s (λ v. heldBy (v .1 .frame) lent) lent, (left s (λ v. v .0) n, left s (λ v. v .1 .at) at))))
+          (λ s. (left s (λ v. heldBy (v .1 .frame) lent) lent, (left s (λ v. v .0) n, (left s (λ v. v .1 .at) at, pairLeft s d29 d30)))))
           ∙ ap took (read (x .answer) refl);
       leaves = left-told (x .answer) (size, x) (is (x .answer) refl)
           (λ (v : ℕ × Taken). startPut (v .1 .reader .candidate) (v .1 .reader .ended) held) held (statePut (x .reader) state)
@@ -150,12 +155,14 @@ module _ (r : Reader) (k : Called r) (state : List ℕ) (h : stateSize ≤ lengt
             ap (λ s. andThen s keep) (call-storable r (k .storable) state h (λ (v : Taken). v .answer) takenBy ∙ ap (λ b. doneBy b (takenBy r)) e) ∙ by a e
 
         read : (a : Answer) → takenBy r .answer ≡ a
-            → andThen (carrying (heldBy f lent, (size, takenBy r .at)) (saysAnswer a)) saysRecord ≡ carrying (takenBy r .at, f) (saysAnswer a)
-        read Done e = ap (λ s. andThen s (λ g. answers (takenBy r .at, g))) (recorded e .back)
+            → andThen (carrying (heldBy f lent, (size, (takenBy r .at, f .carried))) (saysAnswer a)) saysRecord ≡ carrying (takenBy r .at, f) (saysAnswer a)
+        read Done e =
+            ap (λ s. andThen s (λ g. answers (takenBy r .at, afterPair (f .carried) g))) (recorded e .back)
+            ∙ ap (λ g. answers (takenBy r .at, g)) (own f)
         read (Refused m) e = refl
 
   pub same-call : (c : LineCall) → HasRoom c → Same r state c
   same-call (feed b) room = same-feed b
   same-call (feed-all bs u p) room = same-all bs u p
   same-call line-end room = same-end
-  same-call (line-take lent n at) room = same-take lent room n at
+  same-call (line-take lent n at d29 d30) room = same-take lent room n at d29 d30

@@ -61,7 +61,8 @@ use Rattle.rtcm2.specs.Texts as texts
 use Rattle.rtcm2.specs.Orders.{headerWith}
 use Rattle.promises.specs.ReadsBack.{ListBack}
 use Rattle.promises.proofs.CarriesItsNumber.{carries-its-number, says-inj, none-told}
-use Rattle.promises.proofs.Demand2.{made-told, reads-back-equal}
+use Rattle.promises.proofs.PairBeside.{made-told}
+use Rattle.promises.proofs.Demand2.{reads-back-equal}
 use Rattle.rtcm2_promises.specs.ReadsBack.{GivesBack, RowsBack, LibraryReadsBack}
 use Rattle.rtcm2_promises.proofs.KeptBack.{gives-back}
 

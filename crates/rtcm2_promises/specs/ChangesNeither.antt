@@ -43,9 +43,10 @@ pub record LibraryKeeps : Type 0 where
       × Keeps s (left s (λ f. f .used) used) used × Keeps s (left s (λ f. f .passed) passed) passed
   pub line-end : (state : List ℕ)
       → Keeps (endedIn state) (left (endedIn state) (λ n. startPut (n .reader .candidate) (n .reader .ended) state) state) state
-  pub line-take : (state frame : List ℕ) (size at : ℕ) → let s = takenIn state frame in
+  pub line-take : (state frame : List ℕ) (size at d29 d30 : ℕ) → let s = takenIn state frame in
       Keeps s (left s (λ v. startPut (v .1 .reader .candidate) (v .1 .reader .ended) state) state) state
       × Keeps s (left s (λ v. heldBy (v .1 .frame) frame) frame) frame × Keeps s (left s (λ v. v .0) size) size × Keeps s (left s (λ v. v .1 .at) at) at
+      × Keeps s (left s (λ v. v .1 .frame .carried .d29) d29) d29 × Keeps s (left s (λ v. v .1 .frame .carried .d30) d30) d30
   -- writing the line
   pub line-open : (line : List ℕ) → Keeps (openSaid line) (openedTo line) line
   pub write : (frame : List ℕ) (d29 d30 : ℕ) (line : List ℕ) (size : ℕ) → let f = frameSaid frame in let s = writeSaid f d29 d30 line in

@@ -114,12 +114,21 @@ pub record LibraryCalls : Type 2 where
       (λ κs (state, _). numberOf (endedIn (now state)))
       (λ κs (state, _). now state)
       (λ κs (state, _). left (endedIn (now state)) (λ n. startPut (n .reader .candidate) (n .reader .ended) (now state)) (now state))
-  pub line-take : AnsweredLent {B = List ℕ × (List ℕ × (ℕ × ℕ))} rtcm2_take.Reads.Asked rtcm2_take.Reads.Learnt rtcm2_take.Statement.statement
+  pub line-take : AnsweredLent {B = List ℕ × (List ℕ × (ℕ × (ℕ × (ℕ × ℕ))))} rtcm2_take.Reads.Asked rtcm2_take.Reads.Learnt rtcm2_take.Statement.statement
       (λ κs (state, (frame, _)). numberOf (takenIn (now state) (now frame)))
-      (λ κs (state, (frame, (length, (at, _)))). (now state, (now frame, (now length, now at))))
-      (λ κs (state, (frame, (length, (at, _)))). let s = takenIn (now state) (now frame) in (
+      (λ κs (state, (frame, (length, (at, (d29, (d30, _)))))). (now state, (now frame, (now length, (now at, (now d29, now d30))))))
+      (λ κs (state, (frame, (length, (at, (d29, (d30, _)))))). let s = takenIn (now state) (now frame) in (
         left s (λ v. startPut (v .1 .reader .candidate) (v .1 .reader .ended) (now state)) (now state),
-        (left s (λ v. heldBy (v .1 .frame) (now frame)) (now frame), (left s (λ v. v .0) (now length), left s (λ v. v .1 .at) (now at))),
+        (
+          left s (λ v. heldBy (v .1 .frame) (now frame)) (now frame),
+          (
+            left s (λ v. v .0) (now length),
+            (
+              left s (λ v. v .1 .at) (now at),
+              (left s (λ v. v .1 .frame .carried .d29) (now d29), left s (λ v. v .1 .frame .carried .d30) (now d30)),
+            ),
+          ),
+        ),
       ))
   -- rtcm2::send
   pub line-open : AnsweredLent rtcm2-open.Reads.Asked rtcm2-open.Reads.Learnt rtcm2-open.Statement.statement

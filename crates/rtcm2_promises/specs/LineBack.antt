@@ -11,8 +11,8 @@ use Rattle.line.specs.Line.{lineBits}
 use Rattle.frame.specs.Widths.{late}
 use Rattle.frame.specs.declared.Frame.{Frame}
 use Rattle.writer.specs.Answer.{openedTo}
-use Rattle.writer.specs.Streams.{streamBytes, placesFrom}
-use Rattle.writer.specs.declared.Carried.{Carried}
+use Rattle.writer.specs.Streams.{streamBytes, streamPlaces}
+use Rattle.frame.specs.declared.Carried.{Carried}
 use Rattle.record_fields.specs.Coding.{Each}
 use Rattle.rtcm2.specs.Frames.{frameSaid}
 use Rattle.rtcm2.specs.Send.{writeSaid, lineLent}
@@ -44,4 +44,4 @@ LineGivesBack state = (sent : List (List ℕ × Frame)) → Each Sends sent → 
     → let fs : List Frame = map (λ p. p .1) sent in
     let o = outcomeIn state cs in
     streamBytes fs ≤ length line → o .bits ≡ lineBits (take (streamBytes fs) (streamIn (map (λ p. p .0) sent) line))
-    → o .reader .ended ≡ true → o .reader .candidate .waits ≡ false → o .out ≡ map reported (placesFrom 6 fs)
+    → o .reader .ended ≡ true → o .reader .candidate .waits ≡ false → o .out ≡ map reported (streamPlaces fs)

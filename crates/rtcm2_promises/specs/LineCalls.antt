@@ -7,7 +7,10 @@ use Prim.Native.Nat.{ℕ, _≤_}
 use lib.Dec.{eqb}
 use lib.ListN.{length, take, drop}
 use Rattle.answer.specs.Order.{Says, refuses, answers}
+use Rattle.frame.specs.Frames.{afterPair}
+use Rattle.frame.specs.declared.Carried.{Carried}
 use Rattle.frame.specs.declared.Frame.{Frame}
+use Rattle.reader.specs.declared.Taken.{Taken}
 use Rattle.journal.specs.Journal.{heldBy}
 use Rattle.rtcm2_state.specs.State.{stateIn, startPut, statePut}
 use Rattle.rtcm2.specs.Answer.{numberOf, left, andThen}
@@ -20,21 +23,21 @@ pub data LineCall : Type 0 where
   feed : (byte : ℕ) → LineCall
   feed-all : (bytes : List ℕ) (used passed : ℕ) → LineCall
   line-end : LineCall
-  line-take : (frame : List ℕ) (size at : ℕ) → LineCall
+  line-take : (frame : List ℕ) (size at d29 d30 : ℕ) → LineCall
 
 -- room enough: that of the longest record
 abbrev pub HasRoom : LineCall → Type 0
 HasRoom (feed byte) = Unit {0}
 HasRoom (feed-all bytes u p) = Unit {0}
 HasRoom line-end = Unit {0}
-HasRoom (line-take frame size at) = 102 ≤ length frame
+HasRoom (line-take frame size at d29 d30) = 102 ≤ length frame
 
 -- the call of the package's reader that it stands for
 abbrev pub asks : LineCall → Call
 asks (feed byte) = feeds byte
 asks (feed-all bytes u p) = feedsAll bytes
 asks line-end = ends
-asks (line-take frame size at) = takes
+asks (line-take frame size at d29 d30) = takes
 
 abbrev pub asked : List LineCall → List Call
 asked cs = map asks cs
@@ -45,9 +48,13 @@ asked cs = map asks cs
 abbrev pub saysNumber : {A : Type 0} → ℕ → A → Says A
 saysNumber number values = cond (eqb number 0) (answers values) (refuses number)
 
--- the frame that was taken is the one that rtcm2_recall gives of its record, the first bytes of those lent
-abbrev pub saysRecord : List ℕ × (ℕ × ℕ) → Says (ℕ × Frame)
-saysRecord (frame, (size, at)) = andThen (frameSaid (take size frame)) (λ f. answers (at, f))
+-- what taking left in the two places for the pair
+abbrev pub pairLeft : Says (ℕ × Taken) → ℕ → ℕ → Carried
+pairLeft s d29 d30 = record { d29 = left s (λ v. v .1 .frame .carried .d29) d29; d30 = left s (λ v. v .1 .frame .carried .d30) d30 }
+
+-- the frame that was taken is the one that rtcm2_recall gives of its record, the first bytes of those lent, after the pair that came beside it
+abbrev pub saysRecord : List ℕ × (ℕ × (ℕ × Carried)) → Says (ℕ × Frame)
+saysRecord (frame, (size, (at, pair))) = andThen (frameSaid (take size frame)) (λ f. answers (at, afterPair pair f))
 
 unfoldable pub replyIn : List ℕ → LineCall → Reply
 replyIn state (feed byte) = replied (saysNumber (numberOf (fedIn state byte)) tt)
@@ -55,16 +62,17 @@ replyIn state (feed-all bytes u p) =
     let s = fedAllIn state bytes in
     used (saysNumber (numberOf s) (left s (λ f. f .used) u, left s (λ f. f .passed) p))
 replyIn state line-end = replied (saysNumber (numberOf (endedIn state)) tt)
-replyIn state (line-take frame size at) =
+replyIn state (line-take frame size at d29 d30) =
     let s = takenIn state frame in
-    took (andThen (saysNumber (numberOf s) (left s (λ v. heldBy (v .1 .frame) frame) frame, (left s (λ v. v .0) size, left s (λ v. v .1 .at) at))) saysRecord)
+    took (andThen (saysNumber (numberOf s)
+    (left s (λ v. heldBy (v .1 .frame) frame) frame, (left s (λ v. v .0) size, (left s (λ v. v .1 .at) at, pairLeft s d29 d30)))) saysRecord)
 
 -- the state's bytes after it
 unfoldable pub afterIn : List ℕ → LineCall → List ℕ
 afterIn state (feed byte) = left (fedIn state byte) (λ n. statePut (n .reader) state) state
 afterIn state (feed-all bytes u p) = left (fedAllIn state bytes) (λ f. statePut (f .reader) state) state
 afterIn state line-end = left (endedIn state) (λ n. startPut (n .reader .candidate) (n .reader .ended) state) state
-afterIn state (line-take frame size at) = left (takenIn state frame) (λ v. startPut (v .1 .reader .candidate) (v .1 .reader .ended) state) state
+afterIn state (line-take frame size at d29 d30) = left (takenIn state frame) (λ v. startPut (v .1 .reader .candidate) (v .1 .reader .ended) state) state
 
 -- ---- call after call
 

@@ -1,21 +1,22 @@
 -- A frame that stands and the data of its words: it is the frame of them, they are its words, and it is within its widths. Assumes nothing.
 use mathlib.Core.Path.{_≡_, refl, sym, ap, ap₂, _∙_}
-use mathlib.Core.Bool.{Bool, false}
+use mathlib.Core.Bool.{Bool, true, false}
 use mathlib.Core.List.{List, _∷_}
 use Prim.Native.Nat.{ℕ, zero, suc, _+_, _-_, _*_, _^_, _<_}
 use native.Mathlib.Omega.{arith}
+use lib.Dec.{ltb}
 use lib.ListN.{length, take, drop, replicate, length-append, length-replicate}
 use lib.Seq.{drop-drop}
-use Rattle.bits.specs.Bits.{number}
+use Rattle.bits.specs.Bits.{val, number}
 use Rattle.bits.proofs.Numbers.{number-lt}
-use Rattle.word.specs.Word.{dataOf}
+use Rattle.word.specs.Word.{d29*, d30*, dataOf}
 use Rattle.word.proofs.Sending.{data-number, length-dataOf}
 use Rattle.frame.specs.Header.{preambled, nOf, headerOf}
-use Rattle.frame.specs.Frames.{framed, wordsOf, frameOf, Below}
-use Rattle.frame.specs.Widths.{outside}
+use Rattle.frame.specs.Frames.{framed, afterPair, wordsOf, frameOf, Below}
+use Rattle.frame.specs.Widths.{pairOutside, outside}
 use Rattle.frame.proofs.HeaderLaws.{n-lt}
-use Rattle.frame.proofs.FrameLaws.{words-frame, frame-inside}
-use Rattle.stream.specs.Standing.{wordAt, nAt, size, Stands, dataFrom, frameAt}
+use Rattle.frame.proofs.FrameLaws.{words-frame, frame-inside, after-inside, words-after}
+use Rattle.stream.specs.Standing.{wordAt, nAt, size, Stands, dataFrom, pairBefore, frameAt}
 use Rattle.stream.proofs.Words.{length-dataFrom, right-first}
 
 -- ---- a word on
@@ -51,22 +52,32 @@ data-all d = ap (λ n. dataFrom n 0 d) two
     two : 2 + nAt d ≡ suc (suc (nAt d))
     two = omega arith
 
-pub frame-data : (d : List Bool) → frameAt d ≡ frameOf (dataFrom (size d) 0 d)
+pub frame-data : (d : List Bool) → frameAt d ≡ afterPair (pairBefore d) (frameOf (dataFrom (size d) 0 d))
 unfolding frameAt frameOf
 frame-data d =
-    ap₂ (λ a b. framed (headerOf a b) (dataFrom (nAt d) 2 d)) (sym (data-number (wordAt 0 d))) (sym (data-number (wordAt 1 d)))
-    ∙ ap frameOf (sym (data-all d))
+    ap (afterPair (pairBefore d))
+    (ap₂ (λ a b. framed (headerOf a b) (dataFrom (nAt d) 2 d)) (sym (data-number (wordAt 0 d))) (sym (data-number (wordAt 1 d)))
+    ∙ ap frameOf (sym (data-all d)))
+
+pair-inside : (d : List Bool) → pairOutside (pairBefore d) ≡ false
+unfolding pairOutside
+pair-inside d = rw (one (d29* d), one (d30* d))
+  where
+    one : (b : Bool) → ltb 1 (val b) ≡ false
+    one true = refl
+    one false = refl
 
 -- WITHIN ITS WIDTHS, whatever the bits
 pub frame-within : (d : List Bool) → outside (frameAt d) ≡ false
 unfolding nAt
 frame-within d =
-    ap outside (frame-data d ∙ ap frameOf (data-all d))
+    ap outside (frame-data d) ∙ after-inside (pairBefore d) (frameOf (dataFrom (size d) 0 d)) (pair-inside d)
+    (ap (λ ws. outside (frameOf ws)) (data-all d)
     ∙ frame-inside (number (dataOf (wordAt 0 d))) (number (dataOf (wordAt 1 d))) (dataFrom (nAt d) 2 d) (below-dataFrom (nAt d) 2 d)
-    (omega (arith, length-dataFrom (nAt d) 2 d, n-lt (dataOf (wordAt 1 d))))
+    (omega (arith, length-dataFrom (nAt d) 2 d, n-lt (dataOf (wordAt 1 d)))))
 
 pub frame-full : (d : List Bool) → length (frameAt d .words) ≡ 31
-unfolding frameAt framed nAt
+unfolding frameAt framed afterPair nAt
 frame-full d =
     length-append (dataFrom (nAt d) 2 d) (replicate (31 - length (dataFrom (nAt d) 2 d)) 0)
     ∙ omega (arith, length-replicate {A = ℕ} (31 - length (dataFrom (nAt d) 2 d)) 0, length-dataFrom (nAt d) 2 d, n-lt (dataOf (wordAt 1 d)))
@@ -75,7 +86,7 @@ frame-full d =
 pub words-standing : (d : List Bool) → Stands d → wordsOf (frameAt d) ≡ dataFrom (size d) 0 d
 unfolding nAt
 words-standing d s =
-    ap wordsOf (frame-data d ∙ ap frameOf (data-all d))
+    ap wordsOf (frame-data d) ∙ words-after (pairBefore d) (frameOf (dataFrom (size d) 0 d)) ∙ ap (λ ws. wordsOf (frameOf ws)) (data-all d)
     ∙ words-frame (number (dataOf (wordAt 0 d))) (number (dataOf (wordAt 1 d))) (dataFrom (nAt d) 2 d)
     (data-below (wordAt 0 d), (data-below (wordAt 1 d), below-dataFrom (nAt d) 2 d))
     (ap preambled (data-number (wordAt 0 d)) ∙ right-first (wordAt 0 d) (s .each 0 (omega arith)))

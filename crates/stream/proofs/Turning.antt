@@ -1,4 +1,4 @@
--- Turning all bits of a stream changes no verdict and no frame. Assumes nothing.
+-- Turning all bits of a stream changes no verdict, and of a frame its carried pair alone. Assumes nothing.
 use mathlib.Core.Path.{_≡_, refl, sym, ap, ap₂, _∙_}
 use mathlib.Core.Bool.{Bool, true, false, not, _&&_, cond, Bool·not-not}
 use mathlib.Core.List.{List, [], _∷_, map}
@@ -8,11 +8,12 @@ use native.Mathlib.Omega.{arith}
 use lib.Dec.{leb}
 use lib.ListN.{length, take, drop, length-map}
 use borrow.Author.Tests.{leb-true, lt-leb}
-use Rattle.bits.specs.Bits.{number}
+use Rattle.bits.specs.Bits.{val, number}
 use Rattle.word.specs.Word.{dataOf, passes}
 use Rattle.word.proofs.Linearity.{data-turned, passes-turned}
 use Rattle.frame.specs.Header.{preambled, nOf}
-use Rattle.stream.specs.Standing.{wordAt, right, nAt, size, Stands, stands, dataFrom, frameAt, placed, scan}
+use Rattle.frame.specs.Frames.{afterPair, turnedPair, turnedFrame}
+use Rattle.stream.specs.Standing.{wordAt, right, nAt, size, Stands, stands, dataFrom, pairBefore, frameAt, placed, turnedPlaced, scan}
 use Rattle.stream.specs.Verdict.{judged, verdictFrom}
 use Rattle.stream.proofs.Words.{unlike, word-long}
 use Rattle.stream.proofs.Stand.{stands-long, stands-test, test-stands, not-test}
@@ -60,7 +61,17 @@ dataFrom-turned zero k d l = refl
 dataFrom-turned (suc n) k d l =
     ap₂ (λ ds rest. number ds ∷ rest) (data-same k d (omega (arith, suc-add n k))) (dataFrom-turned n (suc k) d (omega (arith, suc-add n k, add-suc n k)))
 
--- ---- A FRAME THAT STANDS, turned over, stands and is the same frame
+-- the two bits before a position
+pair-turned : (d : List Bool) → 2 ≤ length d → pairBefore (map not d) ≡ turnedPair (pairBefore d)
+pair-turned [] l = absurd (omega arith)
+pair-turned (a ∷ []) l = absurd (omega arith)
+pair-turned (a ∷ b ∷ d) l = ap₂ (λ x y. record { d29 = x; d30 = y }) (one a) (one b)
+  where
+    one : (b : Bool) → val (not b) ≡ 1 - val b
+    one true = refl
+    one false = refl
+
+-- ---- A FRAME THAT STANDS, turned over, stands and is the same frame but for its pair
 
 pub stands-turned : (d : List Bool) → Stands d → Stands (map not d)
 stands-turned d s = record {
@@ -74,17 +85,18 @@ stands-turned d s = record {
 pub stands-back : (d : List Bool) → Stands (map not d) → Stands d
 stands-back d s = rw (turned-twice d) at (stands-turned (map not d) s)
 
-pub frame-turned : (d : List Bool) → Stands d → frameAt (map not d) ≡ frameAt d
-unfolding frameAt
+pub frame-turned : (d : List Bool) → Stands d → frameAt (map not d) ≡ turnedFrame (frameAt d)
+unfolding frameAt afterPair
 frame-turned d s =
     rw (
+      pair-turned d (omega (arith, s .taken)),
       n-turned d (stands-long d s),
       data-same 0 d (omega (arith, s .taken)),
       data-same 1 d (omega (arith, s .taken)),
       dataFrom-turned (nAt d) 2 d (omega (arith, s .taken)),
     )
 
-placed-turned : (p : ℕ) (d : List Bool) → Stands d → placed p (map not d) ≡ placed p d
+placed-turned : (p : ℕ) (d : List Bool) → Stands d → placed p (map not d) ≡ turnedPlaced (placed p d)
 unfolding placed
 placed-turned p d s = rw (frame-turned d s)
 
@@ -97,17 +109,17 @@ test-turned d = go (stands d) refl
 
 -- ---- THE SCAN of a stream turned over
 
-pub scan-turned : (n p : ℕ) (d : List Bool) → scan n p (map not d) ≡ scan n p d
+pub scan-turned : (n p : ℕ) (d : List Bool) → scan n p (map not d) ≡ map turnedPlaced (scan n p d)
 unfolding scan
 scan-turned n p [] = refl
 scan-turned (suc n) p (b ∷ d) = scan-turned n (suc p) d
 scan-turned zero p (b ∷ d) =
     rw (test-turned (b ∷ d)) (go (stands (b ∷ d)) refl (scan-turned (30 * size (b ∷ d) - 1) (suc p) d) (scan-turned 0 (suc p) d))
   where
-    go : (t : Bool) → stands (b ∷ d) ≡ t → scan (30 * size (b ∷ d) - 1) (suc p) (map not d) ≡ scan (30 * size (b ∷ d) - 1) (suc p) d
-        → scan 0 (suc p) (map not d) ≡ scan 0 (suc p) d
+    go : (t : Bool) → stands (b ∷ d) ≡ t → scan (30 * size (b ∷ d) - 1) (suc p) (map not d) ≡ map turnedPlaced (scan (30 * size (b ∷ d) - 1) (suc p) d)
+        → scan 0 (suc p) (map not d) ≡ map turnedPlaced (scan 0 (suc p) d)
         → cond t (placed p (map not (b ∷ d)) ∷ scan (30 * size (map not (b ∷ d)) - 1) (suc p) (map not d)) (scan 0 (suc p) (map not d))
-        ≡ cond t (placed p (b ∷ d) ∷ scan (30 * size (b ∷ d) - 1) (suc p) d) (scan 0 (suc p) d)
+        ≡ map turnedPlaced (cond t (placed p (b ∷ d) ∷ scan (30 * size (b ∷ d) - 1) (suc p) d) (scan 0 (suc p) d))
     go false e f g = g
     go true e f g =
         let s = test-stands (b ∷ d) e in

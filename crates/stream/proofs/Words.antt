@@ -5,13 +5,13 @@ use mathlib.Core.List.{List, [], _∷_, _++_}
 use Prim.Native.Nat.{ℕ, zero, suc, _+_, _*_, _≤_, _<_}
 use native.Mathlib.Nat.{add-suc, add-zero, suc-add}
 use native.Mathlib.Omega.{arith}
-use lib.ListN.{length, drop, length-take, length-drop}
+use lib.ListN.{length, drop, length-take, length-drop, List·getD-append}
 use lib.Seq.{drop-append-le, take-append-le}
 use Rattle.bits.specs.Bits.{number}
 use Rattle.bits.proofs.FieldLaws.{fits-field}
 use Rattle.word.specs.Word.{dataOf, passes}
 use Rattle.frame.specs.Header.{preambled, nOf}
-use Rattle.frame.specs.Frames.{framed}
+use Rattle.frame.specs.Frames.{framed, afterPair}
 use Rattle.stream.specs.Standing.{wordAt, right, nAt, size, dataFrom, frameAt}
 
 -- two tests that both hold
@@ -57,7 +57,14 @@ data-append (suc n) k d e h =
 pub frame-append : (d e : List Bool) → 2 + 30 * size d ≤ length d → frameAt (d ++ e) ≡ frameAt d
 unfolding frameAt
 frame-append d e h =
-    rw (n-append d e (omega arith), word-append 0 d e (omega arith), word-append 1 d e (omega arith), data-append (nAt d) 2 d e (omega arith))
+    rw (
+      List·getD-append d e false 0 (omega arith),
+      List·getD-append d e false 1 (omega arith),
+      n-append d e (omega arith),
+      word-append 0 d e (omega arith),
+      word-append 1 d e (omega arith),
+      data-append (nAt d) 2 d e (omega arith),
+    )
 
 -- ---- the data words
 
@@ -74,7 +81,7 @@ data-more (suc n) k d = ap (λ t. number (dataOf (wordAt k d)) ∷ t) (data-more
 
 -- N of the frame that stands is N of its second word
 pub frame-n : (d : List Bool) → frameAt d .n ≡ nAt d
-unfolding frameAt framed
+unfolding frameAt framed afterPair
 frame-n d = length-dataFrom (nAt d) 2 d
 
 -- ---- when a word is right

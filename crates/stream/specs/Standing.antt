@@ -6,10 +6,11 @@ use mathlib.Core.List.{List, [], _∷_}
 use Prim.Native.Nat.{ℕ, zero, suc, _+_, _-_, _*_, _≤_, _<_}
 use lib.Dec.{leb}
 use lib.ListN.{length, take, drop}
-use Rattle.bits.specs.Bits.{number}
-use Rattle.word.specs.Word.{dataOf, passes}
+use Rattle.bits.specs.Bits.{val, number}
+use Rattle.word.specs.Word.{d29*, d30*, dataOf, passes}
 use Rattle.frame.specs.Header.{preambled, nOf, headerOf}
-use Rattle.frame.specs.Frames.{framed}
+use Rattle.frame.specs.Frames.{framed, afterPair, turnedFrame}
+use Rattle.frame.specs.declared.Carried.{Carried}
 use Rattle.frame.specs.declared.Frame.{Frame}
 
 -- ---- the words of a position
@@ -40,9 +41,13 @@ unfoldable pub dataFrom : ℕ → ℕ → List Bool → List ℕ
 dataFrom zero k d = []
 dataFrom (suc n) k d = number (dataOf (wordAt k d)) ∷ dataFrom n (suc k) d
 
--- the frame that stands there: the header of its first two words, and the N words after them
+-- the two bits before it
+abbrev pub pairBefore : List Bool → Carried
+pairBefore d = record { d29 = val (d29* d); d30 = val (d30* d) }
+
+-- the frame that stands there: the two bits before it, the header of its first two words, and the N words after them
 unfoldable pub frameAt : List Bool → Frame
-frameAt d = framed (headerOf (dataOf (wordAt 0 d)) (dataOf (wordAt 1 d))) (dataFrom (nAt d) 2 d)
+frameAt d = afterPair (pairBefore d) (framed (headerOf (dataOf (wordAt 0 d)) (dataOf (wordAt 1 d))) (dataFrom (nAt d) 2 d))
 
 -- a frame and the position of its first bit in the whole stream
 pub record Placed : Type 0 where
@@ -51,6 +56,10 @@ pub record Placed : Type 0 where
 
 unfoldable pub placed : ℕ → List Bool → Placed
 placed p d = record { at = p; frame = frameAt d }
+
+-- it on the line turned over: the same place, the pair turned
+abbrev pub turnedPlaced : Placed → Placed
+turnedPlaced h = record { at = h .at; frame = turnedFrame (h .frame) }
 
 -- the bit after its last
 abbrev pub endOf : Placed → ℕ

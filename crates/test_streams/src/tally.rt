@@ -4,12 +4,12 @@ use crate::again::made_again;
 use crate::sum::Sum;
 use crate::sum::with_bytes;
 use crate::sum::zero;
+use frame::Carried;
 use frame::Frame;
 use journal::Found;
 use libc::STDOUT_FILENO;
 use reader::Reader;
 use record_stages::Making;
-use writer::Carried;
 use writer::Written;
 
 // Frames counted, the sums of the bytes kept and written and of the fields read, and the bits carried on.

@@ -1,9 +1,9 @@
 // Writes worked frames and prints the bytes of each stream, lead byte first, to be compared with the table of vectors.
+use frame::Carried;
 use frame::Frame;
 use frame::Header;
 use frame::State;
 use libc::STDOUT_FILENO;
-use writer::Carried;
 use writer::Opened;
 use writer::Written;
 

@@ -20,7 +20,7 @@ use Rattle.frame.proofs.HeaderLaws.{words-answered}
 use Rattle.frame.proofs.FrameLaws.{header-within, n-within, below-words, length-words}
 use Rattle.writer.specs.Sending.{sentBits, bitsAfter, carriedOn, bytesFor, lineLength, sentAfter, bytesAfter, pairAfter}
 use Rattle.writer.specs.Answer.{over, writeChecks, writtenBy, writtenTo}
-use Rattle.writer.specs.declared.Carried.{Carried}
+use Rattle.frame.specs.declared.Carried.{Carried}
 use Rattle.writer.specs.declared.Written.the-variants.{Done, Refused}
 use Rattle.writer.proofs.Bytes.{length-bytes, sets-over}
 use Rattle.writer.proofs.Carrying.{pair-29, pair-30, carried-pair}

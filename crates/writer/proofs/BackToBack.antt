@@ -7,23 +7,24 @@ use native.Mathlib.Omega.{arith}
 use lib.ListN.{length, drop, replicate, length-append}
 use lib.Seq.{drop-drop}
 use Rattle.bits.specs.Bits.{bits, number}
+use Rattle.bits.proofs.Xor.{one-val}
 use Rattle.bits.proofs.Numbers.{bits-number}
 use Rattle.word.specs.Word.{nth, d29*, d30*, dataOf, turnedBy, parity, sent}
 use Rattle.word.specs.Answer.{sentAt}
 use Rattle.frame.specs.Header.{preambled, firstWord, secondWord}
-use Rattle.frame.specs.Frames.{wordsOf, dataWords}
+use Rattle.frame.specs.Frames.{afterPair, wordsOf, dataWords}
 use Rattle.frame.specs.declared.Frame.{Frame}
 use Rattle.frame.specs.declared.Header.{Header}
 use Rattle.frame.proofs.HeaderLaws.{length-first}
 use Rattle.frame.proofs.FrameLaws.{length-words}
-use Rattle.stream.specs.Standing.{wordAt, Stands, frameAt, Placed, placed, scan, framesIn}
+use Rattle.stream.specs.Standing.{wordAt, Stands, pairBefore, frameAt, Placed, placed, scan, framesIn}
 use Rattle.stream.specs.Places.{StandsIn}
 use Rattle.stream.proofs.Words.{unlike, frame-n, right-first}
 use Rattle.stream.proofs.Scanning.{scan-miss, scan-hit, scan-short, only}
-use Rattle.writer.specs.Sending.{sentFrom, sentBits, bytesFor, sentAfter, bytesAfter, pairAfter}
-use Rattle.writer.specs.Streams.{Writable, AllWritable, allWords, streamBits, placesFrom}
+use Rattle.writer.specs.Sending.{sentFrom, sentBits, bitsAfter, carriedOn, bytesFor, sentAfter, bytesAfter, pairAfter}
+use Rattle.writer.specs.Streams.{Writable, AllWritable, allWords, streamBits, placesFrom, streamPlaces}
 use Rattle.writer.proofs.Bytes.{bytes-append}
-use Rattle.writer.proofs.Carrying.{length-sentAt, length-sentAfter, sent-next, carries-29, carries-30}
+use Rattle.writer.proofs.Carrying.{length-sentAt, length-sentAfter, sent-next, carries-29, carries-30, carried-bits}
 use Rattle.writer.proofs.Standing.{onward, later-words, written-stands, written-is}
 
 -- ---- words after words
@@ -87,25 +88,33 @@ module _ (c : ℕ) (f : Frame) (g : Writable f) (vs : List ℕ) (rest : List Boo
   frame-first : Stands d
   frame-first = subst Stands (sym split) (written-stands f (g .within) (g .full) (d29* (bits 2 c)) (d30* (bits 2 c)) after)
 
-  frame-is : frameAt d ≡ f
+  frame-is : frameAt d ≡ afterPair (pairBefore (bits 2 c)) f
   frame-is = ap frameAt split ∙ written-is f (g .within) (g .full) (d29* (bits 2 c)) (d30* (bits 2 c)) after
 
   scan-frame : (p : ℕ) → scan 0 p (from c (wordsOf f ++ vs) rest)
-      ≡ record { at = p; frame = f } ∷ scan 0 (p + 30 * (2 + f .n)) (from (pairAfter c (wordsOf f)) vs rest)
-  unfolding d placed
+      ≡ record { at = p; frame = afterPair (pairBefore (bits 2 c)) f } ∷ scan 0 (p + 30 * (2 + f .n)) (from (pairAfter c (wordsOf f)) vs rest)
+  unfolding d placed afterPair
   scan-frame p =
       scan-hit p d frame-first
       ∙ ap₂ (λ h n. record { at = p; frame = h } ∷ scan 0 (p + 30 * (2 + n)) (drop (30 * (2 + n)) d)) frame-is (sym (frame-n d) ∙ ap (λ h. h .n) frame-is)
-      ∙ ap (λ bs. record { at = p; frame = f } ∷ scan 0 (p + 30 * (2 + f .n)) bs)
+      ∙ ap (λ bs. record { at = p; frame = afterPair (pairBefore (bits 2 c)) f } ∷ scan 0 (p + 30 * (2 + f .n)) bs)
       (ap (λ n. drop (30 * n) d) (sym (length-words f (g .within) (g .full))) ∙ words-after c (wordsOf f) vs rest)
 
+-- the pair that the frame carries on
+pair-on : (c : ℕ) (f : Frame) → pairBefore (bits 2 (pairAfter c (wordsOf f))) ≡ carriedOn (bitsAfter (pairBefore (bits 2 c)) f)
+unfolding wordsOf
+pair-on c f =
+    sym (carried-bits c _ _)
+    ∙ ap₂ (λ a b. carriedOn (sentBits a b f)) (sym (one-val (d29* (bits 2 c)))) (sym (one-val (d30* (bits 2 c))))
+
 -- the scan from the two carried bits on
-scan-frames : (fs : List Frame) → AllWritable fs → (c p : ℕ) → scan 0 p (from c (allWords fs) []) ≡ placesFrom p fs
+scan-frames : (fs : List Frame) → AllWritable fs → (c p : ℕ) → scan 0 p (from c (allWords fs) []) ≡ placesFrom p (pairBefore (bits 2 c)) fs
 unfolding sentFrom
 scan-frames [] g c p = scan-short p (from c [] []) (omega arith)
 scan-frames (f ∷ fs) g c p =
     scan-frame c f (g .0) (allWords fs) [] p
-    ∙ ap (λ l. record { at = p; frame = f } ∷ l) (scan-frames fs (g .1) (pairAfter c (wordsOf f)) (p + 30 * (2 + f .n)))
+    ∙ ap (λ l. record { at = p; frame = afterPair (pairBefore (bits 2 c)) f } ∷ l)
+    (scan-frames fs (g .1) (pairAfter c (wordsOf f)) (p + 30 * (2 + f .n)) ∙ ap (λ k. placesFrom (p + 30 * (2 + f .n)) k fs) (pair-on c f))
 
 -- ---- the lead byte: with its zeros in front no preamble stands at positions 2 to 5
 
@@ -134,7 +143,7 @@ lead-scan h rest =
 
 -- ---- A STREAM OF THE LEAD BYTE AND FRAMES BACK TO BACK has each of them at its place, and no other frame
 
-pub stream-frames : (fs : List Frame) → AllWritable fs → framesIn (streamBits fs) ≡ placesFrom 6 fs
+pub stream-frames : (fs : List Frame) → AllWritable fs → framesIn (streamBits fs) ≡ streamPlaces fs
 unfolding sentFrom wordsOf bits
 stream-frames [] g = scan-short 2 (streamBits []) (omega arith)
 stream-frames (f ∷ fs) g =
@@ -153,5 +162,5 @@ stream-frames (f ∷ fs) g =
     starts = ap (λ ds. sent false false ds ++ rest) (bits-number 24 (firstWord (f .header)) (length-first (f .header)))
 
 -- each of them stands there
-pub each-stands : (fs : List Frame) → AllWritable fs → (h : Placed) → List·Memᴰ h (placesFrom 6 fs) → StandsIn 2 (streamBits fs) h
+pub each-stands : (fs : List Frame) → AllWritable fs → (h : Placed) → List·Memᴰ h (streamPlaces fs) → StandsIn 2 (streamBits fs) h
 each-stands fs g h m = only 0 2 (streamBits fs) h (subst (List·Memᴰ h) (sym (stream-frames fs g)) m)

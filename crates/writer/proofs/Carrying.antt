@@ -12,6 +12,7 @@ use Rattle.bits.proofs.Numbers.{bits-number, bits-mod, bits-last}
 use Rattle.word.specs.Word.{nth, d29*, d30*, sent}
 use Rattle.word.specs.Answer.{sentAt}
 use Rattle.word.proofs.Sending.{length-sent}
+use Rattle.stream.specs.Standing.{pairBefore}
 use Rattle.writer.specs.Sending.{sentFrom, carriedOn, bytesFor, sentAfter, bytesAfter, pairAfter}
 use Rattle.writer.proofs.Bytes.{bytes-append}
 
@@ -87,18 +88,20 @@ pair-30 a b p q = ap isNonzero low
     low = omega arith
 
 -- .. and back
-pair-bits : (s : List Bool) → length s ≡ 30 → carriedOn s ≡ record { d29 = number s % 4 / 2; d30 = number s % 4 % 2 }
+pair-halves : (k : ℕ) → k < 4 → pairBefore (bits 2 k) ≡ record { d29 = k / 2; d30 = k % 2 }
 unfolding bits
+pair-halves k h = ap₂ (λ a b. record { d29 = a; d30 = b }) high low
+  where
+    high : val (isOdd (k / 2)) ≡ k / 2
+    high = omega (arith, val-odd (k / 2))
+
+    low : val (isOdd (k / 1)) ≡ k % 2
+    low = omega (arith, val-odd (k / 1))
+
+pair-bits : (s : List Bool) → length s ≡ 30 → carriedOn s ≡ pairBefore (bits 2 (number s % 4))
 pair-bits s l =
     ap (λ n. record { d29 = val (getD s (n - 2) false); d30 = val (getD s (n - 1) false) }) l
     ∙ ap₂ (λ a b. record { d29 = val a; d30 = val b }) (sym (carries-29 s l)) (sym (carries-30 s l))
-    ∙ ap₂ (λ a b. record { d29 = a; d30 = b }) high low
-  where
-    high : val (isOdd (number s % 4 / 2)) ≡ number s % 4 / 2
-    high = omega (arith, val-odd (number s % 4 / 2))
-
-    low : val (isOdd (number s % 4 / 1)) ≡ number s % 4 % 2
-    low = omega (arith, val-odd (number s % 4 / 1))
 
 -- the last two bits of a list are those of its end
 carried-append : (s t : List Bool) → 2 ≤ length t → carriedOn (s ++ t) ≡ carriedOn t
@@ -110,11 +113,14 @@ carried-append s t h =
     far k e = omega (arith, length-append s t)
 
 -- the pair carried on is D29 and D30 of the last word
-pub carried-pair : (c w : ℕ) (ws : List ℕ)
-    → carriedOn (sentAfter c (w ∷ ws)) ≡ record { d29 = pairAfter c (w ∷ ws) / 2; d30 = pairAfter c (w ∷ ws) % 2 }
+pub carried-bits : (c w : ℕ) (ws : List ℕ) → carriedOn (sentAfter c (w ∷ ws)) ≡ pairBefore (bits 2 (pairAfter c (w ∷ ws)))
 unfolding sentFrom
-carried-pair c w [] = ap carriedOn (append-nil (sentAt c w)) ∙ pair-bits (sentAt c w) (length-sentAt c w)
-carried-pair c w (v ∷ ws) =
+carried-bits c w [] = ap carriedOn (append-nil (sentAt c w)) ∙ pair-bits (sentAt c w) (length-sentAt c w)
+carried-bits c w (v ∷ ws) =
     ap carriedOn (sent-next c w (v ∷ ws))
     ∙ carried-append (sentAt c w) (sentAfter (pairAfter c (w ∷ [])) (v ∷ ws)) (omega (arith, length-sentAfter (pairAfter c (w ∷ [])) (v ∷ ws)))
-    ∙ carried-pair (pairAfter c (w ∷ [])) v ws
+    ∙ carried-bits (pairAfter c (w ∷ [])) v ws
+
+pub carried-pair : (c w : ℕ) (ws : List ℕ)
+    → carriedOn (sentAfter c (w ∷ ws)) ≡ record { d29 = pairAfter c (w ∷ ws) / 2; d30 = pairAfter c (w ∷ ws) % 2 }
+carried-pair c w ws = carried-bits c w ws ∙ pair-halves (pairAfter c (w ∷ ws)) (pair-lt (pairAfter c (w ∷ [])) ws (omega arith))

@@ -1,4 +1,4 @@
--- What is written after any two carried bits stands, and is that frame. Assumes nothing.
+-- What is written after any two carried bits stands, and is that frame after these two. Assumes nothing.
 use mathlib.Core.Path.{_≡_, refl, sym, ap, ap₂, _∙_}
 use mathlib.Core.Bool.{Bool, true, false}
 use mathlib.Core.List.{List, [], _∷_, _++_}
@@ -12,12 +12,12 @@ use Rattle.bits.proofs.Numbers.{length-bits, number-bits, bits-number}
 use Rattle.word.specs.Word.{nth, dataOf, turnedBy, parity, passes, sent}
 use Rattle.word.proofs.Sending.{data-sent, passes-sent}
 use Rattle.frame.specs.Header.{preambled, nOf, headerOf, firstWord, secondWord}
-use Rattle.frame.specs.Frames.{framed, dataWords, wordsOf, frameOf, Below}
+use Rattle.frame.specs.Frames.{zeroPair, framed, afterPair, dataWords, wordsOf, frameOf, Below}
 use Rattle.frame.specs.Widths.{outside}
 use Rattle.frame.specs.declared.Frame.{Frame}
 use Rattle.frame.proofs.HeaderLaws.{length-first, length-second, n-words, first-preambled}
-use Rattle.frame.proofs.FrameLaws.{below-at, header-within, n-within, length-data, below-words, frame-words}
-use Rattle.stream.specs.Standing.{wordAt, right, nAt, Stands, dataFrom, frameAt}
+use Rattle.frame.proofs.FrameLaws.{below-at, header-within, n-within, length-data, below-words, frame-words, after-after}
+use Rattle.stream.specs.Standing.{wordAt, right, nAt, Stands, dataFrom, pairBefore, frameAt}
 use Rattle.stream.proofs.Data.{word-later}
 use Rattle.writer.specs.Sending.{sentFrom, sentBits}
 use Rattle.writer.proofs.Carrying.{length-sentFrom}
@@ -108,11 +108,13 @@ module _ (first second : ℕ) (vs : List ℕ) (p : preambled (bits 24 first) ≡
     each = λ k h. right-at k (omega (arith, n-sent));
   }
 
-  pub frame-sent : Below ws → frameAt d ≡ frameOf ws
+  pub frame-sent : Below ws → frameAt d ≡ afterPair (pairBefore d) (frameOf ws)
   unfolding frameAt frameOf
   frame-sent below =
-      ap₂ (λ x y. framed (headerOf x y) (dataFrom (nAt d) 2 d)) (data-at a b ws rest 0 (omega arith)) (data-at a b ws rest 1 (omega arith))
-      ∙ ap (framed (headerOf (bits 24 first) (bits 24 second))) (ap (λ n. dataFrom n 2 d) n-sent ∙ data-are a b ws rest below (length vs) 2 (omega arith))
+      ap₂ (λ x y. afterPair (pairBefore d) (framed (headerOf x y) (dataFrom (nAt d) 2 d)))
+      (data-at a b ws rest 0 (omega arith)) (data-at a b ws rest 1 (omega arith))
+      ∙ ap (λ vs. afterPair (pairBefore d) (framed (headerOf (bits 24 first) (bits 24 second)) vs))
+      (ap (λ n. dataFrom n 2 d) n-sent ∙ data-are a b ws rest below (length vs) 2 (omega arith))
 
 -- ---- WHAT IS WRITTEN STANDS, AND IS THAT FRAME: after any two carried bits, whatever follows
 
@@ -133,8 +135,9 @@ module _ (f : Frame) (o : outside f ≡ false) (full : length (f .words) ≡ 31)
   unfolding wordsOf
   written-stands = stands-sent (number (firstWord (f .header))) (number (secondWord (f .header) (f .n))) (dataWords f) starts counts a b rest
 
-  pub written-is : frameAt (a ∷ b ∷ (sentBits a b f ++ rest)) ≡ f
+  pub written-is : frameAt (a ∷ b ∷ (sentBits a b f ++ rest)) ≡ afterPair (pairBefore (a ∷ b ∷ [])) f
   unfolding wordsOf
   written-is =
       frame-sent (number (firstWord (f .header))) (number (secondWord (f .header) (f .n))) (dataWords f) starts counts a b rest (below-words f o)
-      ∙ frame-words f o full
+      ∙ ap (afterPair (pairBefore (a ∷ b ∷ []))) (frame-words f o full)
+      ∙ after-after (pairBefore (a ∷ b ∷ [])) zeroPair f

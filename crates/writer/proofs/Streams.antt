@@ -9,7 +9,7 @@ use borrow.Author.Tests.{le-ltb}
 use Rattle.answer.specs.Order.{NoneApplies}
 use Rattle.bits.specs.Bits.{bits}
 use Rattle.line.specs.Line.{six, lineBits}
-use Rattle.frame.specs.Frames.{wordsOf}
+use Rattle.frame.specs.Frames.{zeroPair, wordsOf}
 use Rattle.frame.specs.declared.Frame.{Frame}
 use Rattle.frame.proofs.FrameLaws.{length-words}
 use Rattle.stream.specs.Standing.{framesIn}
@@ -17,7 +17,7 @@ use Rattle.stream.specs.Places.{StandsIn}
 use Rattle.writer.specs.Sending.{bitsAfter, carriedOn, bytesFor, lineLength, sentAfter, bytesAfter, pairAfter}
 use Rattle.writer.specs.Answer.{over, lead, writeChecks, writtenTo}
 use Rattle.writer.specs.Streams.{Writable, AllWritable, allWords, streamBits, streamBytes, behind, writtenAll, streamTo, StreamWritten}
-use Rattle.writer.specs.declared.Carried.{Carried}
+use Rattle.frame.specs.declared.Carried.{Carried}
 use Rattle.writer.proofs.Bytes.{length-bytes, line-bytes, over-append, take-over, drop-over}
 use Rattle.writer.proofs.Carrying.{length-sentAfter, pair-lt, carried-pair}
 use Rattle.writer.proofs.Answers.{write-answers, bits-after}
@@ -94,7 +94,7 @@ pub stream-bytes : (fs : List Frame) → AllWritable fs → (l : List ℕ) → s
 stream-bytes fs g [] room = absurd (omega arith)
 stream-bytes fs g (x ∷ l) room =
     rw (le-ltb (suc (length l)) 1 (omega arith))
-    (ap (λ r. lead ∷ r) (all-written fs g (record { d29 = 0; d30 = 0 }) (omega arith) (omega arith) l (omega arith)))
+    (ap (λ r. lead ∷ r) (all-written fs g zeroPair (omega arith) (omega arith) l (omega arith)))
 
 module _ (fs : List Frame) (g : AllWritable fs) (l : List ℕ) (room : streamBytes fs ≤ length l) where
   counted : length (lead ∷ bytesAfter 0 (allWords fs)) ≡ streamBytes fs

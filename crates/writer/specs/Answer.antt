@@ -7,7 +7,7 @@ use Rattle.answer.specs.Order.{Says, refuses, answers, Check, inOrder}
 use Rattle.frame.specs.Widths.{outside, late}
 use Rattle.frame.specs.declared.Frame.{Frame}
 use Rattle.writer.specs.Sending.{bitsAfter, carriedOn, bytesFor, lineLength}
-use Rattle.writer.specs.declared.Carried.{Carried}
+use Rattle.frame.specs.declared.Carried.{Carried}
 use Rattle.writer.specs.declared.Written.{Written}
 use Rattle.writer.specs.declared.Written.the-variants as written
 use Rattle.writer.specs.declared.Opened.{Opened}

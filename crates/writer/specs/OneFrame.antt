@@ -4,15 +4,15 @@ use mathlib.Core.Bool.{Bool}
 use mathlib.Core.List.{List, _∷_, _++_}
 use Prim.Native.Nat.{ℕ, _*_}
 use lib.ListN.{take, drop}
-use Rattle.bits.specs.Bits.{val, isNonzero}
+use Rattle.bits.specs.Bits.{isNonzero}
 use Rattle.answer.specs.Order.{answers}
 use Rattle.line.specs.Line.{lineBits}
-use Rattle.word.specs.Word.{d29*, d30*}
+use Rattle.frame.specs.Frames.{afterPair}
 use Rattle.frame.specs.declared.Frame.{Frame}
-use Rattle.stream.specs.Standing.{size, Stands, frameAt}
+use Rattle.stream.specs.Standing.{size, Stands, pairBefore, frameAt}
 use Rattle.writer.specs.Sending.{carriedOn, lineLength}
 use Rattle.writer.specs.Answer.{writtenBy, writtenTo, saysWritten}
-use Rattle.writer.specs.declared.Carried.{Carried}
+use Rattle.frame.specs.declared.Carried.{Carried}
 
 -- the stream from two carried bits on: the bits of bytes, and whatever follows
 abbrev pub lineAfter : Carried → List ℕ → List Bool → List Bool
@@ -21,19 +21,15 @@ lineAfter c bytes rest = isNonzero (c .d29) ∷ isNonzero (c .d30) ∷ (lineBits
 -- WRITTEN: k bytes at the front of the buffer, after the carried pair c; c′ is the pair carried on
 pub record Wrote (f : Frame) (c : Carried) (buffer : List ℕ) (k : ℕ) (c′ : Carried) : Type 0 where
   pub count : k ≡ lineLength f
-  -- whatever follows, they stand after the two carried bits, and are that frame
+  -- whatever follows, they stand after the two carried bits, and are that frame after these
   pub stands : (rest : List Bool) → Stands (lineAfter c (take k (writtenTo f c buffer)) rest)
-  pub is : (rest : List Bool) → frameAt (lineAfter c (take k (writtenTo f c buffer)) rest) ≡ f
+  pub is : (rest : List Bool) → frameAt (lineAfter c (take k (writtenTo f c buffer)) rest) ≡ afterPair c f
   -- their last two bits are carried on
   pub last : c′ ≡ carriedOn (lineBits (take k (writtenTo f c buffer)))
   -- the rest of the buffer is as it was
   pub kept : drop k (writtenTo f c buffer) ≡ drop k buffer
 
 -- ---- a frame that stands: d is the stream from two bits before it
-
--- those two bits
-abbrev pub pairBefore : List Bool → Carried
-pairBefore d = record { d29 = val (d29* d); d30 = val (d30* d) }
 
 -- its own bits
 abbrev pub itsBits : List Bool → List Bool

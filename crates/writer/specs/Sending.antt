@@ -9,7 +9,7 @@ use Rattle.word.specs.Word.{nth, d29*, d30*, sent}
 use Rattle.word.specs.Answer.{sentAt}
 use Rattle.frame.specs.Frames.{wordsOf}
 use Rattle.frame.specs.declared.Frame.{Frame}
-use Rattle.writer.specs.declared.Carried.{Carried}
+use Rattle.frame.specs.declared.Carried.{Carried}
 
 -- the bits of words sent after the carried bits a, b: D29 and D30 of each word are the carried bits of the next
 unfoldable pub sentFrom : Bool → Bool → List ℕ → List Bool

@@ -5,14 +5,14 @@ use mathlib.Core.List.{List, [], _∷_, _++_, List·Memᴰ}
 use Prim.Native.Nat.{ℕ, _+_, _*_}
 use lib.ListN.{length, take, drop, replicate}
 use Rattle.line.specs.Line.{lineBits}
-use Rattle.frame.specs.Frames.{wordsOf}
+use Rattle.frame.specs.Frames.{zeroPair, afterPair, wordsOf}
 use Rattle.frame.specs.Widths.{outside, late}
 use Rattle.frame.specs.declared.Frame.{Frame}
 use Rattle.stream.specs.Standing.{Placed, framesIn}
 use Rattle.stream.specs.Places.{StandsIn}
-use Rattle.writer.specs.Sending.{sentFrom}
+use Rattle.writer.specs.Sending.{sentFrom, bitsAfter, carriedOn}
 use Rattle.writer.specs.Answer.{openedTo, writtenBy, writtenTo}
-use Rattle.writer.specs.declared.Carried.{Carried}
+use Rattle.frame.specs.declared.Carried.{Carried}
 use Rattle.writer.specs.declared.Written.{Written}
 use Rattle.writer.specs.declared.Written.the-variants.{Done, Refused}
 
@@ -39,10 +39,14 @@ streamBits fs = replicate 6 false ++ sentFrom false false (allWords fs)
 abbrev pub streamBytes : List Frame → ℕ
 streamBytes fs = 1 + 5 * length (allWords fs)
 
--- THE PLACES: each frame begins where the one before it ends, the first at p
-abbrev pub placesFrom : ℕ → List Frame → List Placed
-placesFrom p [] = []
-placesFrom p (f ∷ fs) = record { at = p; frame = f } ∷ placesFrom (p + 30 * (2 + f .n)) fs
+-- THE PLACES: each frame begins where the one before it ends, after the pair that it carries on; the first at p, after c
+abbrev pub placesFrom : ℕ → Carried → List Frame → List Placed
+placesFrom p c [] = []
+placesFrom p c (f ∷ fs) = record { at = p; frame = afterPair c f } ∷ placesFrom (p + 30 * (2 + f .n)) (carriedOn (bitsAfter c f)) fs
+
+-- those of a stream: the lead byte ends in two zero bits
+abbrev pub streamPlaces : List Frame → List Placed
+streamPlaces fs = placesFrom 6 zeroPair fs
 
 -- ---- the calls: a caller writes each frame behind the bytes of the one before, with the pair that it carried on, and stops when refused
 abbrev pub behind : Written → List ℕ → (Carried → List ℕ → List ℕ) → List ℕ
@@ -53,15 +57,15 @@ abbrev pub writtenAll : List Frame → Carried → List ℕ → List ℕ
 writtenAll [] c buffer = buffer
 writtenAll (f ∷ fs) c buffer = behind (writtenBy f c buffer) (writtenTo f c buffer) (writtenAll fs)
 
--- opened first: the lead byte ends in two zero bits
+-- opened first
 abbrev pub streamTo : List Frame → List ℕ → List ℕ
-streamTo fs buffer = take 1 (openedTo buffer) ++ writtenAll fs (record { d29 = 0; d30 = 0 }) (drop 1 (openedTo buffer))
+streamTo fs buffer = take 1 (openedTo buffer) ++ writtenAll fs zeroPair (drop 1 (openedTo buffer))
 
 -- WHAT IS PROMISED of such a stream
 pub record StreamWritten (fs : List Frame) (buffer : List ℕ) : Type 0 where
   pub bits : lineBits (take (streamBytes fs) (streamTo fs buffer)) ≡ streamBits fs
   -- each frame stands at its place, and no other frame is found
-  pub each : (h : Placed) → List·Memᴰ h (placesFrom 6 fs) → StandsIn 2 (lineBits (take (streamBytes fs) (streamTo fs buffer))) h
-  pub places : framesIn (lineBits (take (streamBytes fs) (streamTo fs buffer))) ≡ placesFrom 6 fs
+  pub each : (h : Placed) → List·Memᴰ h (streamPlaces fs) → StandsIn 2 (lineBits (take (streamBytes fs) (streamTo fs buffer))) h
+  pub places : framesIn (lineBits (take (streamBytes fs) (streamTo fs buffer))) ≡ streamPlaces fs
   -- the rest of the buffer is as it was
   pub kept : drop (streamBytes fs) (streamTo fs buffer) ≡ drop (streamBytes fs) buffer

@@ -2,24 +2,18 @@
 use mathlib.Core.Path.{_≡_}
 use mathlib.Core.List.{[], _∷_}
 use lib.ListN.{replicate}
+use Rattle.frame.specs.Frames.{zeroPair, builtOf}
 use Rattle.frame.specs.declared.Frame.{Frame}
 use Rattle.frame.specs.declared.State.the-variants.{Factor}
 use Rattle.writer.specs.Answer.{openedBy, openedTo, writtenBy, writtenTo}
 use Rattle.writer.specs.Streams.{streamTo}
-use Rattle.writer.specs.declared.Carried.{Carried}
+use Rattle.frame.specs.declared.Carried.{Carried}
 use Rattle.writer.specs.declared.Opened.the-variants as opened
 use Rattle.writer.specs.declared.Written.the-variants as written
 
 -- type 6, station 5, Z count 100, sequence 3, health 0
 abbrev pub workedFrame : Frame
-workedFrame = record {
-  header = record { kind = 6; station = 5; z = 100; sequence = 3; state = Factor 100 };
-  n = 0;
-  words = replicate 31 0;
-}
-
-abbrev pub zeroPair : Carried
-zeroPair = record { d29 = 0; d30 = 0 }
+workedFrame = builtOf (record { kind = 6; station = 5; z = 100; sequence = 3; state = Factor 100 }) 0 (replicate 31 0)
 
 abbrev pub onePair : Carried
 onePair = record { d29 = 1; d30 = 1 }

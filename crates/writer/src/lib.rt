@@ -1,4 +1,5 @@
 // The way back: frames to line bytes, six bits a byte, each word after the last two bits of the one before.
+use frame::Carried;
 use frame::Clock;
 use frame::Frame;
 use frame::HeaderWords;
@@ -13,12 +14,6 @@ ghost use Rattle.bits.specs.Bits.{bits};
 ghost use Rattle.frame.specs.Frames.{Below};
 ghost use Rattle.writer.specs.Sending.{bytesFor, bytesAfter, pairAfter};
 ghost use Rattle.writer.specs.Answer.{openedBy, openedTo, writtenBy, writtenTo};
-
-// The two carried bits, each 0 or 1.
-pub struct Carried {
-    pub d29: u8,
-    pub d30: u8,
-}
 
 // The lead byte is written, or the refusal's number.
 pub enum Opened {
@@ -119,7 +114,7 @@ fn put_frame(
     put_words(words, n, next, 10, buffer)
 }
 
-// Writes a frame after the carried pair, at the front of the buffer.
+// Writes a frame after the carried pair, at the front of the buffer. The frame's own pair is not looked at, but for its width.
 pub fn write(frame: Frame, carried: Carried, buffer: &mut [u8]) -> Written
     ensures { λ r. ⌜ r ≡ writtenBy frame carried (now (buffer .entry)) ⌝ }
     ensures { λ _. ⌜ now (buffer .exit) ≡ writtenTo frame carried (now (buffer .entry)) ⌝ }

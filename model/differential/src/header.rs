@@ -20,6 +20,8 @@ unsafe extern "C" {
         frame_size: usize,
         length: *mut usize,
         at: *mut u32,
+        d29: *mut u8,
+        d30: *mut u8,
     ) -> u8;
     pub fn rtcm2_open(line: *mut u8, line_size: usize) -> u8;
     pub fn rtcm2_write(

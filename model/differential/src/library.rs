@@ -58,9 +58,11 @@ fn reader(call: &mut Call) -> u8 {
         }
         Function::End => unsafe { rtcm2_end(state, size) },
         Function::Take => {
-            let [frame, length, position] = of(rest);
+            let [frame, length, position, d29, d30] = of(rest);
             let (room, frame) = (frame.size(), at(frame));
-            unsafe { rtcm2_take(state, size, frame, room, at(length), at(position)) }
+            let (length, position) = (at(length), at(position));
+            let (d29, d30) = (at(d29), at(d30));
+            unsafe { rtcm2_take(state, size, frame, room, length, position, d29, d30) }
         }
         other => unreachable!("{other:?}"),
     }

@@ -3,7 +3,8 @@
 use crate::call::{Call, Function};
 use crate::place::Place;
 use rtcm2_model::library::frames::{self, Recalled};
-use rtcm2_model::library::{line, lists, numbers, records};
+use rtcm2_model::library::line::{self, Taking};
+use rtcm2_model::library::{lists, numbers, records};
 use rtcm2_model::record::position::Position;
 
 /// Makes the call and gives its answer.
@@ -52,8 +53,14 @@ fn reader(call: &mut Call) -> u8 {
         }
         Function::End => line::end(state),
         Function::Take => {
-            let [frame, length, at] = of(rest);
-            line::take(state, frame.bytes(), length.number(), at.number())
+            let [frame, length, at, d29, d30] = of(rest);
+            let into = Taking {
+                length: length.number(),
+                at: at.number(),
+                d29: d29.number(),
+                d30: d30.number(),
+            };
+            line::take(state, frame.bytes(), into)
         }
         other => unreachable!("{other:?}"),
     }

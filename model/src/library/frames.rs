@@ -1,7 +1,7 @@
 //! Frames of any type and their journal records.
 
 use super::{keep_frame, numbered, Head};
-use crate::frame::{Frame, MOST_WORDS};
+use crate::frame::{CarriedBits, Frame, MOST_WORDS};
 use crate::journal;
 use crate::refusal::{refuse_if, Answer, Refusal};
 
@@ -17,9 +17,13 @@ fn kept(head: Head, data: &[u8], frame: &mut [u8], length: &mut usize) -> Answer
     for (word, three) in words.iter_mut().zip(data.chunks_exact(3)) {
         *word = u32::from_be_bytes([0, three[0], three[1], three[2]]);
     }
-    let header = head.header()?;
-    let n = n as u8;
-    keep_frame(&Frame { header, n, words }, frame, length)
+    let given = Frame {
+        header: head.header()?,
+        carried: CarriedBits::ZEROS,
+        n: n as u8,
+        words,
+    };
+    keep_frame(&given, frame, length)
 }
 
 /// What `recall` sets.

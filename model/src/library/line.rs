@@ -2,8 +2,9 @@
 
 use super::state::{State, SIZE};
 use super::{frame_in, keep_frame, numbered};
+use crate::frame::CarriedBits;
 use crate::refusal::{refuse_if, Answer, Refusal};
-use crate::writer::{self, CarriedBits};
+use crate::writer;
 
 /// How many bytes a state takes.
 pub fn state_size() -> usize {
@@ -40,12 +41,26 @@ pub fn end(state: &mut [u8]) -> u8 {
     numbered(changed(state, State::finish))
 }
 
+/// What `take` sets beside the frame's record.
+pub struct Taking<'a> {
+    /// Length of the record.
+    pub length: &'a mut usize,
+    /// First bit position.
+    pub at: &'a mut u32,
+    /// D29* of the frame.
+    pub d29: &'a mut u8,
+    /// D30* of the frame.
+    pub d30: &'a mut u8,
+}
+
 /// Takes the frame that waits. Refuses with 5, 4, 13.
-pub fn take(state: &mut [u8], frame: &mut [u8], length: &mut usize, at: &mut u32) -> u8 {
+pub fn take(state: &mut [u8], frame: &mut [u8], into: Taking) -> u8 {
     numbered(changed(state, |reader| {
         let taken = reader.take()?;
-        keep_frame(&taken.frame, frame, length)?;
-        *at = taken.position;
+        keep_frame(&taken.frame, frame, into.length)?;
+        *into.at = taken.position;
+        *into.d29 = taken.frame.carried.d29;
+        *into.d30 = taken.frame.carried.d30;
         Ok(())
     }))
 }

@@ -130,7 +130,7 @@ impl State {
         let words: Vec<u32> = (0..size).map(|k| window::data(self.word(k))).collect();
         let taken = Taken {
             position: self.at,
-            frame: Frame::of_words(&words),
+            frame: Frame::of_words(&words).after(window::carried(self.word(0))),
         };
         self.leave(30 * size);
         self.words = 0;

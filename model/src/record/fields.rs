@@ -1,7 +1,7 @@
 //! Fields in the data bits of a frame's words, read and laid out bit by bit,
 //! first sent bit highest.
 
-use crate::frame::{Frame, Header, MOST_WORDS};
+use crate::frame::{CarriedBits, Frame, Header, MOST_WORDS};
 use crate::word::bits_of;
 
 /// The data bits of a frame's N words, in order.
@@ -75,6 +75,7 @@ impl Layer {
         }
         Frame {
             header: *header,
+            carried: CarriedBits::ZEROS,
             n: (self.bits.len() / 24) as u8,
             words,
         }

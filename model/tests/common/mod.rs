@@ -1,8 +1,9 @@
-//! What several tests begin with: a header of any type, and a frame of it
-//! whose N data words are zeros.
+//! What several tests share: a header of any type, a frame of it whose N data
+//! words are zeros, and a frame of the turned line.
 
-use rtcm2_model::frame::{Frame, Header, State};
+use rtcm2_model::frame::{CarriedBits, Frame, Header, State};
 
+#[allow(dead_code)] // used by most tests
 pub fn header(type_number: u16) -> Header {
     Header {
         type_number,
@@ -17,7 +18,18 @@ pub fn header(type_number: u16) -> Header {
 pub fn frame(type_number: u16, n: u8) -> Frame {
     Frame {
         header: header(type_number),
+        carried: CarriedBits::ZEROS,
         n,
         words: [0; 31],
     }
+}
+
+/// The frame that the turned line has where the line has this one: its two carried
+/// bits are turned and nothing else.
+#[allow(dead_code)] // used where streams are turned
+pub fn turned(frame: Frame) -> Frame {
+    frame.after(CarriedBits {
+        d29: 1 - frame.carried.d29,
+        d30: 1 - frame.carried.d30,
+    })
 }

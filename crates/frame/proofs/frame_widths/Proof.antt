@@ -1,4 +1,4 @@
--- `frame_widths` meets its contract: the four tests in the order of the definition. Assumes nothing.
+-- `frame_widths` meets its contract: the five tests in the order of the definition. Assumes nothing.
 use mathlib.Core.Path.{sym, _∙_}
 use borrow.Author.Needs.{needs}
 use borrow.Author.Tests.{lt-ltb, le-ltb}
@@ -41,18 +41,35 @@ returns-4 c =
 returns-5 : tie.Need-returns-5
 unfolding outside
 returns-5 c =
-    let w = c .before .before .before in
+    let p = c .before .before .before in
+    let w = p .before .before .before in
     let n = w .before .before .before .before in
     simp (
       sym (n .before .before .header-outside .ensures) ∙ n .before .if1 .left,
       le-ltb _ _ (n .if2 .left),
       sym (w .before .any-from .ensures) ∙ w .if3 .left,
       any-nonzero,
-      sym (c .before .any-from2 .ensures) ∙ c .if4 .left,
+      sym (p .before .any-from2 .ensures) ∙ p .if4 .left,
+      sym (c .before .carried-outside .ensures) ∙ c .if5 .taken,
+    )
+
+returns-6 : tie.Need-returns-6
+unfolding outside
+returns-6 c =
+    let p = c .before .before .before in
+    let w = p .before .before .before in
+    let n = w .before .before .before .before in
+    simp (
+      sym (n .before .before .header-outside .ensures) ∙ n .before .if1 .left,
+      le-ltb _ _ (n .if2 .left),
+      sym (w .before .any-from .ensures) ∙ w .if3 .left,
+      any-nonzero,
+      sym (p .before .any-from2 .ensures) ∙ p .if4 .left,
+      sym (c .before .carried-outside .ensures) ∙ c .if5 .left,
     )
 
 pub frame-widths-spec : {M : Type 1} → statement M
 frame-widths-spec =
     tie.close
     (tie.spec (λ c κs. search needs) returns returns-2 (λ c κs. search needs) returns-3 (λ c κs. search needs)
-    returns-4 returns-5)
+    returns-4 (λ c κs. search needs) returns-5 returns-6)

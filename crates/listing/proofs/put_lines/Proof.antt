@@ -55,7 +55,7 @@ returns c =
     (e .0, ((omega (arith, used-le (v .state) (drop (v .used) bs) _ fed, length-drop (v .used) bs), omega arith), e .1))
 
 put-frame-requires : tie.Need-put-frame-requires Inv-loop μ-loop
-put-frame-requires c κs = (taken-inside _ _ (c .before .before .before .take .ensures), omega arith)
+put-frame-requires c κs = let inside = taken-inside _ _ (c .before .before .before .take .ensures) in (inside .0, inside .1, omega arith)
 
 loop-again : tie.Need-loop-again Inv-loop μ-loop
 loop-again c =

@@ -57,8 +57,11 @@ in-time c =
     let w = within (widths c) in
     (w .0, (w .1 .0, (w .1 .1 .0, (told-hour _ (sym (c .enum-told4 .given .1) ∙ c .before .before .clock-of .ensures), tt))))
 
+whole : (s : tie.Start) → length (s .args .frame .words) ≡ 31
+whole s = search needs
+
 full : (c : tie.After-put-frame-arg) → length (start (bits (widths (clock c))) .args .frame .words) ≡ 31
-full c = search needs
+full c = whole (start (bits (widths (clock c))))
 
 -- ---- the refusals
 

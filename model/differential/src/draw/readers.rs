@@ -6,6 +6,7 @@ use super::states::forged;
 use super::{numbers, parts, room};
 use crate::call::{Call, Function};
 use crate::place::Place;
+use rtcm2_model::journal;
 use rtcm2_model::library::line;
 use rtcm2_model::library::state::State;
 use rtcm2_model::refusal::Refusal;
@@ -117,7 +118,7 @@ impl Reader {
             }
             Function::Take => {
                 lent.push(room(rng, self.frame_length()));
-                lent.extend(numbers(rng, 2));
+                lent.extend(numbers(rng, 4));
             }
             _ => {}
         }
@@ -146,8 +147,7 @@ impl Reader {
 
     /// The length of the frame that waits, or of the shortest.
     fn frame_length(&self) -> usize {
-        let (mut frame, mut length, mut at) = ([0; 102], 9, 0);
-        line::take(&mut self.state.clone(), &mut frame, &mut length, &mut at);
-        length
+        let taken = State::read(&self.state).and_then(|mut state| state.take());
+        taken.map_or(9, |taken| journal::length_for(taken.frame.n.into()))
     }
 }

@@ -1,4 +1,4 @@
--- `put_numbers` meets its contract: by a loop that stores a number and what stands after it. Assumes nothing.
+-- `put_numbers` meets its contract: by a loop that stores a number and the space after it. Assumes nothing.
 use mathlib.Core.Path.{_≡_, refl, sym, ap, _∙_}
 use mathlib.Core.List.{[]}
 use Prim.Native.Nat.{_+_, _-_, _*_, _≤_}
@@ -12,7 +12,7 @@ use Rattle.printing.specs.Printing.{decimal}
 use Rattle.printing.proofs.DigitLaws.{decimal-le}
 use Rattle.printing.proofs.PutLaws.{told, not-refused}
 use Rattle.printing.proofs.StoreLaws.{length-stored, length-marked}
-use Rattle.listing.specs.Text.{spaced}
+use Rattle.listing.specs.Text.{space, spaced}
 use Rattle.listing.proofs.TextLaws.{store-spaced, length-spaced}
 use Rattle.listing.proofs.text.put_numbers.Statement.{statement}
 use Rattle.listing.proofs.text.put_numbers.Tie as tie
@@ -41,7 +41,7 @@ returns c =
 
 slice-write-buffer : tie.Need-slice-write-buffer Inv-loop μ-loop
 slice-write-buffer c =
-    let is = c .before .before in
+    let is = c .before in
     let p = is .before .before .before .before in
     let l = p .before .before .before .before in
     let v = l .loop in
@@ -51,7 +51,7 @@ slice-write-buffer c =
 
 add-next : tie.Need-add-next Inv-loop μ-loop
 add-next c =
-    let is = c .before .before in
+    let is = c .before in
     let p = is .before .before .before .before in
     let l = p .before .before .before .before in
     let v = l .loop in
@@ -61,7 +61,7 @@ add-next c =
 
 loop-again : tie.Need-loop-again Inv-loop μ-loop
 loop-again c =
-    let is = c .before .before in
+    let is = c .before in
     let end = is .end .given in
     let p = is .before .before .before .before in
     let l = p .before .before .before .before in
@@ -70,11 +70,11 @@ loop-again c =
     let ns = now (s .args .numbers) in
     let n = getD ns (v .i) 0 in
     let it = told (decimal n) (v .next) (v .buffer) 20 (decimal-le n) (omega arith) _ _ (p .put-number .ensures) _ (end .1) in (
-      v .inv .0 ∙ store-spaced (v .buffer) ns (v .next) (v .i) 6 (s .pre .0) (omega arith) _ (it .2) _ (it .0) _ (c .after-number .ensures),
-      omega (arith, v .inv .1, it .0, length-spaced ns (v .i) 6 (s .pre .0) (omega arith)),
+      v .inv .0 ∙ store-spaced (v .buffer) ns (v .next) (v .i) (omega (arith, s .pre .0)) _ (it .2) _ (it .0),
+      omega (arith, v .inv .1, it .0, length-spaced ns (v .i) (omega (arith, s .pre .0))),
       omega arith,
       omega (arith, it .1),
-      length-marked (v .buffer) (v .next) (decimal n) _ (it .2) (end .0 .0) (c .after-number .result) ∙ v .inv .4,
+      length-marked (v .buffer) (v .next) (decimal n) _ (it .2) (end .0 .0) space ∙ v .inv .4,
     )
 
 returns-2 : tie.Need-returns-2 Inv-loop μ-loop
@@ -92,5 +92,5 @@ pub put-numbers-spec : {M : Type 1} → statement M
 put-numbers-spec =
     tie.close
     (tie.spec Inv-loop μ-loop loop-holds (λ c. omega arith) (λ c. omega arith) (λ c κs. search needs)
-    (λ c. search needs) (λ c. search needs) (λ c. search needs) returns (λ c κs. search needs) slice-write-buffer
+    (λ c. search needs) (λ c. search needs) (λ c. search needs) returns slice-write-buffer
     add-next (λ c. omega arith) (λ c. omega arith) loop-again (λ c. c .before .loop .inv .4) returns-2)

@@ -21,11 +21,11 @@ use Rattle.reader.proofs.taking.filled.Tie as tie
 
 -- k data words are there, and all words up to them are right
 abbrev Inv-loop : tie.InvT-loop
-Inv-loop cells end held header n first words₀ k₀ words k =
+Inv-loop cells end held header carried n first words₀ k₀ words k =
     (k ≤ n) × (words ≡ gathered k (heldBits cells end held)) × RightTo (2 + k) (heldBits cells end held)
 
 abbrev μ-loop : tie.MeasureT-loop
-μ-loop cells end held header n first words₀ k₀ words k = n - k
+μ-loop cells end held header carried n first words₀ k₀ words k = n - k
 
 loop-holds : tie.Need-loop-holds Inv-loop μ-loop
 loop-holds c = (omega arith, gather-none _, c .pre .3 .right)
@@ -77,7 +77,7 @@ returns-2 c =
     let h = c .before .loop in
     let d = heldBits (now (a .cells)) (a .end) (a .held) in
     let all : h .k ≡ a .n = omega arith in
-    let frame = frame-law d (a .header) (a .n) (h .words) (s .pre .3 .words) (s .pre .3 .count) (h .inv .1 ∙ ap (λ k. gathered k d) all) in
+    let frame = frame-law d (a .header) (a .carried) (a .n) (h .words) (s .pre .3) (h .inv .1 ∙ ap (λ k. gathered k d) all) in
     let right = subst (λ k. RightTo (2 + k) d) (all ∙ s .pre .3 .count) (h .inv .2) in
     let come : 62 + 30 * nAt d ≤ length d = omega
     (arith, s .pre .3 .count, length-held (now (a .cells)) (a .end) (a .held) (s .pre .0) (s .pre .1) (s .pre .2)) in

@@ -64,7 +64,8 @@ returns-4 c =
 
 filled-requires : tie.Need-filled-requires
 filled-requires c κs =
-    let data2 = c .before in
+    let headed = c .before in
+    let data2 = headed .before in
     let data1 = data2 .before in
     let second = data1 .before .before in
     let first = second .before .before in
@@ -77,7 +78,9 @@ filled-requires c κs =
     (two .window2 .result) (counted .n-in .result)
     (one .window .ensures) (two .window2 .ensures) (counted .n-in .ensures)
     (sym (not-false _ (second .before .if3 .left)) ∙ first .headed .ensures) (sym (not-false _ (data1 .before .if4 .left)) ∙ second .passes .ensures)
-    (data1 .data-of .result) (data2 .data-of2 .result) (data1 .data-of .ensures) (data2 .data-of2 .ensures) (c .header-of .result) (c .header-of .ensures) in
+    (data1 .data-of .result) (data2 .data-of2 .result) (data1 .data-of .ensures) (data2 .data-of2 .ensures)
+    (headed .header-of .result) (headed .header-of .ensures)
+    (c .pair-of .result) (c .pair-of .ensures) in
     (s .pre .0, s .pre .1, s .pre .2, header, first .before .if2 .left)
 
 pub standing-spec : {M : Type 1} → statement M
@@ -86,4 +89,4 @@ standing-spec =
     (tie.spec (λ c κs. search needs) returns (λ c. search needs) (λ c κs. search needs) (λ c. search needs) (λ c. search needs) (λ c κs. search needs)
     (λ c κs. search needs) mul-if2 add-if2 (λ c κs. search needs) returns-2 (λ c κs. search needs) (λ c κs. search needs) returns-3
     (λ c κs. search needs) (λ c κs. search needs) returns-4 (λ c κs. search needs) (λ c κs. search needs) (λ c κs. search needs)
-    filled-requires (λ c. search needs))
+    (λ c κs. search needs) filled-requires (λ c. search needs))

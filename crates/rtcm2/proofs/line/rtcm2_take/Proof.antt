@@ -2,16 +2,18 @@
 -- Assumes nothing.
 use mathlib.Core.Path.{_≡_, refl, sym, ap, _∙_}
 use mathlib.Core.Bool.{true}
+use mathlib.Core.List.{List}
 use Prim.Native.Nat.{ℕ}
 use denote.Ref.{now}
 use borrow.Author.Needs.{needs}
 use borrow.Author.Tests.{not-true, not-false}
-use Rattle.answer.specs.Order.{answers}
+use Rattle.answer.specs.Order.{refuses, answers}
 use Rattle.reader.specs.Reading.{takenBy}
 use Rattle.reader.specs.declared.Taken.{Taken}
 use Rattle.journal.specs.Journal.{heldBy}
 use Rattle.rtcm2_state.specs.State.{holdsState, stateIn, startPut}
-use Rattle.rtcm2.specs.Line.{readBy}
+use Rattle.rtcm2.specs.Answer.{left}
+use Rattle.rtcm2.specs.Line.{readBy, takenIn}
 use Rattle.rtcm2.proofs.LineLaws.{
   number-refused,
   number-answered,
@@ -28,9 +30,29 @@ use Rattle.rtcm2.proofs.LineLaws.{
 use Rattle.rtcm2.proofs.line.rtcm2_take.Statement.{statement}
 use Rattle.rtcm2.proofs.line.rtcm2_take.Tie as tie
 
--- the length of the record, and what taking left
+-- the length of the record, and what taking left; what goes into each place
 abbrev Both : Type 0
 Both = ℕ × Taken
+
+abbrev stateOf : List ℕ → Both → List ℕ
+stateOf state v = startPut (v .1 .reader .candidate) (v .1 .reader .ended) state
+
+abbrev recordOf : List ℕ → Both → List ℕ
+recordOf frame v = heldBy (v .1 .frame) frame
+
+-- where it is refused, every place but the record's is as it was
+module _ (state frame : List ℕ) {n : ℕ} (e : takenIn state frame ≡ refuses n) (size at d29 d30 : ℕ) where
+  numbers-alone : (size ≡ left (takenIn state frame) (λ (v : Both). v .0) size)
+      × ((at ≡ left (takenIn state frame) (λ (v : Both). v .1 .at) at)
+      × ((d29 ≡ left (takenIn state frame) (λ (v : Both). v .1 .frame .carried .d29) d29)
+      × (d30 ≡ left (takenIn state frame) (λ (v : Both). v .1 .frame .carried .d30) d30)))
+  numbers-alone = (
+    left-alone (λ (v : Both). v .0) size e,
+    (
+      left-alone (λ (v : Both). v .1 .at) at e,
+      (left-alone (λ (v : Both). v .1 .frame .carried .d29) d29 e, left-alone (λ (v : Both). v .1 .frame .carried .d30) d30 e),
+    ),
+  )
 
 returns : tie.Need-returns
 returns c =
@@ -38,16 +60,9 @@ returns c =
     let a = h .before .before .before .before .args in
     let state = now (a .state) in
     let frame = now (a .frame) in
-    let e = take-refused state frame (read-none (λ (t : Taken). t .answer) takenBy state (sym (h .holds-state .ensures) ∙ not-true _ (c .if1 .taken))) in (
-      number-refused e,
-      (
-        left-alone (λ (v : Both). startPut (v .1 .reader .candidate) (v .1 .reader .ended) state) state e,
-        (
-          left-alone (λ (v : Both). heldBy (v .1 .frame) frame) frame e,
-          (left-alone (λ (v : Both). v .0) (now (a .length)) e, left-alone (λ (v : Both). v .1 .at) (now (a .at)) e),
-        ),
-      ),
-    )
+    let e = take-refused state frame (read-none (λ (t : Taken). t .answer) takenBy state (sym (h .holds-state .ensures) ∙ not-true _ (c .if1 .taken))) in
+    let numbers = numbers-alone state frame e (now (a .length)) (now (a .at)) (now (a .d29)) (now (a .d30)) in
+    (number-refused e, (left-alone (stateOf state) state e, (left-alone (recordOf frame) frame e, numbers)))
 
 -- the start, and where a state is held: past the first test
 abbrev start : tie.Else1 → tie.Start
@@ -72,16 +87,9 @@ returns-2 c =
     let a = start h .args in
     let state = now (a .state) in
     let frame = now (a .frame) in
-    let e = take-refused state frame (read-refused (λ (t : Taken). t .answer) takenBy state (held h) (called f) (c .before .answer .given .1)) in (
-      number-refused e,
-      (
-        left-alone (λ (v : Both). startPut (v .1 .reader .candidate) (v .1 .reader .ended) state) state e,
-        (
-          left-alone (λ (v : Both). heldBy (v .1 .frame) frame) frame e,
-          (left-alone (λ (v : Both). v .0) (now (a .length)) e, left-alone (λ (v : Both). v .1 .at) (now (a .at)) e),
-        ),
-      ),
-    )
+    let e = take-refused state frame (read-refused (λ (t : Taken). t .answer) takenBy state (held h) (called f) (c .before .answer .given .1)) in
+    let numbers = numbers-alone state frame e (now (a .length)) (now (a .at)) (now (a .d29)) (now (a .d30)) in
+    (number-refused e, (left-alone (stateOf state) state e, (left-alone (recordOf frame) frame e, numbers)))
 
 -- past the second a frame is taken
 taken : (c : tie.After-enum-told)
@@ -95,29 +103,23 @@ taken c =
 returns-3 : tie.Need-returns-3
 returns-3 c =
     let k = c .before .before .before .before .before in
-    let t = k .before .before .before in
+    let t = k .before .before .before .before in
     let f = t .before .before in
     let a = start (past f) .args in
     let state = now (a .state) in
     let frame = now (a .frame) in
     let u = sym (k .keep .ensures .0) ∙ c .before .n .given .1 in
-    let e = take-unkept state frame (taken t) u in (
-      number-refused e,
-      (
-        left-alone (λ (v : Both). startPut (v .1 .reader .candidate) (v .1 .reader .ended) state) state e,
-        (
-          k .keep .ensures .1 ∙ unkept-alone (f .take .result .frame) frame u ∙ left-alone (λ (v : Both). heldBy (v .1 .frame) frame) frame e,
-          (left-alone (λ (v : Both). v .0) (now (a .length)) e, left-alone (λ (v : Both). v .1 .at) (now (a .at)) e),
-        ),
-      ),
-    )
+    let e = take-unkept state frame (taken t) u in
+    let kept = k .keep .ensures .1 ∙ unkept-alone (f .take .result .frame) frame u ∙ left-alone (recordOf frame) frame e in
+    let numbers = numbers-alone state frame e (now (a .length)) (now (a .at)) (now (a .d29)) (now (a .d30)) in
+    (number-refused e, (left-alone (stateOf state) state e, (kept, numbers)))
 
 returns-4 : tie.Need-returns-4
 returns-4 c =
     let p = c .before .before in
     let z = p .before .before .before .before in
     let k = z .before .before .before .before in
-    let t = k .before .before .before in
+    let t = k .before .before .before .before in
     let f = t .before .before in
     let a = start (past f) .args in
     let state = now (a .state) in
@@ -125,10 +127,19 @@ returns-4 c =
     let e = take-done state frame (taken t) (sym (k .keep .ensures .0) ∙ z .size .given .1) in (
       number-answered e,
       (
-        left-put (λ (v : Both). startPut (v .1 .reader .candidate) (v .1 .reader .ended) state) state e (p .put-start .ensures .1),
+        left-put (stateOf state) state e (p .put-start .ensures .1),
         (
-          left-put (λ (v : Both). heldBy (v .1 .frame) frame) frame e (k .keep .ensures .1),
-          (left-put (λ (v : Both). v .0) (now (a .length)) e refl, left-put (λ (v : Both). v .1 .at) (now (a .at)) e refl),
+          left-put (recordOf frame) frame e (k .keep .ensures .1),
+          (
+            left-put (λ (v : Both). v .0) (now (a .length)) e refl,
+            (
+              left-put (λ (v : Both). v .1 .at) (now (a .at)) e refl,
+              (
+                left-put (λ (v : Both). v .1 .frame .carried .d29) (now (a .d29)) e refl,
+                left-put (λ (v : Both). v .1 .frame .carried .d30) (now (a .d30)) e refl,
+              ),
+            ),
+          ),
         ),
       ),
     )
