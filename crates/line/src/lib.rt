@@ -12,14 +12,22 @@ pub enum Six {
     Refused(u8),
 }
 
-// The six lowest bits in the other order: a byte has the first sent lowest, a number highest.
+// The six lowest bits in the other order, one step for each: a byte has the first sent lowest, a number highest.
 fn mirrored(x: u32) -> u32
     ensures { λ r. ⌜ (r ≡ number (reverse (bits 6 x))) × (r < 64) ⌝ }
 {
-    x % 2 * 32 + x / 2 % 2 * 16 + x / 4 % 2 * 8 + x / 8 % 2 * 4 + x / 16 % 2 * 2 + x / 32 % 2
+    // the lowest bit of the byte is sent first
+    let first = x % 2;
+    let second = x / 2 % 2;
+    let third = x / 4 % 2;
+    let fourth = x / 8 % 2;
+    let fifth = x / 16 % 2;
+    // the highest of the six is sent last
+    let sixth = x / 32 % 2;
+    first * 32 + second * 16 + third * 8 + fourth * 4 + fifth * 2 + sixth
 }
 
-// The line bits of a byte; one without top bits 01 carries none.
+// The line bits of a byte, in the order sent (`mirrored`); one without top bits 01 carries none.
 pub fn six_of(byte: u8) -> Six
     ensures { λ r. ⌜ r ≡ sixOf byte ⌝ }
 {
