@@ -199,6 +199,13 @@ uint8_t rtcm2_cn0_dbhz(uint8_t code, uint8_t *tracked, uint8_t *dbhz);
  * U+044F in their order. Refusal: 11 for 0 and for a code over 191. */
 uint8_t rtcm2_letter_of(uint8_t code, uint32_t *letter);
 
+/* ---- The word test, for a program that holds the words of two receivers against each other. */
+
+/* The remainder of a window: 32 line bits, D29*, D30* and then D1 to D30, the first sent highest. `remainder` is the received
+ * parity xor the computed one, D25 the highest of six bits: 0 where the word passes, else 1 to 63. The remainder of an xor of
+ * two windows is the xor of their remainders. No refusal. */
+uint8_t rtcm2_remainder(uint32_t window, uint8_t *remainder);
+
 #ifdef __cplusplus
 }
 #endif

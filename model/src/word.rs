@@ -83,6 +83,15 @@ pub fn data_bits(word: &[bool; 30], pair: Pair) -> [bool; 24] {
     data
 }
 
+/// Received parity xor computed parity, D25 first.
+pub fn remainder(word: &[bool; 30], pair: Pair) -> [bool; 6] {
+    let mut bits = parity(&data_bits(word, pair), pair);
+    for (bit, received) in bits.iter_mut().zip(&word[24..]) {
+        *bit = *bit != *received;
+    }
+    bits
+}
+
 /// Whether the line word passes parity.
 pub fn passes(word: &[bool; 30], pair: Pair) -> bool {
     parity(&data_bits(word, pair), pair) == word[24..]
@@ -96,6 +105,20 @@ pub fn encode(data: &[bool; 24], pair: Pair) -> [bool; 30] {
     }
     word[24..].copy_from_slice(&parity(data, pair));
     word
+}
+
+/// The word and the pair before it in a window of 32 bits, D29* highest.
+pub fn apart(window: u32) -> ([bool; 30], Pair) {
+    let bit = |i: usize| (window >> (31 - i)) % 2 == 1;
+    let mut word = [false; 30];
+    for (i, place) in word.iter_mut().enumerate() {
+        *place = bit(i + 2);
+    }
+    let pair = Pair {
+        d29: bit(0),
+        d30: bit(1),
+    };
+    (word, pair)
 }
 
 /// Data bits as a number, d1 the highest of 24.

@@ -1,5 +1,5 @@
 //! The word: test and encoder against each other, the quick test against the
-//! slow one, and what one, two or three turned bits do.
+//! slow one, what one, two or three turned bits do, and the xor law.
 
 use rtcm2_model::bits::Bits;
 use rtcm2_model::line::{bits_of_byte, byte_of_bits};
@@ -7,21 +7,7 @@ use rtcm2_model::rng::Rng;
 use rtcm2_model::samples;
 use rtcm2_model::scan::{standing, Standing};
 use rtcm2_model::window;
-use rtcm2_model::word::{bits_of, data_bits, encode, number_of, passes, Pair};
-
-/// The word and the pair in a window, D29* highest.
-fn apart(window: u32) -> ([bool; 30], Pair) {
-    let bit = |i: usize| (window >> (31 - i)) % 2 == 1;
-    let mut word = [false; 30];
-    for (i, place) in word.iter_mut().enumerate() {
-        *place = bit(i + 2);
-    }
-    let pair = Pair {
-        d29: bit(0),
-        d30: bit(1),
-    };
-    (word, pair)
-}
+use rtcm2_model::word::{apart, bits_of, data_bits, encode, number_of, passes, remainder, Pair};
 
 fn slow_passes(window: u32) -> bool {
     let (word, pair) = apart(window);
@@ -162,5 +148,36 @@ fn damage_inside(bits: &mut Bits, rng: &mut Rng, word_at: usize) {
             *bits = trial;
             return;
         }
+    }
+}
+
+/// The remainder of a window as a number, D25 highest.
+fn left(window: u32) -> u32 {
+    let (word, pair) = apart(window);
+    let bits = remainder(&word, pair);
+    bits.iter().fold(0, |sum, bit| sum * 2 + u32::from(*bit))
+}
+
+#[test]
+fn worked_remainders() {
+    const FIRST: u32 = 0x1986_017F;
+    assert_eq!((left(FIRST), left(0xFF37_3FC8)), (0, 0));
+    assert_eq!(left(0x1234_5678), 0b101010);
+    assert_eq!(left(0xAAAA_AAAA), 0b111111);
+    assert_eq!(left(0xB89E_FCD2), 0b010101);
+    assert_eq!(left(0xEDCB_A987), 0b101010);
+    let turned = [1, 3, 5, 7, 31].map(|bits| left(FIRST ^ (u32::MAX << (32 - bits))));
+    assert_eq!(turned, [0b101001, 0b010110, 0b011001, 0b101010, 0b000001]);
+}
+
+#[test]
+fn the_remainder_of_an_xor() {
+    let mut rng = Rng::named("xor of windows");
+    for _ in 0..20_000 {
+        let (v, w, good) = (rng.draw() as u32, rng.draw() as u32, good_window(&mut rng));
+        assert_eq!(left(v ^ w), left(v) ^ left(w));
+        assert_eq!(left(!v), left(v));
+        assert_eq!(left(v) == 0, window::passes(v));
+        assert_eq!((left(good ^ v)).count_ones() % 2, v.count_ones() % 2);
     }
 }

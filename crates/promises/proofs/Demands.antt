@@ -9,6 +9,7 @@ use Rattle.promises.proofs.Turned.{turned-is-same}
 use Rattle.promises.proofs.EveryReader.{feed-all-is-feed}
 use Rattle.promises.proofs.Whole.{text-is-whole}
 use Rattle.promises.proofs.Progress.{nothing-left, piece-taken, reached, text-comes}
+use Rattle.promises.proofs.XorLaw.{xor-law}
 use Rattle.promises.proofs.Worked.{worked}
 
 pub demand-3 : Demand3
@@ -35,5 +36,6 @@ demands = record {
   taken = piece-taken;
   reached = reached;
   comes = text-comes;
+  xor = xor-law;
   values = worked;
 }

@@ -21,5 +21,6 @@ pub mod Slices
 pub mod Pieces
 pub mod Whole
 pub mod Progress
+pub mod XorLaw
 pub mod Worked
 pub mod Demands

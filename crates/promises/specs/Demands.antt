@@ -1,10 +1,11 @@
--- EVERYTHING PROMISED, in one record: the three demands, the listing and the worked values. Assumes nothing.
+-- EVERYTHING PROMISED, in one record: the three demands, the listing, the xor law and the worked values. Assumes nothing.
 use mathlib.Core.List.{List}
 use Prim.Native.Nat.{ℕ}
 use Rattle.promises.specs.Demand1.{Demand1}
 use Rattle.promises.specs.Demand2.{Demand2}
 use Rattle.promises.specs.Demand3.{Demand3}
 use Rattle.promises.specs.Course.{Piece, TextIsWhole, NothingLeft, PieceTaken, Reached, TextComes}
+use Rattle.promises.specs.XorLaw.{XorLaw}
 use Rattle.promises.specs.Worked.{WorkedValues}
 
 pub record Demands : Type 2 where
@@ -19,4 +20,6 @@ pub record Demands : Type 2 where
   pub taken : (bs : List ℕ) (ps : List Piece) → PieceTaken bs ps
   pub reached : (bs : List ℕ) (ps : List Piece) → Reached bs ps
   pub comes : (bs : List ℕ) (ps : List Piece) (out : List ℕ) → TextComes bs ps out
+  -- the remainder of an xor of windows
+  pub xor : XorLaw
   pub values : WorkedValues

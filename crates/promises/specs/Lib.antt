@@ -11,5 +11,6 @@ pub mod Demand2
 pub mod Demand3
 pub mod Demand1
 pub mod Course
+pub mod XorLaw
 pub mod Worked
 pub mod Demands

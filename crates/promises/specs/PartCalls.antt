@@ -3,8 +3,8 @@ use Prim.Native.Nat.{_%_}
 use Rattle.line.specs.Answer.{sixOf}
 use Rattle.bits.specs.Bits.{bits, number}
 use Rattle.line.specs.Line.{byteOf}
-use Rattle.word.specs.Word.{dataOf, remainderOf, passes as passing}
-use Rattle.word.specs.Answer.{wordOf}
+use Rattle.word.specs.Word.{dataOf, passes as passing}
+use Rattle.word.specs.Answer.{remainderAt, wordOf}
 use Rattle.frame.specs.Header.{stateOf, headerOf, nOf, preambled}
 use Rattle.frame.specs.Answer.{healthOf, headerWidths, headerWords, frameWidths, clockOf}
 use Rattle.frame.specs.Frames.{builtOf, blank}
@@ -40,7 +40,7 @@ pub record PartCalls : Type 2 where
   pub data-of : Answered data_of.Reads.Asked data_of.Reads.Learnt data_of.Statement.statement
       (λ κs (window, _). number (dataOf (bits 32 window)))
   pub word-remainder : Answered word-remainder.Reads.Asked word-remainder.Reads.Learnt word-remainder.Statement.statement
-      (λ κs (window, _). number (remainderOf (bits 32 window)))
+      (λ κs (window, _). remainderAt window)
   pub word-passes : Answered word-passes.Reads.Asked word-passes.Reads.Learnt word-passes.Statement.statement
       (λ κs (window, _). passing (bits 32 window))
   pub word-of : Answered word_of.Reads.Asked word_of.Reads.Learnt word_of.Statement.statement

@@ -14,8 +14,8 @@ use Rattle.bits.specs.Bits.{bits, number}
 use Rattle.bits.specs.Signed.{signed, code}
 use Rattle.line.specs.Line.{byteOf}
 use Rattle.line.specs.Answer.{sixOf, saysSix}
-use Rattle.word.specs.Word.{Row, rows, parityBit, d29*, d30*, D, dataOf, remainderOf, passes}
-use Rattle.word.specs.Answer.{wordOf, saysSent}
+use Rattle.word.specs.Word.{Row, rows, parityBit, d29*, d30*, D, dataOf, passes}
+use Rattle.word.specs.Answer.{remainderAt, wordOf, saysSent}
 use Rattle.frame.specs.Header.{stateOf, preambled, nOf, headerOf}
 use Rattle.frame.specs.Frames.{turnedFrame}
 use Rattle.frame.specs.Widths.{stateOutside, late}
@@ -50,7 +50,7 @@ use Rattle.frame.specs.declared.Carried.{Carried}
 -- "the GPS parity rule". A window is a word with the two bits before it.
 pub record GpsParityRule : Type 0 where
   -- the remainder of a window is zero where the word passes
-  pub remainder : (w : ℕ) → eqb (number (remainderOf (bits 32 w))) 0 ≡ passes (bits 32 w)
+  pub remainder : (w : ℕ) → eqb (remainderAt w) 0 ≡ passes (bits 32 w)
   -- it passes exactly when each parity bit is that of its row of the table, the sum of the row's terms modulo 2
   pub each-row : (w : List Bool) → (passes w ≡ true) ↔ ((r : Row) → List·Memᴰ r rows → D w (r .0) ≡ parityBit (d29* w) (d30* w) (dataOf w) r)
   -- the word answered for data passes after its carried bits, and gives the data back

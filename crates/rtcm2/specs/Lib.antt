@@ -7,6 +7,7 @@ pub mod Positions
 pub mod Nulls
 pub mod Texts
 pub mod Values
+pub mod Window
 pub mod Rows
 pub mod Corrections
 pub mod Healths

@@ -10,3 +10,4 @@ mod rows;
 pub mod send;
 pub mod text;
 pub mod values;
+pub mod window;

@@ -93,6 +93,7 @@ library-numbers = record {
   udre-limit-mm = λ code udre. ordered (in-order.limitOrder code udre) _ (limit-order code udre) refl refl;
   cn0-dbhz = λ code. ordered ((ltb 31 code, 10) ∷ []) _ (cn0-says code) refl refl;
   letter-of = λ code. ordered ((noLetter code, 11) ∷ []) _ (letter-says code) refl refl;
+  remainder = λ window. ordered [] _ refl refl refl;
   put-start = put-stored;
   put-state = λ r bytes. put-stored (r .candidate) bytes;
   put-correction = put-ordered (correction.row Gps);

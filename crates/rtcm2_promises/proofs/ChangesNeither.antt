@@ -87,6 +87,7 @@ library-keeps = record {
   udre-limit-mm = λ code udre limited mm. (λ n e. rw e, λ n e. rw e);
   cn0-dbhz = λ code tracked dbhz. (λ n e. rw e, λ n e. rw e);
   letter-of = λ code letter n e. rw e;
+  remainder = λ window remainder n e. absurd (refuses-apart n _ (sym e));
   put-correction = λ entry lent. entry-keeps (correction.row Gps) (answers entry) lent;
   put-health = λ entry lent. entry-keeps (health.row Gps) (answers entry) lent;
   put-start = start-keeps;

@@ -135,4 +135,5 @@ library-calls = record {
     ends = rtcm2.values.rtcm2_cn0_dbhz.Met.met;
   };
   letter-of = record { asks-nothing = λ κs a. tt; settles = λ κs a z e p. p .0; leaves = λ κs a z e p. p .1; ends = rtcm2.values.rtcm2_letter_of.Met.met };
+  remainder = record { asks-nothing = λ κs a. tt; settles = λ κs a z e p. p .0; leaves = λ κs a z e p. p .1; ends = rtcm2.window.rtcm2_remainder.Met.met };
 }

@@ -30,6 +30,7 @@ use Rattle.rtcm2.specs.Nulls as nulls
 use Rattle.rtcm2.specs.Texts as texts
 use Rattle.record_values.specs.Values.{noLetter}
 use Rattle.rtcm2.specs.Values.{prcSaid, rrcSaid, stopsSaid, limitSaid, strengthSaid, letterSaid}
+use Rattle.rtcm2.specs.Window.{remainderSaid}
 use Rattle.rtcm2.specs.Orders as in-order
 use Rattle.promises.specs.CarriesItsNumber.{Ordered}
 
@@ -41,8 +42,8 @@ afterRecord numbers = 14 ∷ 15 ∷ 16 ∷ 15 ∷ 16 ∷ 16 ∷ numbers
 abbrev pub afterHeader : List ℕ → List ℕ
 afterHeader numbers = 5 ∷ 5 ∷ 6 ∷ 7 ∷ numbers
 
--- every exported function but the one that answers a constant, and those that put a state or an entry in bytes. The order of
--- `stops` is empty: it never refuses.
+-- every exported function but the one that answers a constant, and those that put a state or an entry in bytes. The orders of
+-- `stops` and `remainder` are empty: they never refuse.
 pub record LibraryNumbers : Type 0 where
   -- reading the line
   pub start : (state : List ℕ) → Ordered (13 ∷ []) (in-order.startedOrder state) (startedIn state)
@@ -102,6 +103,8 @@ pub record LibraryNumbers : Type 0 where
   pub udre-limit-mm : (code udre : ℕ) → Ordered (5 ∷ 10 ∷ []) (in-order.limitOrder code udre) (limitSaid code udre)
   pub cn0-dbhz : (code : ℕ) → Ordered (10 ∷ []) ((ltb 31 code, 10) ∷ []) (strengthSaid code)
   pub letter-of : (code : ℕ) → Ordered (11 ∷ []) ((noLetter code, 11) ∷ []) (letterSaid code)
+  -- the word test of a window
+  pub remainder : (window : ℕ) → Ordered [] [] (remainderSaid window)
   -- an entry as a row of bytes
   pub put-start : (c : Candidate) (bytes : List ℕ) → Ordered (5 ∷ 13 ∷ []) (putChecks c bytes) (saysStored (storedBy c bytes))
   pub put-state : (r : Reader) (bytes : List ℕ) → Ordered (5 ∷ 13 ∷ []) (putChecks (r .candidate) bytes) (saysStored (storedBy (r .candidate) bytes))

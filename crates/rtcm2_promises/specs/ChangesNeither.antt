@@ -31,6 +31,7 @@ use Rattle.rtcm2.specs.Nulls as nulls
 use Rattle.rtcm2.specs.Texts as texts
 use Rattle.rtcm2.specs.Values.{prcSaid, stopFlag, exactOr0, rrcSaid, stopsSaid, limitSaid, limitFlag, limitOr0, strengthSaid, trackedFlag, dbHzOr0}
 use Rattle.rtcm2.specs.Values.{letterSaid}
+use Rattle.rtcm2.specs.Window.{remainderSaid}
 use Rattle.promises.specs.ChangesNeither.{Keeps}
 
 -- every function that is lent a place, and each of its places
@@ -99,6 +100,8 @@ pub record LibraryKeeps : Type 0 where
   pub cn0-dbhz : (code tracked dbhz : ℕ) → let s = strengthSaid code in
       Keeps s (left s trackedFlag tracked) tracked × Keeps s (left s dbHzOr0 dbhz) dbhz
   pub letter-of : (code letter : ℕ) → Keeps (letterSaid code) (left (letterSaid code) (λ k. k) letter) letter
+  -- the word test of a window
+  pub remainder : (window remainder : ℕ) → Keeps (remainderSaid window) (left (remainderSaid window) (λ k. k) remainder) remainder
   -- an entry as a row of bytes
   pub put-correction : (entry : Correction) (lent : List ℕ)
       → Keeps (saysPut (putBy (entry-corrections.row Gps) lent)) (rowAfter (entry-corrections.row Gps) entry lent) lent

@@ -21,6 +21,7 @@ use Rattle.rtcm2.specs.Nulls.{nullSaid}
 use Rattle.rtcm2.specs.Texts.{textSaid, textAfter}
 use Rattle.rtcm2.specs.Values.{prcSaid, stopFlag, exactOr0, rrcSaid, stopsSaid, limitSaid, limitFlag, limitOr0, strengthSaid, trackedFlag, dbHzOr0}
 use Rattle.rtcm2.specs.Values.{letterSaid}
+use Rattle.rtcm2.specs.Window.{remainderSaid}
 use Rattle.rtcm2_rows.specs.Corrections as entry-corrections
 use Rattle.rtcm2_rows.specs.Healths as entry-healths
 use Rattle.rtcm2.specs.Send as send
@@ -66,6 +67,7 @@ use Rattle.rtcm2.proofs.values.rtcm2_stops
 use Rattle.rtcm2.proofs.values.rtcm2_udre_limit_mm
 use Rattle.rtcm2.proofs.values.rtcm2_cn0_dbhz
 use Rattle.rtcm2.proofs.values.rtcm2_letter_of
+use Rattle.rtcm2.proofs.window.rtcm2_remainder
 use Rattle.promises.specs.Answered.{Answered, AnsweredLent}
 
 pub record LibraryCalls : Type 2 where
@@ -263,3 +265,7 @@ pub record LibraryCalls : Type 2 where
   pub letter-of : AnsweredLent rtcm2_letter_of.Reads.Asked rtcm2_letter_of.Reads.Learnt rtcm2_letter_of.Statement.statement
       (λ κs (code, _). numberOf (letterSaid code))
       (λ κs (_, (letter, _)). now letter) (λ κs (code, (letter, _)). left (letterSaid code) (λ k. k) (now letter))
+  -- rtcm2::window
+  pub remainder : AnsweredLent rtcm2_remainder.Reads.Asked rtcm2_remainder.Reads.Learnt rtcm2_remainder.Statement.statement
+      (λ κs (window, _). numberOf (remainderSaid window))
+      (λ κs (_, (remainder, _)). now remainder) (λ κs (window, (remainder, _)). left (remainderSaid window) (λ k. k) (now remainder))

@@ -4,8 +4,8 @@ ghost use Prim.Native.Nat.{_+_, _%_};
 ghost use lib.Bits.{bitAnd};
 ghost use lib.Count.{ones};
 ghost use Rattle.bits.specs.Bits.{bits, number};
-ghost use Rattle.word.specs.Word.{d29*, d30*, parity, dataOf, remainderOf, passes as passing, turnedBy};
-ghost use Rattle.word.specs.Answer.{wordOf};
+ghost use Rattle.word.specs.Word.{d29*, d30*, parity, dataOf, passes as passing, turnedBy};
+ghost use Rattle.word.specs.Answer.{remainderAt, wordOf};
 
 // The thirty bits to send, D1 highest; or the refusal's number.
 pub enum Sent {
@@ -64,7 +64,7 @@ pub fn data_of(window: u32) -> u32
 
 // Received parity xor computed parity, D25 highest: zero where the window passes.
 pub fn remainder(window: u32) -> u32
-    ensures { λ r. ⌜ r ≡ number (remainderOf (bits 32 window)) ⌝ }
+    ensures { λ r. ⌜ r ≡ remainderAt window ⌝ }
 {
     (window % 64) ^ parity_of(window / 1073741824, data_of(window))
 }

@@ -36,6 +36,7 @@ pub enum Function {
     UdreLimitMm,
     Cn0Dbhz,
     LetterOf,
+    Remainder,
 }
 
 /// A function, its name and every number that it can answer.
@@ -57,7 +58,7 @@ const fn row(function: Function, name: &'static str, answers: &'static [u64]) ->
 }
 
 /// All functions, in the order of the header.
-pub const FUNCTIONS: [Row; 28] = [
+pub const FUNCTIONS: [Row; 29] = [
     row(Function::StateSize, "rtcm2_state_size", &[188]),
     row(Function::Start, "rtcm2_start", &[0, 13]),
     row(Function::Feed, "rtcm2_feed", &[0, 1, 2, 3, 5]),
@@ -130,6 +131,7 @@ pub const FUNCTIONS: [Row; 28] = [
     row(Function::UdreLimitMm, "rtcm2_udre_limit_mm", &[0, 5, 10]),
     row(Function::Cn0Dbhz, "rtcm2_cn0_dbhz", &[0, 10]),
     row(Function::LetterOf, "rtcm2_letter_of", &[0, 11]),
+    row(Function::Remainder, "rtcm2_remainder", &[0]),
 ];
 
 /// The place of a function in the table.

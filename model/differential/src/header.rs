@@ -153,4 +153,5 @@ unsafe extern "C" {
     pub fn rtcm2_udre_limit_mm(health: u8, udre: u8, limited: *mut u8, mm: *mut u32) -> u8;
     pub fn rtcm2_cn0_dbhz(code: u8, tracked: *mut u8, dbhz: *mut u8) -> u8;
     pub fn rtcm2_letter_of(code: u8, letter: *mut u32) -> u8;
+    pub fn rtcm2_remainder(window: u32, remainder: *mut u8) -> u8;
 }

@@ -29,6 +29,7 @@ pub fn answer(call: &mut Call) -> u64 {
         }
         Function::Stops => u64::from(stops(call)),
         Function::LetterOf => u64::from(letter_of(call)),
+        Function::Remainder => u64::from(remainder(call)),
     }
 }
 
@@ -211,6 +212,11 @@ fn stops(call: &mut Call) -> u8 {
 fn letter_of(call: &mut Call) -> u8 {
     let [letter] = of(&mut call.lent);
     unsafe { rtcm2_letter_of(call.given[0] as u8, at(letter)) }
+}
+
+fn remainder(call: &mut Call) -> u8 {
+    let [remainder] = of(&mut call.lent);
+    unsafe { rtcm2_remainder(call.given[0] as u32, at(remainder)) }
 }
 
 fn number(call: &mut Call) -> u8 {

@@ -4,7 +4,7 @@ use crate::call::{Call, Function};
 use crate::place::Place;
 use rtcm2_model::library::frames::{self, Recalled};
 use rtcm2_model::library::line::{self, Taking};
-use rtcm2_model::library::{lists, numbers, records};
+use rtcm2_model::library::{lists, numbers, records, words};
 use rtcm2_model::record::position::Position;
 
 /// Makes the call and gives its answer.
@@ -33,6 +33,7 @@ pub fn answer(call: &mut Call) -> u64 {
         }
         Function::Stops => u64::from(stops(call)),
         Function::LetterOf => u64::from(letter_of(call)),
+        Function::Remainder => u64::from(remainder(call)),
     }
 }
 
@@ -158,6 +159,11 @@ fn stops(call: &mut Call) -> u8 {
 fn letter_of(call: &mut Call) -> u8 {
     let [letter] = of(&mut call.lent);
     numbers::letter_of(call.given[0] as u8, letter.number())
+}
+
+fn remainder(call: &mut Call) -> u8 {
+    let [remainder] = of(&mut call.lent);
+    words::remainder(call.given[0] as u32, remainder.number())
 }
 
 fn number(call: &mut Call) -> u8 {

@@ -9,6 +9,7 @@ pub mod lists;
 pub mod numbers;
 pub mod records;
 pub mod state;
+pub mod words;
 
 use crate::frame::{Frame, Header, State};
 use crate::journal;

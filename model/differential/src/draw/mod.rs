@@ -13,6 +13,7 @@ use crate::place::Place;
 use ends::{around, inside, one_of};
 use readers::Readers;
 use rtcm2_model::rng::Rng;
+use rtcm2_model::word::{apart, bits_of, encode};
 
 /// Draws calls from a seed.
 pub struct Draw {
@@ -45,10 +46,14 @@ impl Draw {
     }
 }
 
-/// A call on the numbers of a record, or on nothing.
+/// A call on the numbers of a record, on a window, or on nothing.
 fn number(rng: &mut Rng) -> Call {
-    let (function, given) = match rng.below(13) {
+    let (function, given) = match rng.below(15) {
         0 => return parts(Function::StateSize, vec![], vec![], vec![]),
+        13 | 14 => {
+            let given = vec![window(rng).into()];
+            return parts(Function::Remainder, given, vec![], numbers(rng, 1));
+        }
         11 | 12 => {
             let given = vec![code(rng)];
             return parts(Function::LetterOf, given, vec![], numbers(rng, 1));
@@ -79,6 +84,24 @@ fn code(rng: &mut Rng) -> i64 {
     match rng.below(2) {
         0 => one_of(rng, &CODES).into(),
         _ => rng.byte().into(),
+    }
+}
+
+/// A window: any 32 bits, or a word after a pair with none, one, two or all of
+/// its bits turned.
+fn window(rng: &mut Rng) -> u32 {
+    let any = rng.draw() as u32;
+    let (_, pair) = apart(any);
+    let word = encode(&bits_of(rng.word()), pair);
+    let good = word
+        .iter()
+        .fold(any >> 30, |sum, bit| sum << 1 | u32::from(*bit));
+    match rng.below(5) {
+        0 => any,
+        1 => good,
+        2 => good ^ 1 << rng.below(32),
+        3 => good ^ 1 << rng.below(32) ^ 1 << rng.below(32),
+        _ => !good,
     }
 }
 
