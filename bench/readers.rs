@@ -3,7 +3,7 @@
 use rtcm2_model::reader::Reader;
 use std::path::Path;
 
-const STATE: usize = 188;
+const STATE: usize = 196;
 const FRAME: usize = 102;
 
 extern "C" {

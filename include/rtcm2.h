@@ -55,7 +55,7 @@ enum {
 
 /* Sizes in bytes. */
 enum {
-    RTCM2_STATE_SIZE = 188,     /* a reader's state; rtcm2_state_size answers the same */
+    RTCM2_STATE_SIZE = 196,     /* a reader's state; rtcm2_state_size answers the same */
     RTCM2_FRAME_MAX = 102,      /* the longest frame, 31 data words */
     RTCM2_LINE_MAX = 165,       /* the longest frame on the line */
     RTCM2_CORRECTION_SIZE = 7,  /* one correction */
@@ -64,8 +64,8 @@ enum {
 };
 
 /* ---- Reading the line. The reader's state lies in RTCM2_STATE_SIZE bytes that the caller lends; bytes past them are not
- * looked at. Bytes that hold no state (too few, never started, or with counts past what a reader can hold) are refused with 5
- * and left alone. */
+ * looked at. Bytes that hold no state (too few, never started, or with counts past what a reader can hold, which rtcm2_counts
+ * alone does not ask) are refused with 5 and left alone; so is a state of the size that it had before the counters. */
 
 /* How many bytes a state takes: RTCM2_STATE_SIZE. */
 size_t rtcm2_state_size(void);
@@ -89,6 +89,12 @@ uint8_t rtcm2_end(uint8_t *state, size_t state_size);
  * held is handed out: where a state says that one waits and none stands, the refusal is 4. Refusals: 5, 4, 13. */
 uint8_t rtcm2_take(uint8_t *state, size_t state_size, uint8_t *frame, size_t frame_size, size_t *length, uint32_t *at,
                    uint8_t *d29, uint8_t *d30);
+
+/* How many positions of the line a word has ruled out so far: the first word of a position to fail its parity has a remainder,
+ * received parity xor computed parity, with an odd number of ones, `odd`, or an even one, `even`; each modulo 2^32. A position
+ * without its preamble, or one that the end rules out, counts in neither. An odd number of ones is an odd number of turned bits.
+ * The state is not changed. Refusal: 5 for too few bytes, or for bytes that were never started. */
+uint8_t rtcm2_counts(const uint8_t *state, size_t state_size, uint32_t *odd, uint32_t *even);
 
 /* ---- Writing the line. Two bits are carried from frame to frame, D29* and D30*; after opening both are 0. */
 

@@ -1,8 +1,9 @@
 /* Prints the corrections of a line from standard input, one a line: position of the frame, the two line bits before it,
  * station, Z count, system (GPS or GLO), satellite, PRC in mm, RRC in mm/s, UDRE limit in mm, and the IOD of GPS or change
- * bit/tb of GLONASS; then how many frames, corrections and refused entries there were. A satellite that is not to be used
- * has "stop" for PRC and RRC. An entry that can't be read, a GLONASS one with a tb past the hour, gives a line with its
- * number and the refusal's, and the program goes on.
+ * bit/tb of GLONASS; then how many positions a word ruled out, with an odd and with an even remainder, and how many frames,
+ * corrections and refused entries there were. A satellite that is not to be used has "stop" for PRC and RRC. An entry that
+ * can't be read, a GLONASS one with a tb past the hour, gives a line with its number and the refusal's, and the program goes
+ * on.
  *
  *   rt staticlib rtcm2
  *   cc -std=c11 -O2 -Wall -Wextra -Iinclude examples/c/corrections.c target/staticlib/librtcm2.a -o corrections
@@ -159,6 +160,7 @@ int main(void)
 {
     uint8_t state[RTCM2_STATE_SIZE], bytes[4096];
     struct totals totals = {0, 0, 0};
+    uint32_t odd, even;
     size_t size;
 
     check(rtcm2_start(state, sizeof state), "rtcm2_start");
@@ -170,6 +172,8 @@ int main(void)
     }
     check(rtcm2_end(state, sizeof state), "rtcm2_end");
     take_all(state, &totals);
+    check(rtcm2_counts(state, sizeof state, &odd, &even), "rtcm2_counts");
+    printf("odd %" PRIu32 " even %" PRIu32 "\n", odd, even);
     printf("frames %llu corrections %llu refused %llu\n", totals.frames, totals.corrections, totals.refused);
     if (fflush(stdout) != 0 || ferror(stdout)) {
         perror("corrections: standard output");

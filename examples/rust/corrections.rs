@@ -1,7 +1,8 @@
 //! Prints the corrections of a line from standard input, one a line: position of
 //! the frame, the two line bits before it, station, Z count, system (GPS or GLO),
 //! satellite, PRC in mm, RRC in mm/s, UDRE limit in mm, and the IOD of GPS or change
-//! bit/tb of GLONASS; then how many frames, corrections and refused entries there
+//! bit/tb of GLONASS; then how many positions a word ruled out, with an odd and with
+//! an even remainder, and how many frames, corrections and refused entries there
 //! were. A satellite that is not to be used has "stop" for PRC and RRC. An entry that
 //! can't be read, a GLONASS one with a tb past the hour, gives a line with its number
 //! and the refusal's, and the program goes on.
@@ -42,6 +43,8 @@ fn main() -> Result<(), Box<dyn Error>> {
     }
     reader.end()?;
     take_all(&mut reader, &mut totals, &mut output)?;
+    let (odd, even) = reader.counts()?;
+    writeln!(output, "odd {odd} even {even}")?;
     writeln!(
         output,
         "frames {} corrections {} refused {}",

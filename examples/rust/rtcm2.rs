@@ -4,7 +4,7 @@
 use std::error::Error;
 use std::fmt::{self, Display, Formatter};
 
-const STATE_SIZE: usize = 188;
+const STATE_SIZE: usize = 196;
 const FRAME_MAX: usize = 102;
 const CORRECTION_SIZE: usize = 7;
 
@@ -30,6 +30,7 @@ extern "C" {
         d29: *mut u8,
         d30: *mut u8,
     ) -> u8;
+    fn rtcm2_counts(state: *const u8, state_size: usize, odd: *mut u32, even: *mut u32) -> u8;
     fn rtcm2_recall(
         frame: *const u8,
         frame_size: usize,
@@ -121,6 +122,16 @@ impl Reader {
     /// The input has ended; frames may wait now.
     pub fn end(&mut self) -> Result<(), Refusal> {
         checked(unsafe { rtcm2_end(self.state.as_mut_ptr(), self.state.len()) })
+    }
+
+    /// How many positions a word ruled out so far, with an odd and with an even
+    /// remainder, each modulo 2^32.
+    pub fn counts(&self) -> Result<(u32, u32), Refusal> {
+        let (mut odd, mut even) = (0, 0);
+        checked(unsafe {
+            rtcm2_counts(self.state.as_ptr(), self.state.len(), &mut odd, &mut even)
+        })?;
+        Ok((odd, even))
     }
 
     /// Takes the frame that waits, if one does.

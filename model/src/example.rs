@@ -1,5 +1,5 @@
 //! The stream of the examples and what they must print: a line for each
-//! correction, by the definition, then the totals.
+//! correction, by the definition, then the words that failed and the totals.
 
 use crate::bits::Bits;
 use crate::frame::{Frame, State};
@@ -10,7 +10,7 @@ use crate::record::{system, System};
 use crate::refusal::Answer;
 use crate::rng::Rng;
 use crate::samples;
-use crate::scan::scan;
+use crate::scan::{faults, odd_and_even, scan};
 
 /// Frames of types 1, 9, 31 and 34 among others: one past the hour, one with all
 /// that stands for no number, one with a tb that can't be; noise, a false start,
@@ -63,9 +63,10 @@ fn late_tb(rng: &mut Rng) -> Frame {
 }
 
 /// What the examples print of a stream: a line for each correction and for each one
-/// that can't be read, then the totals.
+/// that can't be read, then the positions that a word ruled out and the totals.
 pub fn expected(bytes: &[u8]) -> String {
-    let frames = scan(&bits_of_bytes(bytes), true);
+    let bits = bits_of_bytes(bytes);
+    let frames = scan(&bits, true);
     let mut text = String::new();
     let (mut corrections, mut refused) = (0, 0);
     for (position, frame) in &frames {
@@ -84,6 +85,8 @@ pub fn expected(bytes: &[u8]) -> String {
         }
     }
     let frames = frames.len();
+    let [odd, even] = odd_and_even(&faults(&bits, true, frames));
+    text += &format!("odd {odd} even {even}\n");
     text + &format!("frames {frames} corrections {corrections} refused {refused}\n")
 }
 

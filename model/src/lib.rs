@@ -4,6 +4,7 @@
 #![warn(missing_docs)]
 
 pub mod bits;
+pub mod counts;
 pub mod example;
 pub mod frame;
 pub mod journal;

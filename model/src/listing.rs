@@ -1,11 +1,11 @@
-//! The text of a whole stream: one line for each frame, then the totals. Once by
-//! the definition and once through the reader.
+//! The text of a whole stream: one line for each frame, one for the words that
+//! failed, then the totals. Once by the definition and once through the reader.
 
 use crate::frame::Frame;
 use crate::line::{bits_of_bytes, is_data_byte};
 use crate::reader::Reader;
 use crate::refusal::{Answer, Refusal};
-use crate::scan::scan;
+use crate::scan::{faults, odd_and_even, scan};
 use std::io::{self, Read, Write};
 
 /// The line of a frame: its first bit position, its numbers, the two bits before it.
@@ -25,6 +25,11 @@ fn frame_line(position: u32, frame: &Frame) -> String {
     )
 }
 
+/// The second last line.
+fn counts_line(odd: u32, even: u32) -> String {
+    format!("odd {odd} even {even}\n")
+}
+
 /// The last line.
 fn totals_line(frames: u64, bytes: u64, passed: u64) -> String {
     format!("frames {frames} bytes {bytes} passed {passed}\n")
@@ -32,12 +37,15 @@ fn totals_line(frames: u64, bytes: u64, passed: u64) -> String {
 
 /// The listing of a stream by the definition alone, without the reader.
 pub fn by_definition(bytes: &[u8]) -> String {
-    let frames = scan(&bits_of_bytes(bytes), true);
+    let bits = bits_of_bytes(bytes);
+    let frames = scan(&bits, true);
+    let [odd, even] = odd_and_even(&faults(&bits, true, frames.len()));
     let passed = bytes.iter().filter(|byte| !is_data_byte(**byte)).count();
     let mut text = String::new();
     for (position, frame) in &frames {
         text += &frame_line(*position as u32, frame);
     }
+    text += &counts_line(odd as u32, even as u32);
     text + &totals_line(frames.len() as u64, bytes.len() as u64, passed as u64)
 }
 
@@ -65,7 +73,9 @@ pub fn through_reader(mut input: impl Read, mut output: impl Write) -> io::Resul
     }
     answered(reader.end())?;
     take_all(&mut reader, &mut totals, &mut output)?;
+    let counts = counts_line(reader.counts().odd, reader.counts().even);
     let last = totals_line(totals.frames, totals.bytes, totals.passed);
+    output.write_all(counts.as_bytes())?;
     output.write_all(last.as_bytes())?;
     output.flush()
 }

@@ -1,10 +1,12 @@
 //! The stateful reader: feed, feed_all, end and take. Packed bits; each word of
 //! a candidate is tested once. Same answers as `scan`, reached another way.
 
+use crate::counts::Counts;
 use crate::frame::{n_of, preamble_is_right, Frame};
 use crate::line::{is_data_byte, BITS_PER_BYTE};
 use crate::refusal::{refuse_if, Answer, Refusal};
 use crate::window;
+use crate::word::Tested;
 
 /// Bits the packed store can hold.
 const ROOM: usize = 32 * STORE;
@@ -54,6 +56,8 @@ pub struct Reader {
     words: [u32; MOST_ALL_WORDS],
     /// Whether the input has ended.
     ended: bool,
+    /// Positions that a word ruled out.
+    counts: Counts,
 }
 
 impl Default for Reader {
@@ -73,7 +77,13 @@ impl Reader {
             tested: 0,
             words: [0; MOST_ALL_WORDS],
             ended: false,
+            counts: Counts::default(),
         }
+    }
+
+    /// Positions that a word ruled out so far.
+    pub fn counts(&self) -> Counts {
+        self.counts
     }
 
     /// Whether a frame waits to be taken: all words of the candidate have passed.
@@ -202,7 +212,7 @@ impl Reader {
             }
             let from = self.start + 30 * self.tested;
             if from + 32 > self.end {
-                if !self.ended || self.start + 62 > self.end {
+                if !self.ended || self.start + 32 > self.end {
                     return;
                 }
                 self.move_on(1);
@@ -222,11 +232,13 @@ impl Reader {
         self.move_on(at - self.start);
     }
 
-    /// Tests the next word of the candidate and keeps its data if it passes.
+    /// Tests the next word of the candidate and keeps its data if it passes; word 1
+    /// has its preamble, so a word that fails is counted.
     #[inline]
     fn word_fails(&mut self, from: usize) -> bool {
         let window = self.window(from);
-        if !window::passes(window) {
+        if let Tested::Failed(remainder) = window::test(window) {
+            self.counts.add(remainder);
             return true;
         }
         self.words[self.tested] = window::data(window);

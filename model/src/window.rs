@@ -2,7 +2,7 @@
 //! D29* highest. The masks are worked out from the table of `word`.
 
 use crate::frame::CarriedBits;
-use crate::word::{Carried, Row, TABLE};
+use crate::word::{Carried, Row, Tested, TABLE};
 
 /// D30* in a window.
 const D30: u32 = 1 << 30;
@@ -34,12 +34,11 @@ const fn mask(row: &Row, parity_bit: u32) -> u32 {
     bits
 }
 
-/// Whether the word in this window passes parity.
+/// Tests the word in this window.
 #[inline]
-pub fn passes(window: u32) -> bool {
-    MASKS
-        .iter()
-        .all(|mask| (window & mask).count_ones().is_multiple_of(2))
+pub fn test(window: u32) -> Tested {
+    let odd = |mask: u32| (window & mask).count_ones() as u8 % 2;
+    Tested::of(MASKS.iter().fold(0, |sum, mask| sum << 1 | odd(*mask)))
 }
 
 /// The two bits before the word in this window.

@@ -1,5 +1,5 @@
 //! The thirty-bit word: data bits, parity by the rules' table row by row, the
-//! test and the encoder. The slow definition; nothing here is tuned.
+//! test with its remainder, and the encoder. The slow definition; nothing here is tuned.
 
 /// The two line bits just before a word.
 #[derive(Clone, Copy, Debug, PartialEq, Eq)]
@@ -92,9 +92,35 @@ pub fn remainder(word: &[bool; 30], pair: Pair) -> [bool; 6] {
     bits
 }
 
-/// Whether the line word passes parity.
-pub fn passes(word: &[bool; 30], pair: Pair) -> bool {
-    parity(&data_bits(word, pair), pair) == word[24..]
+/// What the word test answers.
+#[derive(Clone, Copy, Debug, PartialEq, Eq)]
+pub enum Tested {
+    /// The word passes parity.
+    Passed,
+    /// It fails with this remainder, received parity xor computed parity: six bits,
+    /// D25 the highest, never 0.
+    Failed(u8),
+}
+
+impl Tested {
+    /// Passed for the remainder 0, else failed with it.
+    pub fn of(remainder: u8) -> Tested {
+        match remainder {
+            0 => Tested::Passed,
+            _ => Tested::Failed(remainder),
+        }
+    }
+
+    /// Whether the word passes.
+    pub fn passed(self) -> bool {
+        self == Tested::Passed
+    }
+}
+
+/// Tests the line word.
+pub fn test(word: &[bool; 30], pair: Pair) -> Tested {
+    let bits = remainder(word, pair);
+    Tested::of(bits.iter().fold(0, |sum, bit| sum << 1 | u8::from(*bit)))
 }
 
 /// The line word for these data bits.

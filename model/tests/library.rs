@@ -47,8 +47,15 @@ fn take_all(state: &mut [u8], found: &mut Vec<Found>) {
     }
 }
 
-/// The frames of a stream, read in random pieces.
-fn read(bytes: &[u8], rng: &mut Rng) -> Vec<Found> {
+/// The two counters of a state.
+fn counts(state: &[u8]) -> [u32; 2] {
+    let (mut odd, mut even) = (7, 7);
+    assert_eq!(line::counts(state, &mut odd, &mut even), 0);
+    [odd, even]
+}
+
+/// The frames of a stream, read in random pieces, and the two counters.
+fn read(bytes: &[u8], rng: &mut Rng) -> (Vec<Found>, [u32; 2]) {
     let mut state = [0xFF; state::SIZE];
     let mut found = Vec::new();
     let mut fed = 0;
@@ -63,7 +70,7 @@ fn read(bytes: &[u8], rng: &mut Rng) -> Vec<Found> {
     }
     assert_eq!(line::end(&mut state), 0);
     take_all(&mut state, &mut found);
-    found
+    (found, counts(&state))
 }
 
 #[test]
@@ -77,7 +84,10 @@ fn streams_give_the_frames_of_the_scan() {
             let pair = [frame.carried.d29, frame.carried.d30];
             expected.push((at, record[..length].to_vec(), pair));
         }
-        assert_eq!(read(&stream.bytes, &mut rng), expected, "{}", stream.name);
+        let (found, [odd, even]) = read(&stream.bytes, &mut rng);
+        assert_eq!(found, expected, "{}", stream.name);
+        let line = format!("odd {odd} even {even}\n");
+        assert!(stream.expected().contains(&line), "{}", stream.name);
     }
 }
 
@@ -110,14 +120,33 @@ fn corrections_are_rows_of_the_entries() {
 #[test]
 fn bytes_that_hold_no_state_are_refused() {
     let mut state = [0; 200];
-    assert_eq!(line::start(&mut state[..187]), 13);
+    assert_eq!(line::start(&mut state[..195]), 13);
     assert_eq!(line::start(&mut state), 0);
     let fresh = state;
-    assert_eq!(&fresh[..8], b"R2S1\0\0\0\0");
-    assert_eq!(line::feed(&mut state[..187], 0x40), 5);
-    for (place, number) in [(0, 0), (20, 2), (24, 2), (21, 1), (5, 6), (12, 33)] {
+    assert_eq!(&fresh[..8], b"R2S2\0\0\0\0");
+    assert_eq!(line::feed(&mut state[..195], 0x40), 5);
+    assert_eq!(line::feed(&mut state[..188], 0x40), 5);
+    // byte 3 is 1 in the mark of a state before the counters; the last two are counts
+    // past what a reader can hold, which the counters are told without
+    for (place, number, told) in [
+        (0, 0, 5),
+        (3, 0x31, 5),
+        (20, 2, 5),
+        (24, 2, 5),
+        (21, 1, 5),
+        (5, 6, 0),
+        (12, 33, 0),
+    ] {
         state[place] = number;
         assert_eq!(line::feed(&mut state, 0x40), 5, "byte {place}");
+        let (mut odd, mut even) = (7, 7);
+        assert_eq!(
+            line::counts(&state, &mut odd, &mut even),
+            told,
+            "byte {place}"
+        );
+        let left = if told == 0 { 0 } else { 7 };
+        assert_eq!((odd, even), (left, left), "byte {place}");
         state[place] = fresh[place];
     }
     assert_eq!(state, fresh);
@@ -176,5 +205,24 @@ fn a_frame_that_does_not_stand_is_not_taken() {
             ..whole.clone()
         };
         assert_eq!(answers(&cut), [2, 2, 2, 4], "{held} bits");
+    }
+}
+
+#[test]
+fn counters_go_round_and_any_are_believed() {
+    let nicked = b"\x40\x66\x61\x45\x68\x7F\x7F\x6C\x73\x7F\x44";
+    for (odd, even) in [(0, 0), (u32::MAX, 5), (7, u32::MAX)] {
+        let mut state = State::fresh();
+        (state.counts.odd, state.counts.even) = (odd, even);
+        let mut bytes = [0; state::SIZE];
+        state.put(&mut bytes);
+        assert_eq!(counts(&bytes), [odd, even]);
+        let (mut used, mut passed) = (0, 0);
+        assert_eq!(
+            line::feed_all(&mut bytes, nicked, &mut used, &mut passed),
+            0
+        );
+        assert_eq!(line::end(&mut bytes), 0);
+        assert_eq!(counts(&bytes), [odd.wrapping_add(1), even]);
     }
 }

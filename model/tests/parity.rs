@@ -5,13 +5,15 @@ use rtcm2_model::bits::Bits;
 use rtcm2_model::line::{bits_of_byte, byte_of_bits};
 use rtcm2_model::rng::Rng;
 use rtcm2_model::samples;
-use rtcm2_model::scan::{standing, Standing};
+use rtcm2_model::scan::{standing, Cause, Standing};
 use rtcm2_model::window;
-use rtcm2_model::word::{apart, bits_of, data_bits, encode, number_of, passes, remainder, Pair};
+use rtcm2_model::word::{
+    apart, bits_of, data_bits, encode, number_of, remainder, test, Pair, Tested,
+};
 
-fn slow_passes(window: u32) -> bool {
+fn slow_test(window: u32) -> Tested {
     let (word, pair) = apart(window);
-    passes(&word, pair)
+    test(&word, pair)
 }
 
 /// A window that passes.
@@ -41,8 +43,8 @@ fn encoded_words_pass_and_give_their_data() {
     for _ in 0..20_000 {
         let window = good_window(&mut rng);
         let (word, pair) = apart(window);
-        assert!(passes(&word, pair) && window::passes(window));
-        assert!(passes(&word.map(|bit| !bit), turned(pair)));
+        assert!(test(&word, pair).passed() && window::test(window).passed());
+        assert!(test(&word.map(|bit| !bit), turned(pair)).passed());
         let data = number_of(&data_bits(&word, pair));
         assert_eq!(window::data(window), data);
         assert_eq!(encode(&bits_of(data), pair), word);
@@ -62,7 +64,8 @@ fn turned(pair: Pair) -> Pair {
 fn the_quick_test_agrees() {
     let mut rng = Rng::named("quick test");
     for i in 0..32 {
-        assert!(!window::passes(1 << i) && !slow_passes(1 << i));
+        assert!(!slow_test(1 << i).passed());
+        assert_eq!(window::test(1 << i), slow_test(1 << i));
     }
     for round in 0..100_000 {
         let near = good_window(&mut rng) ^ (rng.draw() & rng.draw() & rng.draw()) as u32;
@@ -71,7 +74,22 @@ fn the_quick_test_agrees() {
         } else {
             rng.draw() as u32
         };
-        assert_eq!(window::passes(window), slow_passes(window));
+        assert_eq!(window::test(window), slow_test(window));
+    }
+}
+
+#[test]
+fn an_odd_remainder_is_an_odd_number_of_turned_bits() {
+    let mut rng = Rng::named("odd and even");
+    for _ in 0..100_000 {
+        let turned = (rng.draw() & rng.draw()) as u32;
+        match window::test(good_window(&mut rng) ^ turned) {
+            Tested::Passed => assert_eq!(turned.count_ones() % 2, 0),
+            Tested::Failed(remainder) => {
+                assert!((1..64).contains(&remainder));
+                assert_eq!(remainder.count_ones() % 2, turned.count_ones() % 2);
+            }
+        }
     }
 }
 
@@ -84,14 +102,14 @@ fn one_two_or_three_turned_bits_never_pass() {
             for b in 0..=a {
                 for c in 0..=b {
                     let turned = 1_u32 << a | 1 << b | 1 << c;
-                    assert!(!window::passes(good ^ turned));
+                    assert!(!window::test(good ^ turned).passed());
                 }
             }
         }
     }
     for a in 0..32 {
         for b in 0..=a {
-            assert!(!slow_passes(1 << a | 1 << b | 1));
+            assert!(!slow_test(1 << a | 1 << b | 1).passed());
         }
     }
 }
@@ -134,7 +152,11 @@ fn nothing_begins_where_a_damaged_frame_began() {
         } else {
             damage(&mut bits, &mut rng, first);
         }
-        assert_eq!(standing(&bits.0, first), Standing::RuledOut);
+        let ruled_out = standing(&bits.0, first);
+        assert!(matches!(ruled_out, Standing::RuledOut(_)));
+        if let Standing::RuledOut(Cause::Word(failed, _)) = ruled_out {
+            assert_eq!(failed, word + 1);
+        }
     }
 }
 
@@ -177,7 +199,7 @@ fn the_remainder_of_an_xor() {
         let (v, w, good) = (rng.draw() as u32, rng.draw() as u32, good_window(&mut rng));
         assert_eq!(left(v ^ w), left(v) ^ left(w));
         assert_eq!(left(!v), left(v));
-        assert_eq!(left(v) == 0, window::passes(v));
+        assert_eq!(left(v) == 0, window::test(v).passed());
         assert_eq!((left(good ^ v)).count_ones() % 2, v.count_ones() % 2);
     }
 }

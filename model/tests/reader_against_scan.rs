@@ -5,6 +5,7 @@ mod common;
 
 use common::turned;
 use rtcm2_model::bits::Bits;
+use rtcm2_model::counts::Counts;
 use rtcm2_model::frame::{header_words, Frame};
 use rtcm2_model::line::{bits_of_byte, bits_of_bytes, turned_over};
 use rtcm2_model::mangle::mangle;
@@ -12,7 +13,7 @@ use rtcm2_model::reader::{Fed, Reader, Taken};
 use rtcm2_model::refusal::{Answer, Refusal};
 use rtcm2_model::rng::Rng;
 use rtcm2_model::samples;
-use rtcm2_model::scan::{hunt, scan, standing, Standing};
+use rtcm2_model::scan::{faults, hunt, odd_and_even, scan, standing, Standing};
 
 /// The reader's calls answered from all bits taken, by the definition.
 #[derive(Default)]
@@ -73,6 +74,13 @@ impl Defined {
         self.taken += 1;
         let position = p as u32;
         Ok(Taken { position, frame })
+    }
+
+    /// The faults met by now, counted.
+    fn counts(&self) -> Counts {
+        let met = faults(&self.bits, self.ended, self.taken);
+        let [odd, even] = odd_and_even(&met).map(|count| count as u32);
+        Counts { odd, even }
     }
 }
 
@@ -138,13 +146,16 @@ fn call(rng: &mut Rng, reader: &mut Reader, defined: &mut Defined, rest: &mut &[
         }
     };
     assert_eq!(reader.waits(), defined.waiting().is_some());
+    if rng.below(30) == 0 {
+        assert_eq!(reader.counts(), defined.counts());
+    }
     assert!(!refused || *reader == before, "a refusal changed the state");
 }
 
 #[test]
 fn random_calls_answer_as_defined() {
     let mut rng = Rng::named("random calls");
-    let mut frames = 0;
+    let (mut frames, mut odd, mut even) = (0, 0, 0);
     for _ in 0..4500 {
         let bytes = stream(&mut rng);
         let (mut reader, mut defined) = (Reader::new(), Defined::default());
@@ -159,8 +170,11 @@ fn random_calls_answer_as_defined() {
         for _ in 0..6 {
             call(&mut rng, &mut reader, &mut defined, &mut rest);
         }
+        assert_eq!(reader.counts(), defined.counts());
+        (odd, even) = (odd + reader.counts().odd, even + reader.counts().even);
     }
     assert!(frames > 10_000, "only {frames} frames");
+    assert!(odd > 1000 && even > 1000, "only {odd} and {even} faults");
 }
 
 /// Frames handed out with the bits taken by then, all waiting ones taken at once.

@@ -43,7 +43,8 @@ fn number_size_and_names() {
     assert_eq!(streams, all());
 }
 
-/// The listing of the turned stream: the last field of each frame line is turned.
+/// The listing of the turned stream: the last field of each frame line is turned, and
+/// the two last lines are the same.
 fn pairs_turned(text: &str) -> String {
     let line = |line: &str| match line.rsplit_once(' ') {
         Some((numbers, "00")) => format!("{numbers} 11\n"),
@@ -52,7 +53,7 @@ fn pairs_turned(text: &str) -> String {
         Some((numbers, "11")) => format!("{numbers} 00\n"),
         other => panic!("{other:?} has no two digits"),
     };
-    let (lines, last) = text.split_at(text.rfind("frames").expect("a last line"));
+    let (lines, last) = text.split_at(text.rfind("odd").expect("two last lines"));
     lines.lines().map(line).chain([last.to_string()]).collect()
 }
 
@@ -109,7 +110,7 @@ fn false_starts(stream: &Stream) -> Vec<(usize, usize)> {
 fn header_n(bits: &[bool], p: usize) -> Option<u8> {
     let header = &bits[..p + 60];
     match standing(header, p) {
-        Standing::RuledOut => None,
+        Standing::RuledOut(_) => None,
         Standing::Stands(_) => Some(0),
         Standing::Open => {
             let d30 = header[p + 29];

@@ -19,8 +19,8 @@ const STREAM: [u8; 11] = [
 const TURNED: [u8; 11] = [
     0x7F, 0x59, 0x5E, 0x7E, 0x57, 0x40, 0x40, 0x53, 0x4C, 0x40, 0x7B,
 ];
-const TEXT: &str = "6 6 5 100 3 0 0 00\nframes 1 bytes 11 passed 0\n";
-const TURNED_TEXT: &str = "6 6 5 100 3 0 0 11\nframes 1 bytes 11 passed 0\n";
+const TEXT: &str = "6 6 5 100 3 0 0 00\nodd 0 even 0\nframes 1 bytes 11 passed 0\n";
+const TURNED_TEXT: &str = "6 6 5 100 3 0 0 11\nodd 0 even 0\nframes 1 bytes 11 passed 0\n";
 
 fn through_reader(bytes: &[u8]) -> String {
     let mut text = Vec::new();

@@ -1,4 +1,4 @@
-// `list < stream` prints what the line said: a line for each frame, and a last line of totals.
+// `list < stream` prints what the line said: a line for each frame, and two lines of totals.
 use libc::STDERR_FILENO;
 use libc::STDIN_FILENO;
 use libc::STDOUT_FILENO;

@@ -17,9 +17,8 @@ use Rattle.reader.specs.declared.Next.{Next}
 use Rattle.reader.specs.declared.Answer.{Answer}
 use Rattle.reader.specs.declared.Answer.the-variants.{Done, Refused}
 use Rattle.printing.proofs.StoreLaws.{stored-then}
-use Rattle.listing.specs.Text.{lastLine}
 use Rattle.listing.specs.Listing.{Lines, linesOf, linedBy, lineRoom, readyBy, refusedListing, listed, pieceBy, pieceText}
-use Rattle.listing.specs.Listing.{endRoom, endedOn, finalLines, finishBy, finishText}
+use Rattle.listing.specs.Listing.{endRoom, endedOn, totalLines, finalLines, finishBy, finishText}
 use Rattle.listing.specs.declared.Listing.{Listing}
 use Rattle.listing.specs.declared.Listed.{Listed}
 use Rattle.listing.specs.declared.Lined.{Lined}
@@ -115,20 +114,20 @@ module _ (l : Listing) (out : List ℕ) (e : Next) (is : e ≡ endedBy (l .reade
 
   module _ (f : e .answer ≡ Done) (h : endRoom ≤ length out) (next : Listing) (n : next ≡ endedOn l (e .reader))
       (lined : Lined) (k : lined ≡ linedBy (linesOf 16 next [])) (out₁ : List ℕ) (o₁ : out₁ ≡ sets out 0 (linesOf 16 next [] .text))
-      (written : ℕ) (w : written ≡ lined .written + length (lastLine (lined .listing .frames) (lined .listing .bytes) (lined .listing .passed)))
-      (out₂ : List ℕ) (o₂ : out₂ ≡ sets out₁ (lined .written) (lastLine (lined .listing .frames) (lined .listing .bytes) (lined .listing .passed))) where
+      (written : ℕ) (w : written ≡ lined .written + length (totalLines (lined .listing)))
+      (out₂ : List ℕ) (o₂ : out₂ ≡ sets out₁ (lined .written) (totalLines (lined .listing))) where
     x : Lines
     x = linesOf 16 next []
 
     final : Lines → Lines
-    final y = record { text = y .text ++ lastLine (y .listing .frames) (y .listing .bytes) (y .listing .passed); used = 0; listing = y .listing }
+    final y = record { text = y .text ++ totalLines (y .listing); used = 0; listing = y .listing }
 
     final-is : final x ≡ finalLines l
     unfolding x final finalLines
     final-is = ap (λ (m : Listing). final (linesOf 16 m [])) (n ∙ ap (λ (x : Next). endedOn l (x .reader)) is)
 
     last : Lined → List ℕ
-    last y = lastLine (y .listing .frames) (y .listing .bytes) (y .listing .passed)
+    last y = totalLines (y .listing)
 
     answered : record { answer = Done; used = 0; written = written; listing = lined .listing } ≡ listed (final x)
     unfolding final x linedBy last

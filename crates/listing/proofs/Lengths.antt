@@ -11,8 +11,9 @@ use Rattle.reader.specs.declared.Answer.{Answer}
 use Rattle.reader.specs.declared.Answer.the-variants.{Done, Refused}
 use Rattle.printing.specs.Printing.{decimal}
 use Rattle.printing.proofs.DigitLaws.{decimal-le}
-use Rattle.listing.specs.Text.{space, newline, spaced, lineNumbers, pairLast, frameLine, framesLabel, bytesLabel, passedLabel, lastLine}
-use Rattle.listing.specs.Listing.{fedOn, handedOn, endedOn, Lines, lineThen, linesOf, lineRoom, endRoom, finalLines}
+use Rattle.listing.specs.Text.{space, newline, spaced, lineNumbers, pairLast, frameLine, oddLabel, evenLabel, oddLine}
+use Rattle.listing.specs.Text.{framesLabel, bytesLabel, passedLabel, lastLine}
+use Rattle.listing.specs.Listing.{fedOn, handedOn, endedOn, Lines, lineThen, linesOf, lineRoom, endRoom, totalLines, finalLines}
 use Rattle.listing.specs.declared.Listing.{Listing}
 use Rattle.listing.proofs.LinesLaws.{fed-used}
 
@@ -40,6 +41,30 @@ last-le a b c =
       length-append (passedLabel ++ decimal c) (newline ∷ []),
     )
 
+odd-le : (a b : ℕ) → length (oddLine a b) ≤ lineRoom
+unfolding oddLine
+odd-le a b =
+    omega (
+      arith,
+      decimal-le a,
+      decimal-le b,
+      length-append oddLabel (decimal a),
+      length-append evenLabel (decimal b),
+      length-append (oddLabel ++ decimal a) ((evenLabel ++ decimal b) ++ (newline ∷ [])),
+      length-append (evenLabel ++ decimal b) (newline ∷ []),
+    )
+
+totals-le : (l : Listing) → length (totalLines l) ≤ 2 * lineRoom
+unfolding totalLines
+totals-le l =
+    let tally = l .reader .candidate .tally in
+    omega (
+      arith,
+      odd-le (tally .odd) (tally .even),
+      last-le (l .frames) (l .bytes) (l .passed),
+      length-append (oddLine (tally .odd) (tally .even)) (lastLine (l .frames) (l .bytes) (l .passed)),
+    )
+
 pub lines-le : (k : ℕ) (l : Listing) (bs : List ℕ) → length (linesOf k l bs .text) ≤ lineRoom * k
 unfolding linesOf
 lines-le zero l bs = omega arith
@@ -55,18 +80,12 @@ lines-le (suc k) l bs =
     go Done line h rest later = omega (arith, length-append line (rest .text))
     go (Refused n) line h rest later = omega arith
 
--- sixteen lines and the last fit the room at the end
+-- sixteen lines and the two of totals fit the room at the end
 pub final-le : (l : Listing) → length (finalLines l .text) ≤ endRoom
 unfolding finalLines
 final-le l =
     let x = linesOf 16 (endedOn l (endedBy (l .reader) .reader)) [] in
-    let end = x .listing in
-    omega (
-      arith,
-      lines-le 16 (endedOn l (endedBy (l .reader) .reader)) [],
-      last-le (end .frames) (end .bytes) (end .passed),
-      length-append (x .text) (lastLine (end .frames) (end .bytes) (end .passed)),
-    )
+    omega (arith, lines-le 16 (endedOn l (endedBy (l .reader) .reader)) [], totals-le (x .listing), length-append (x .text) (totalLines (x .listing)))
 
 -- no more bytes are used than there are
 pub lines-used : (k : ℕ) (l : Listing) (bs : List ℕ) → linesOf k l bs .used ≤ length bs

@@ -19,7 +19,7 @@ use Rattle.frame.proofs.WidthLaws.{both-false}
 use Rattle.frame.specs.declared.HealthCode.the-variants.{Code, Refused}
 use Rattle.printing.specs.Printing.{decimal}
 use Rattle.printing.proofs.StoreLaws.{length-stored, length-marked, stored-then}
-use Rattle.listing.specs.Text.{space, newline, spaced, pairLast, framesLabel, bytesLabel, passedLabel, lastLine}
+use Rattle.listing.specs.Text.{space, newline, spaced, pairLast, oddLabel, evenLabel, oddLine, framesLabel, bytesLabel, passedLabel, lastLine}
 
 -- ---- a line of numbers
 
@@ -74,39 +74,63 @@ pub length-line : (ns : List ℕ) (place : ℕ) (c : Carried) (next : ℕ) → n
     → next + 3 ≡ place + length (spaced ns ++ pairLast c)
 length-line ns place c next en = omega (arith, en, length-append (spaced ns) (pairLast c))
 
--- ---- the last line
+-- ---- lines of totals
 
+-- two parts, one after the other, and a newline
+module _ (x y : List ℕ) (place : ℕ) (l : List ℕ) (p₁ : ℕ) (l₁ : List ℕ) (p₂ : ℕ) (l₂ : List ℕ)
+    (at₁ : p₁ ≡ place + length x) (is₁ : l₁ ≡ sets l place x) (at₂ : p₂ ≡ p₁ + length y) (is₂ : l₂ ≡ sets l₁ p₁ y) where
+  two-stored : set l₂ p₂ newline ≡ sets l place (x ++ (y ++ (newline ∷ [])))
+  two-stored = sym (stored-then l x (y ++ (newline ∷ [])) place p₁ l₁ at₁ is₁ ∙ stored-then l₁ y (newline ∷ []) p₁ p₂ l₂ at₂ is₂)
+
+  two-place : p₂ + 1 ≡ place + length (x ++ (y ++ (newline ∷ [])))
+  two-place = omega (arith, at₁, at₂, length-append x (y ++ (newline ∷ [])), length-append y (newline ∷ []))
+
+  two-length : length (set l₂ p₂ newline) ≡ length l
+  two-length = length-marked l₁ p₁ y l₂ is₂ p₂ newline ∙ length-stored l place x l₁ is₁
+
+-- the second last line
+module _ (odd even place : ℕ) (l : List ℕ) (p₁ : ℕ) (l₁ : List ℕ) (p₂ : ℕ) (l₂ : List ℕ)
+    (at₁ : p₁ ≡ place + length (oddLabel ++ decimal odd)) (is₁ : l₁ ≡ sets l place (oddLabel ++ decimal odd))
+    (at₂ : p₂ ≡ p₁ + length (evenLabel ++ decimal even)) (is₂ : l₂ ≡ sets l₁ p₁ (evenLabel ++ decimal even)) where
+  pub odd-stored : set l₂ p₂ newline ≡ sets l place (oddLine odd even)
+  unfolding oddLine
+  odd-stored = two-stored (oddLabel ++ decimal odd) (evenLabel ++ decimal even) place l p₁ l₁ p₂ l₂ at₁ is₁ at₂ is₂
+
+  pub odd-place : p₂ + 1 ≡ place + length (oddLine odd even)
+  unfolding oddLine
+  odd-place = two-place (oddLabel ++ decimal odd) (evenLabel ++ decimal even) place l p₁ l₁ p₂ l₂ at₁ is₁ at₂ is₂
+
+  pub odd-length : length (set l₂ p₂ newline) ≡ length l
+  odd-length = two-length (oddLabel ++ decimal odd) (evenLabel ++ decimal even) place l p₁ l₁ p₂ l₂ at₁ is₁ at₂ is₂
+
+-- the last line
 module _ (frames bytes passed place : ℕ) (l : List ℕ) (p₁ : ℕ) (l₁ : List ℕ) (p₂ : ℕ) (l₂ : List ℕ) (p₃ : ℕ) (l₃ : List ℕ)
     (at₁ : p₁ ≡ place + length (framesLabel ++ decimal frames)) (is₁ : l₁ ≡ sets l place (framesLabel ++ decimal frames))
     (at₂ : p₂ ≡ p₁ + length (bytesLabel ++ decimal bytes)) (is₂ : l₂ ≡ sets l₁ p₁ (bytesLabel ++ decimal bytes))
     (at₃ : p₃ ≡ p₂ + length (passedLabel ++ decimal passed)) (is₃ : l₃ ≡ sets l₂ p₂ (passedLabel ++ decimal passed)) where
-  end : List ℕ
-  end = newline ∷ []
+  abbrev rest : List ℕ
+  rest = (bytesLabel ++ decimal bytes) ++ ((passedLabel ++ decimal passed) ++ (newline ∷ []))
 
   pub last-stored : set l₃ p₃ newline ≡ sets l place (lastLine frames bytes passed)
-  unfolding end lastLine
+  unfolding lastLine
   last-stored =
-      sym (stored-then l (framesLabel ++ decimal frames) ((bytesLabel ++ decimal bytes) ++ ((passedLabel ++ decimal passed) ++ end)) place p₁ l₁ at₁ is₁
-      ∙ stored-then l₁ (bytesLabel ++ decimal bytes) ((passedLabel ++ decimal passed) ++ end) p₁ p₂ l₂ at₂ is₂
-      ∙ stored-then l₂ (passedLabel ++ decimal passed) end p₂ p₃ l₃ at₃ is₃)
+      two-stored (bytesLabel ++ decimal bytes) (passedLabel ++ decimal passed) p₁ l₁ p₂ l₂ p₃ l₃ at₂ is₂ at₃ is₃
+      ∙ sym (stored-then l (framesLabel ++ decimal frames) rest place p₁ l₁ at₁ is₁)
 
   pub last-place : p₃ + 1 ≡ place + length (lastLine frames bytes passed)
-  unfolding end lastLine
+  unfolding lastLine
   last-place =
       omega (
         arith,
         at₁,
-        at₂,
-        at₃,
-        length-append (framesLabel ++ decimal frames) ((bytesLabel ++ decimal bytes) ++ ((passedLabel ++ decimal passed) ++ end)),
-        length-append (bytesLabel ++ decimal bytes) ((passedLabel ++ decimal passed) ++ end),
-        length-append (passedLabel ++ decimal passed) end,
+        two-place (bytesLabel ++ decimal bytes) (passedLabel ++ decimal passed) p₁ l₁ p₂ l₂ p₃ l₃ at₂ is₂ at₃ is₃,
+        length-append (framesLabel ++ decimal frames) rest,
       )
 
   pub last-length : length (set l₃ p₃ newline) ≡ length l
   last-length =
-      length-marked l₂ p₂ (passedLabel ++ decimal passed) l₃ is₃ p₃ newline
-      ∙ length-stored l₁ p₁ (bytesLabel ++ decimal bytes) l₂ is₂ ∙ length-stored l place (framesLabel ++ decimal frames) l₁ is₁
+      two-length (bytesLabel ++ decimal bytes) (passedLabel ++ decimal passed) p₁ l₁ p₂ l₂ p₃ l₃ at₂ is₂ at₃ is₃
+      ∙ length-stored l place (framesLabel ++ decimal frames) l₁ is₁
 
 -- ---- health, of a state within its widths
 

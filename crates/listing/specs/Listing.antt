@@ -9,7 +9,7 @@ use Rattle.reader.specs.Reading.{started, past, busy, fedAllBy, endedBy, takenB
 use Rattle.reader.specs.declared.Reader.{Reader}
 use Rattle.reader.specs.declared.Answer.{Answer}
 use Rattle.reader.specs.declared.Answer.the-variants.{Done, Refused}
-use Rattle.listing.specs.Text.{frameLine, lastLine}
+use Rattle.listing.specs.Text.{frameLine, oddLine, lastLine}
 use Rattle.listing.specs.declared.Listing.{Listing}
 use Rattle.listing.specs.declared.Listed.{Listed}
 use Rattle.listing.specs.declared.Fed.{Fed}
@@ -94,20 +94,25 @@ pieceText l bs out = inOrder (pieceOrder l (length out)) (λ n. out) (sets out 0
 
 -- ---- THE END: 5, 3, 2, 13
 
--- room for the lines that the end may still release, 16 at most, and the last line
+-- room for the lines that the end may still release, 16 at most, and the two lines of totals
 abbrev pub endRoom : ℕ
-endRoom = (16 + 1) * lineRoom
+endRoom = (16 + 2) * lineRoom
 
 -- the input has ended
 unfoldable pub endedOn : Listing → Reader → Listing
 endedOn l r = record { reader = r; frames = l .frames; bytes = l .bytes; passed = l .passed }
 
--- the lines of the frames that the end released, and the last line
+-- the two lines of totals: the counters of the reader, then those of the listing
+unfoldable pub totalLines : Listing → List ℕ
+totalLines l =
+    let tally = l .reader .candidate .tally in
+    oddLine (tally .odd) (tally .even) ++ lastLine (l .frames) (l .bytes) (l .passed)
+
+-- the lines of the frames that the end released, and those two
 unfoldable pub finalLines : Listing → Lines
 finalLines l =
     let x = linesOf 16 (endedOn l (endedBy (l .reader) .reader)) [] in
-    let end = x .listing in
-    record { text = x .text ++ lastLine (end .frames) (end .bytes) (end .passed); used = 0; listing = end }
+    record { text = x .text ++ totalLines (x .listing); used = 0; listing = x .listing }
 
 abbrev pub endOrder : Listing → ℕ → List Check
 endOrder l room = busy (l .reader) ++ ((ltb room endRoom, 13) ∷ [])

@@ -1,4 +1,4 @@
--- THE TEXT of a stream: a line for each frame of its scan, in order, and a last line of totals, which are counted over the stream itself.
+-- THE TEXT of a stream: a line for each frame of its scan, in order, and two lines of totals, which are counted over the stream itself.
 -- Bytes are ASCII codes. Assumes nothing.
 use mathlib.Core.List.{List, [], _∷_, _++_}
 use Prim.Native.Nat.{ℕ, _+_, _%_, _^_}
@@ -8,6 +8,7 @@ use Rattle.frame.specs.Header.{codeOf}
 use Rattle.frame.specs.declared.Carried.{Carried}
 use Rattle.frame.specs.declared.Frame.{Frame}
 use Rattle.stream.specs.Standing.{Placed, framesIn}
+use Rattle.stream.specs.Faults.{oddIn, evenIn, faultsIn}
 use Rattle.printing.specs.Printing.{decimal}
 
 -- ---- lines
@@ -36,6 +37,17 @@ lineNumbers at f =
 abbrev pub frameLine : ℕ → Frame → List ℕ
 frameLine at f = spaced (lineNumbers at f) ++ pairLast (f .carried)
 
+-- "odd ", " even "
+abbrev pub oddLabel : List ℕ
+oddLabel = 111 ∷ 100 ∷ 100 ∷ 32 ∷ []
+
+abbrev pub evenLabel : List ℕ
+evenLabel = 32 ∷ 101 ∷ 118 ∷ 101 ∷ 110 ∷ 32 ∷ []
+
+-- THE SECOND LAST LINE: how many positions a word ruled out, by an odd number of ones in its remainder and by an even number
+unfoldable pub oddLine : ℕ → ℕ → List ℕ
+oddLine odd even = (oddLabel ++ decimal odd) ++ ((evenLabel ++ decimal even) ++ (newline ∷ []))
+
 -- "frames ", " bytes ", " passed "
 abbrev pub framesLabel : List ℕ
 framesLabel = 102 ∷ 114 ∷ 97 ∷ 109 ∷ 101 ∷ 115 ∷ 32 ∷ []
@@ -58,8 +70,10 @@ unfoldable pub linesIn : List Placed → List ℕ
 linesIn [] = []
 linesIn (h ∷ hs) = frameLine (h .at % 2 ^ 32) (h .frame) ++ linesIn hs
 
--- THE TEXT of the bytes of a whole stream, each total modulo 2^64
+-- THE TEXT of the bytes of a whole stream: the totals of its words modulo 2^32, the others modulo 2^64
 unfoldable pub textOf : List ℕ → List ℕ
 textOf bs =
     let frames = framesIn (lineBits bs) in
-    linesIn frames ++ lastLine (length frames % 2 ^ 64) (length bs % 2 ^ 64) (without bs % 2 ^ 64)
+    let faults = faultsIn (lineBits bs) in
+    let totals = lastLine (length frames % 2 ^ 64) (length bs % 2 ^ 64) (without bs % 2 ^ 64) in
+    linesIn frames ++ (oddLine (oddIn faults % 2 ^ 32) (evenIn faults % 2 ^ 32) ++ totals)

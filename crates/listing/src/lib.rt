@@ -1,9 +1,9 @@
-// What a technician reads: a line for each frame, and a last line of totals.
+// What a technician reads: a line for each frame, and two lines of totals.
 ghost use mathlib.Core.Path.{_≡_};
-ghost use Prim.Native.Nat.{_*_, _≤_};
+ghost use Prim.Native.Nat.{_+_, _*_, _≤_};
 ghost use lib.ListN.{length};
 ghost use lib.Seq.{sets};
-ghost use Rattle.listing.specs.Listing.{begun, fedOn, handedOn, endedOn, linesOf, linedBy, lineRoom};
+ghost use Rattle.listing.specs.Listing.{begun, fedOn, handedOn, endedOn, linesOf, linedBy, lineRoom, totalLines};
 ghost use Rattle.listing.specs.Listing.{readyBy, refusedListing, pieceBy, pieceText, finishBy, finishText};
 
 mod text;
@@ -43,8 +43,8 @@ pub struct Lined {
 // Room for a line: seven numbers of at most twenty digits, each with the space after it, two digits and a newline.
 const LINE_ROOM: usize = 7 * (20 + 1) + 3;
 
-// Room for the lines that the end may release and for the last line.
-const END_ROOM: usize = (16 + 1) * LINE_ROOM;
+// Room for the lines that the end may release and for the two lines of totals.
+const END_ROOM: usize = (16 + 2) * LINE_ROOM;
 
 // A listing of which nothing has been read.
 pub fn new() -> Listing
@@ -188,7 +188,20 @@ pub fn list_piece(listing: Listing, input: &[u8], output: &mut [u8]) -> Listed
     }
 }
 
-// Ends the input, and writes the lines of the frames that this releases and the last line: 5, 3, 2, 13.
+// Writes the two lines of totals from `place` on, and answers the place after them.
+fn put_totals(listing: Listing, place: usize, output: &mut [u8]) -> usize
+    requires { ⌜ place + 2 * lineRoom ≤ length (now output) ⌝ }
+    ensures { λ r. ⌜ (r ≡ place + length (totalLines listing)) × (r ≤ place + 2 * lineRoom) ⌝ }
+    ensures { λ _. ⌜ now (output .exit) ≡ sets (now (output .entry)) place (totalLines listing) ⌝ }
+{
+    let reader = listing.reader;
+    let candidate = reader.candidate;
+    let tally = candidate.tally;
+    let next = text::put_odd(tally.odd, tally.even, place, output);
+    text::put_last(listing.frames, listing.bytes, listing.passed, next, output)
+}
+
+// Ends the input, and writes the lines of the frames that this releases and the two lines of totals: 5, 3, 2, 13.
 pub fn finish(listing: Listing, output: &mut [u8]) -> Listed
     ensures { λ r. ⌜ r ≡ finishBy listing (length (now (output .entry))) ⌝ }
     ensures { λ _. ⌜ now (output .exit) ≡ finishText listing (now (output .entry)) ⌝ }
@@ -204,7 +217,7 @@ pub fn finish(listing: Listing, output: &mut [u8]) -> Listed
     }
     let lined = put_lines(ended_on(listing, ended.reader), b"", 16, output);
     let end = lined.listing;
-    let written = text::put_last(end.frames, end.bytes, end.passed, lined.written, output);
+    let written = put_totals(end, lined.written, output);
     Listed {
         answer: Answer::Done,
         used: 0,

@@ -8,7 +8,7 @@ ghost use lib.Seq.{sets};
 ghost use Rattle.frame.specs.Widths.{stateOutside, pairOutside};
 ghost use Rattle.printing.specs.Printing.{decimal};
 ghost use Rattle.listing.specs.Listing.{numbersRoom, lineRoom};
-ghost use Rattle.listing.specs.Text.{spaced, pairLast, frameLine, lastLine};
+ghost use Rattle.listing.specs.Text.{spaced, pairLast, frameLine, oddLine, lastLine};
 use frame::Carried;
 use frame::Frame;
 use frame::HealthCode;
@@ -80,6 +80,18 @@ fn put_total(label: &[u8], total: u64, place: usize, buffer: &mut [u8]) -> usize
         return place;
     };
     next
+}
+
+// Writes the second last line from `place` on, and answers the place after it.
+pub(crate) fn put_odd(odd: u32, even: u32, place: usize, buffer: &mut [u8]) -> usize
+    requires { ⌜ place + lineRoom ≤ length (now buffer) ⌝ }
+    ensures { λ r. ⌜ (r ≡ place + length (oddLine odd even)) × (r ≤ place + lineRoom) ⌝ }
+    ensures { λ _. ⌜ now (buffer .exit) ≡ sets (now (buffer .entry)) place (oddLine odd even) ⌝ }
+{
+    let first = put_total(b"odd ", odd as u64, place, buffer);
+    let second = put_total(b" even ", even as u64, first, buffer);
+    buffer[second] = 10;
+    second + 1
 }
 
 // Writes the last line from `place` on, and answers the place after it.

@@ -37,7 +37,7 @@ use Rattle.promises.proofs.Serving.{after-append, bits-append, takes-no
 
 -- ---- what was handed out is the first frames of the scan
 
-none-comes : (t : Bool) → MayCome t []
+pub none-comes : (t : Bool) → MayCome t []
 none-comes false = tt
 none-comes true = refl
 
@@ -171,7 +171,7 @@ module _ (bs : List ℕ) where
   unfolding last r
   last-is = after-append (served bs) (ends ∷ takesAll) started ∙ (unfold afterAll in refl)
 
-  last-ended : afterAll started all .ended ≡ true
+  pub last-ended : afterAll started all .ended ≡ true
   unfolding last r
   last-ended = ap (λ (t : Reader). t .ended) last-is ∙ takes-ended 16 (after (afterAll started (served bs)) ends) ∙ (unfold after in over)
     where
@@ -185,7 +185,7 @@ module _ (bs : List ℕ) where
   last-none =
       ap (λ (t : Reader). t .candidate .waits) last-is ∙ none-waits _ _ (after (afterAll started (served bs)) ends) (kept-call _ _ _ ends (kept (served bs)))
 
-  last-bits : bitsTaken started all ≡ lineBits bs
+  pub last-bits : bitsTaken started all ≡ lineBits bs
   unfolding r
   last-bits = bits-append (served bs) (ends ∷ takesAll) started ∙ ap₂ _++_ (v .bits) none ∙ append-nil (lineBits bs)
     where

@@ -6,6 +6,7 @@ use Rattle.promises.proofs.Demand2.{demand-2}
 use Rattle.promises.proofs.Demand3.{handed-out, one-by-one, damage-begins-nothing, only-frames, nothing-lost, as-soon-as, never-five}
 use Rattle.promises.proofs.Slices.{in-slices}
 use Rattle.promises.proofs.Turned.{turned-is-same}
+use Rattle.promises.proofs.Counters.{counters}
 use Rattle.promises.proofs.EveryReader.{feed-all-is-feed}
 use Rattle.promises.proofs.Whole.{text-is-whole}
 use Rattle.promises.proofs.Progress.{nothing-left, piece-taken, reached, text-comes}
@@ -31,6 +32,7 @@ demands = record {
   first = demand-1;
   second = demand-2;
   third = demand-3;
+  counters = counters;
   text = text-is-whole;
   nothing-left = nothing-left;
   taken = piece-taken;

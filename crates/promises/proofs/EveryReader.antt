@@ -56,7 +56,7 @@ step-held : (cells : List ℕ) → length cells ≡ 40 → (c : Candidate) → A
 unfolding stepTo movedTo
 step-held cells l c a w x =
     left-le (stepCells cells c x) (length-step cells l c a w x) (roomEnd (c .end) (c .held) + 6) (c .held + 6) (step-top cells l c a w x)
-    (step-low cells l c a w x) (c .words) false
+    (step-low cells l c a w x) (c .words) false (c .tally)
 
 module _ (b : ℕ) (bs : List ℕ) (u : ℕ) where
   feed-first : (r : Reader) → feedEach r (take (1 + u) (b ∷ bs)) ≡ feedEach (fedBy r b .reader) (take u bs)

@@ -3,8 +3,8 @@
 use mathlib.Core.Path.{_≡_, refl, sym, ap, ap₂, subst, _∙_}
 use mathlib.Core.Bool.{Bool, true, false}
 use mathlib.Core.List.{List, [], _∷_, _++_, map, map-append, append-assoc}
-use Prim.Native.Nat.{ℕ, _+_, _-_, _*_, _%_, _^_, _≤_}
-use native.Mathlib.Nat.{add-assoc}
+use Prim.Native.Nat.{ℕ, suc, _+_, _-_, _*_, _%_, _^_, _≤_}
+use native.Mathlib.Nat.{zero-add, add-suc, add-assoc}
 use native.Mathlib.Omega.{arith}
 use lib.ListN.{length, drop, replicate, length-append, length-drop}
 use lib.Seq.{drop-append-le, drop-drop}
@@ -13,29 +13,27 @@ use Rattle.bits.proofs.Numbers.{bits-number}
 use Rattle.line.specs.Line.{six}
 use Rattle.line.proofs.LineLaws.{length-six, six-lt}
 use Rattle.frame.specs.declared.Frame.{Frame}
-use Rattle.stream.specs.Standing.{size, Stands, frameAt, Placed, placed, scan, framesIn}
-use Rattle.stream.specs.Verdict.{RightSoFar, decided, hunt}
+use Rattle.stream.specs.Standing.{size, Stands, frameAt, Placed, placed, scan}
+use Rattle.stream.specs.Verdict.{RightSoFar, decided, Fault, hunt}
+use Rattle.stream.specs.Faults.{faults}
 use Rattle.stream.proofs.Words.{unlike, n-append}
 use Rattle.stream.proofs.Stand.{stands-long, stands-append, placed-append}
 use Rattle.stream.proofs.Verdicts.{none-so-far, so-far-append}
 use Rattle.stream.proofs.Scanning.{scan-hit}
 use Rattle.stream.proofs.Prefix.{decided-hit}
+use Rattle.stream.proofs.Faulting.{faults-hit}
 use Rattle.stream.proofs.Hunting.{MayCome, Idle, Hunts, hunts}
 use Rattle.reader.specs.Cells.{heldBits, roomEnd}
-use Rattle.reader.specs.Hunting.{haltOf, huntOf}
+use Rattle.reader.specs.Hunting.{fresh, tallied, haltOf, huntOf}
 use Rattle.reader.specs.Reading.{candidateBits, bitsOf, started, movedTo, stepCells, stepTo, steppedBy, endTo, takeTo}
+use Rattle.reader.specs.declared.Tally.{Tally}
 use Rattle.reader.specs.declared.Candidate.{Candidate}
 use Rattle.reader.specs.declared.Reader.{Reader}
 use Rattle.reader.proofs.Buffer.{length-held, held-part, held-none}
 use Rattle.reader.proofs.Accepted.{Accepted, room-free, room-all, so-far-known, rest-bits, accepted-halt, length-step, step-top, step-low, step-bits}
+use Rattle.reader.proofs.Tallies.{tallied-append}
 use Rattle.promises.specs.Calls.{reported}
-
--- where the hunt is after `hits` in the stream s, with d left: at position 2 + gone
-pub record Stage (s : List Bool) (hits : List Placed) (ended : Bool) (gone : ℕ) (d : List Bool) : Type 0 where
-  pub split : d ≡ drop gone s
-  pub long : gone + length d ≡ length s
-  pub scanned : (e : List Bool) → MayCome ended e → framesIn (s ++ e) ≡ hits ++ scan 0 (2 + gone) (d ++ e)
-  pub decides : ended ≡ false → (e : List Bool) → decided 0 2 (s ++ e) ≡ hits ++ decided 0 (2 + gone) (d ++ e)
+use Rattle.promises.proofs.Stages.{Stage, stage-more}
 
 pub record Kept (s : List Bool) (out : List (ℕ × Frame)) (r : Reader) : Type 0 where
   pub len : length (r .cells) ≡ 40
@@ -43,7 +41,9 @@ pub record Kept (s : List Bool) (out : List (ℕ × Frame)) (r : Reader) : Type 
   pub hits : List Placed
   pub given : out ≡ map reported hits
   pub gone : ℕ
-  pub stage : Stage s hits (r .ended) gone (bitsOf r)
+  pub met : List Fault
+  pub tally : r .candidate .tally ≡ tallied fresh met
+  pub stage : Stage s hits met (r .ended) gone (bitsOf r)
   pub at : r .candidate .at ≡ (2 + gone) % 2 ^ 32
   pub found : r .candidate .waits ≡ true → Stands (bitsOf r)
   pub idle : r .candidate .waits ≡ false → Idle (r .ended) (r .candidate .words) (bitsOf r)
@@ -71,29 +71,37 @@ further at held n left gone more h m e =
 
 module _ (s : List Bool) (out : List (ℕ × Frame)) (hits : List Placed) (given : out ≡ map reported hits) (ended : Bool) (cells : List ℕ)
     (len : length cells ≡ 40)
-    (end n : ℕ) (top : end ≤ 1280) (low : n ≤ end) (room : n ≤ 997) (k : ℕ) (gone : ℕ) (g : Stage s hits ended gone (heldBits cells end n))
+    (end n : ℕ) (top : end ≤ 1280) (low : n ≤ end) (room : n ≤ 997) (k : ℕ) (gone : ℕ) (met : List Fault) (t : Tally) (counts : t ≡ tallied fresh met)
+    (g : Stage s hits met ended gone (heldBits cells end n))
     (p : RightSoFar k (heldBits cells end n)) (few : k ≤ 32) (at held : ℕ) (less : n ≤ held) (place : (at + (held - n)) % 2 ^ 32 ≡ (2 + gone) % 2 ^ 32) where
   h : Hunts ended (heldBits cells end n) (hunt ended k (heldBits cells end n))
   h = hunts ended k (heldBits cells end n) p
 
-  rest : heldBits cells end (huntOf cells end n k ended .left) ≡ hunt ended k (heldBits cells end n) .rest
-  rest = rest-bits cells len end n top low k ended
+  abbrev more : List Fault
+  more = hunt ended k (heldBits cells end n) .faults
 
-  pub settled : Kept s out (record { cells = cells; candidate = movedTo at end held (huntOf cells end n k ended); ended = ended })
+  rest : heldBits cells end (huntOf cells end n k ended t .left) ≡ hunt ended k (heldBits cells end n) .rest
+  rest = rest-bits cells len end n top low k ended t
+
+  pub settled : Kept s out (record { cells = cells; candidate = movedTo at end held (huntOf cells end n k ended t); ended = ended })
   unfolding movedTo candidateBits huntOf haltOf
   settled = record {
     len = len;
     accepted =
-        accepted-halt cells len end n top low k ended at held room few
+        accepted-halt cells len end n top low k ended t at held room few
         (omega (arith, so-far-known k (heldBits cells end n) p, length-held cells end n len top low));
     hits = hits;
     given = given;
     gone = gone + h .gone;
+    met = met ++ more;
+    tally = ap (λ x. tallied x more) counts ∙ sym (tallied-append fresh met more);
     stage = record {
       split = rest ∙ h .rest ∙ ap (drop (h .gone)) (g .split) ∙ drop-drop (h .gone) gone s;
       long = ap (λ l. gone + h .gone + length l) rest ∙ omega (arith, h .long, g .long);
       scanned = λ e m. g .scanned e m ∙ ap (λ l. hits ++ l) (h .scanned (2 + gone) e m ∙ rw (add-assoc 2 gone (h .gone), rest));
       decides = λ x e. g .decides x e ∙ ap (λ l. hits ++ l) (h .decides x (2 + gone) e ∙ rw (add-assoc 2 gone (h .gone), rest));
+      faulted = λ x y m e z. g .faulted x y m e z ∙ ap (λ l. met ++ l) (h .faulted x y m e z)
+          ∙ sym (append-assoc met more _) ∙ ap (λ l. (met ++ more) ++ faults x m 0 (l ++ e)) (sym rest);
     };
     at = further at held n (length (hunt ended k (heldBits cells end n) .rest)) gone (h .gone) less (h .long ∙ length-held cells end n len top low) place;
     found = λ w. subst Stands (sym rest) (h .found w);
@@ -110,12 +118,15 @@ kept-started = record {
   hits = [];
   given = refl;
   gone = 0;
+  met = [];
+  tally = unfold tallied in refl;
   stage =
       record {
         split = none;
         long = ap (λ l. 0 + length l) none;
         scanned = λ e m. ap (λ l. scan 0 2 (l ++ e)) (sym none);
         decides = λ x e. ap (λ l. decided 0 2 (l ++ e)) (sym none);
+        faulted = λ x y m e z. ap₂ (λ i l. faults x i 0 (l ++ e)) (zero-add m) (sym none);
       };
   at = refl;
   found = λ w. unlike false w refl;
@@ -127,14 +138,6 @@ kept-started = record {
 
 -- ---- BITS MORE
 
-stage-more : (s : List Bool) (hits : List Placed) (gone : ℕ) (d x : List Bool) → Stage s hits false gone d → Stage (s ++ x) hits false gone (d ++ x)
-stage-more s hits gone d x g = record {
-  split = ap (λ l. l ++ x) (g .split) ∙ sym (drop-append-le gone s x (omega (arith, g .long)));
-  long = omega (arith, g .long, length-append d x, length-append s x);
-  scanned = λ y m. rw (append-assoc s x y, append-assoc d x y) (g .scanned (x ++ y) tt);
-  decides = λ f y. rw (append-assoc s x y, append-assoc d x y) (g .decides f (x ++ y));
-}
-
 pub kept-pushed : (s : List Bool) (out : List (ℕ × Frame)) (r : Reader) (b : ℕ) → Kept s out r → r .ended ≡ false → r .candidate .waits ≡ false
     → Kept (s ++ six b) out (steppedBy r b)
 unfolding steppedBy stepTo
@@ -142,8 +145,9 @@ kept-pushed s out r b k e w =
     subst (λ x. Kept (s ++ six b) out (record { cells = cells; candidate = stepTo (r .cells) (r .candidate) (number (six b)); ended = x })) (sym e)
     (settled (s ++ six b) out (k .hits) (k .given) false cells (length-step (r .cells) (k .len) c a w (number (six b)))
     (roomEnd (c .end) (c .held) + 6) (c .held + 6) (step-top (r .cells) (k .len) c a w (number (six b))) (step-low (r .cells) (k .len) c a w (number (six b)))
-    (omega (arith, room-free c a w)) (c .words) (k .gone)
-    (subst (Stage (s ++ six b) (k .hits) false (k .gone)) (sym bits-are) (stage-more s (k .hits) (k .gone) (bitsOf r) (six b) (rw e at (k .stage))))
+    (omega (arith, room-free c a w)) (c .words) (k .gone) (k .met) (c .tally) (k .tally)
+    (subst (Stage (s ++ six b) (k .hits) (k .met) false (k .gone)) (sym bits-are)
+    (stage-more s (k .hits) (k .met) (k .gone) (bitsOf r) (six b) (rw e at (k .stage))))
     (subst (RightSoFar (c .words)) (sym bits-are) (so-far-append (c .words) (bitsOf r) (six b) (quiet .0)))
     (a .few) (c .at) (c .held + 6) (omega arith) here)
   where
@@ -172,11 +176,13 @@ pub kept-ended : (s : List Bool) (out : List (ℕ × Frame)) (r : Reader) → Ke
 unfolding endTo candidateBits
 kept-ended s out r k e w =
     settled s out (k .hits) (k .given) true (r .cells) (k .len) (c .end) (c .held) (a .top) (a .low) (room-all c a) (c .words) (k .gone)
+    (k .met) (c .tally) (k .tally)
     (record {
       split = k .stage .split;
       long = k .stage .long;
       scanned = λ x m. k .stage .scanned x (subst (λ t. MayCome t x) (sym e) tt);
       decides = λ f. unlike true refl f;
+      faulted = λ x y m z u. k .stage .faulted x (λ q. y refl) m z (subst (λ t. MayCome t z) (sym e) tt);
     })
     (quiet .0) (a .few) (c .at) (c .held) (omega arith) (standing-still (c .at) (c .held) (k .gone) (k .at))
   where
@@ -241,15 +247,25 @@ module _ (s : List Bool) (out : List (ℕ × Frame)) (r : Reader) (k : Kept s ou
         add-assoc 2 (k .gone) m,
       )
 
+  rest-faults : (x : Bool) (n : ℕ) (e : List Bool) → faults x (suc n) 0 (bitsOf r ++ e) ≡ faults x n 0 (drop m (bitsOf r) ++ e)
+  unfolding m
+  rest-faults x n e =
+      faults-hit x n (bitsOf r ++ e) (stands-append (bitsOf r) e stood)
+      ∙ rw (n-append (bitsOf r) e (stands-long (bitsOf r) stood), drop-append-le m (bitsOf r) e within)
+
+  hits-more : (n : ℕ) → length (k .hits ++ (hit ∷ [])) + n ≡ length (k .hits) + suc n
+  hits-more n = omega (arith, length-append (k .hits) (hit ∷ []), add-suc (length (k .hits)) n)
+
   one-more : (rest all : List Placed) → all ≡ hit ∷ rest → k .hits ++ all ≡ (k .hits ++ (hit ∷ [])) ++ rest
   one-more rest all e = ap (λ l. k .hits ++ l) e ∙ sym (append-assoc (k .hits) (hit ∷ []) rest)
 
-  stage : Stage s (k .hits ++ (hit ∷ [])) (r .ended) (k .gone + m) (heldBits (r .cells) (r .candidate .end) (r .candidate .held - m))
+  stage : Stage s (k .hits ++ (hit ∷ [])) (k .met) (r .ended) (k .gone + m) (heldBits (r .cells) (r .candidate .end) (r .candidate .held - m))
   stage = rw cut (record {
     split = ap (drop m) (k .stage .split) ∙ drop-drop m (k .gone) s;
     long = omega (arith, length-drop m (bitsOf r), within, k .stage .long);
     scanned = λ e x. k .stage .scanned e x ∙ one-more _ _ (rest-scan e);
     decides = λ f e. k .stage .decides f e ∙ one-more _ _ (rest-decided e);
+    faulted = λ x y n e z. ap (λ i. faults x i 0 (s ++ e)) (hits-more n) ∙ k .stage .faulted x y (suc n) e z ∙ ap (λ l. k .met ++ l) (rest-faults x n e);
   })
 
   place : (r .candidate .at + (r .candidate .held - (r .candidate .held - m))) % 2 ^ 32 ≡ (2 + (k .gone + m)) % 2 ^ 32
@@ -265,5 +281,6 @@ module _ (s : List Bool) (out : List (ℕ × Frame)) (r : Reader) (k : Kept s ou
       settled s (out ++ ((r .candidate .at, frameAt (bitsOf r)) ∷ [])) (k .hits ++ (hit ∷ []))
       (rw (map-append reported (k .hits) (hit ∷ [])) (ap₂ (λ a b. a ++ (b ∷ [])) (k .given) given-is))
       (r .ended) (r .cells) (k .len) (r .candidate .end) (r .candidate .held - m) (k .accepted .top) (omega (arith, k .accepted .low))
-      (omega (arith, room-all (r .candidate) (k .accepted))) 0 (k .gone + m) stage (none-so-far _) (omega arith)
+      (omega (arith, room-all (r .candidate) (k .accepted))) 0 (k .gone + m)
+      (k .met) (r .candidate .tally) (k .tally) stage (none-so-far _) (omega arith)
       (r .candidate .at) (r .candidate .held) (omega arith) place

@@ -1,9 +1,13 @@
+pub mod Stages
 pub mod Kept
 pub mod Runs
 pub mod Serving
 pub mod Demand3
+pub mod Counting
 pub mod Opposed
 pub mod Turned
+pub mod WorkedCounts
+pub mod Counters
 pub mod EveryReader
 pub mod Answered
 pub mod PartCalls

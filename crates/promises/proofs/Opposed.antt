@@ -15,9 +15,10 @@ use Rattle.stream.proofs.Stand.{stands-long}
 use Rattle.stream.proofs.Turning.{drop-turned, n-turned}
 use Rattle.stream.proofs.Hunting.{turnedHunt, hunt-turned}
 use Rattle.reader.specs.Cells.{heldBits, roomEnd}
-use Rattle.reader.specs.Hunting.{haltOf, huntOf}
+use Rattle.reader.specs.Hunting.{tallied, haltOf, huntOf}
 use Rattle.reader.specs.Reading.{candidateBits, movedTo, stepCells, stepTo, endTo, takeTo}
 use Rattle.reader.specs.declared.hunt.Halt.{Halt}
+use Rattle.reader.specs.declared.Tally.{Tally}
 use Rattle.reader.specs.declared.Candidate.{Candidate}
 use Rattle.reader.proofs.Buffer.{held-part, length-held}
 use Rattle.reader.proofs.Accepted.{Accepted, rest-bits, length-step, step-top, step-low, step-bits}
@@ -28,33 +29,35 @@ pub record Opposed (cells : List ℕ) (c : Candidate) (cells′ : List ℕ) (c�
   pub words : c′ .words ≡ c .words
   pub at : c′ .at ≡ c .at
   pub waits : c′ .waits ≡ c .waits
+  pub tally : c′ .tally ≡ c .tally
 
 -- ---- the hunt goes on
 
-same-halt : (h : Hunted) → haltOf (turnedHunt h) ≡ haltOf h
+same-halt : (t : Tally) (h : Hunted) → haltOf t (turnedHunt h) ≡ haltOf t h
 unfolding haltOf turnedHunt
-same-halt h = ap (λ n. record { left = n; words = h .words; found = h .found }) (length-map (h .rest) not)
+same-halt t h = ap (λ n. record { left = n; words = h .words; found = h .found; tally = tallied t (h .faults) }) (length-map (h .rest) not)
 
 module _ (cells cells′ : List ℕ) (len : length cells ≡ 40) (len′ : length cells′ ≡ 40) (end end′ n : ℕ) (top : end ≤ 1280) (top′ : end′ ≤ 1280)
     (low : n ≤ end) (low′ : n ≤ end′)
-    (k : ℕ) (e : Bool) (is : heldBits cells′ end′ n ≡ map not (heldBits cells end n)) where
-  halt : huntOf cells′ end′ n k e ≡ huntOf cells end n k e
+    (k : ℕ) (e : Bool) (t : Tally) (is : heldBits cells′ end′ n ≡ map not (heldBits cells end n)) where
+  halt : huntOf cells′ end′ n k e t ≡ huntOf cells end n k e t
   unfolding huntOf
-  halt = ap (λ d. haltOf (hunt e k d)) is ∙ ap haltOf (hunt-turned e k (heldBits cells end n)) ∙ same-halt (hunt e k (heldBits cells end n))
+  halt = ap (λ d. haltOf t (hunt e k d)) is ∙ ap (haltOf t) (hunt-turned e k (heldBits cells end n)) ∙ same-halt t (hunt e k (heldBits cells end n))
 
-  rest : heldBits cells′ end′ (huntOf cells end n k e .left) ≡ map not (heldBits cells end (huntOf cells end n k e .left))
+  rest : heldBits cells′ end′ (huntOf cells end n k e t .left) ≡ map not (heldBits cells end (huntOf cells end n k e t .left))
   rest =
       ap (λ (s : Halt). heldBits cells′ end′ (s .left)) (sym halt)
-      ∙ rest-bits cells′ len′ end′ n top′ low′ k e
+      ∙ rest-bits cells′ len′ end′ n top′ low′ k e t
       ∙ ap (λ d. hunt e k d .rest) is
       ∙ ap (λ (h : Hunted). h .rest) (hunt-turned e k (heldBits cells end n))
-      ∙ (unfold turnedHunt in ap (map not) (sym (rest-bits cells len end n top low k e)))
+      ∙ (unfold turnedHunt in ap (map not) (sym (rest-bits cells len end n top low k e t)))
 
-  pub stopped-opposed : (at held : ℕ) → Opposed cells (movedTo at end held (huntOf cells end n k e)) cells′ (movedTo at end′ held (huntOf cells′ end′ n k e))
-  stopped-opposed at held = subst (λ s. Opposed cells (movedTo at end held (huntOf cells end n k e)) cells′ (movedTo at end′ held s)) (sym halt) same
+  pub stopped-opposed : (at held : ℕ)
+      → Opposed cells (movedTo at end held (huntOf cells end n k e t)) cells′ (movedTo at end′ held (huntOf cells′ end′ n k e t))
+  stopped-opposed at held = subst (λ s. Opposed cells (movedTo at end held (huntOf cells end n k e t)) cells′ (movedTo at end′ held s)) (sym halt) same
     where
-      same : Opposed cells (movedTo at end held (huntOf cells end n k e)) cells′ (movedTo at end′ held (huntOf cells end n k e))
-      same = unfold movedTo candidateBits in record { bits = rest; held = refl; words = refl; at = refl; waits = refl }
+      same : Opposed cells (movedTo at end held (huntOf cells end n k e t)) cells′ (movedTo at end′ held (huntOf cells end n k e t))
+      same = unfold movedTo candidateBits in record { bits = rest; held = refl; words = refl; at = refl; waits = refl; tally = refl }
 
 -- ---- the calls
 
@@ -69,7 +72,7 @@ module _ (cells : List ℕ) (len : length cells ≡ 40) (c : Candidate) (a : Acc
       (unfold stepTo in stopped-opposed (stepCells cells c x) (stepCells cells′ c′ x′) (length-step cells len c a w x) (length-step cells′ len′ c′ a′ w′ x′)
       (roomEnd (c .end) (c .held) + 6) (roomEnd (c′ .end) (c′ .held) + 6) (c .held + 6) (step-top cells len c a w x) (step-top cells′ len′ c′ a′ w′ x′)
       (step-low cells len c a w x) (subst (λ h. h + 6 ≤ roomEnd (c′ .end) (c′ .held) + 6) (o .held) (step-low cells′ len′ c′ a′ w′ x′))
-      (c .words) false bits-are (c .at) (c .held + 6))
+      (c .words) false (c .tally) bits-are (c .at) (c .held + 6))
     where
       x : ℕ
       x = number (six b)
@@ -82,10 +85,10 @@ module _ (cells : List ℕ) (len : length cells ≡ 40) (c : Candidate) (a : Acc
 
       step-is : stepTo cells′ c′ x′
           ≡ movedTo (c .at) (roomEnd (c′ .end) (c′ .held) + 6) (c .held + 6)
-          (huntOf (stepCells cells′ c′ x′) (roomEnd (c′ .end) (c′ .held) + 6) (c .held + 6) (c .words) false)
+          (huntOf (stepCells cells′ c′ x′) (roomEnd (c′ .end) (c′ .held) + 6) (c .held + 6) (c .words) false (c .tally))
       step-is =
           unfold stepTo in (λ i. movedTo (o .at i) (roomEnd (c′ .end) (c′ .held) + 6) (o .held i + 6)
-          (huntOf (stepCells cells′ c′ x′) (roomEnd (c′ .end) (c′ .held) + 6) (o .held i + 6) (o .words i) false))
+          (huntOf (stepCells cells′ c′ x′) (roomEnd (c′ .end) (c′ .held) + 6) (o .held i + 6) (o .words i) false (o .tally i)))
 
       bits-are : heldBits (stepCells cells′ c′ x′) (roomEnd (c′ .end) (c′ .held) + 6) (c .held + 6)
           ≡ map not (heldBits (stepCells cells c x) (roomEnd (c .end) (c .held) + 6) (c .held + 6))
@@ -100,10 +103,10 @@ module _ (cells : List ℕ) (len : length cells ≡ 40) (c : Candidate) (a : Acc
   end-opposed =
       subst (Opposed cells (endTo cells c) cells′) (sym end-is)
       (unfold endTo in stopped-opposed cells cells′ len len′ (c .end) (c′ .end) (c .held) (a .top) (a′ .top) (a .low)
-      (subst (λ h. h ≤ c′ .end) (o .held) (a′ .low)) (c .words) true bits-are (c .at) (c .held))
+      (subst (λ h. h ≤ c′ .end) (o .held) (a′ .low)) (c .words) true (c .tally) bits-are (c .at) (c .held))
     where
-      end-is : endTo cells′ c′ ≡ movedTo (c .at) (c′ .end) (c .held) (huntOf cells′ (c′ .end) (c .held) (c .words) true)
-      end-is = unfold endTo in (λ i. movedTo (o .at i) (c′ .end) (o .held i) (huntOf cells′ (c′ .end) (o .held i) (o .words i) true))
+      end-is : endTo cells′ c′ ≡ movedTo (c .at) (c′ .end) (c .held) (huntOf cells′ (c′ .end) (c .held) (c .words) true (c .tally))
+      end-is = unfold endTo in (λ i. movedTo (o .at i) (c′ .end) (o .held i) (huntOf cells′ (c′ .end) (o .held i) (o .words i) true (o .tally i)))
 
       bits-are : heldBits cells′ (c′ .end) (c .held) ≡ map not (heldBits cells (c .end) (c .held))
       bits-are = unfold candidateBits in ap (heldBits cells′ (c′ .end)) (sym (o .held)) ∙ o .bits
@@ -112,7 +115,7 @@ module _ (cells : List ℕ) (len : length cells ≡ 40) (c : Candidate) (a : Acc
   take-opposed s ended =
       subst (Opposed cells (takeTo cells c ended) cells′) (sym take-is)
       (unfold takeTo in stopped-opposed cells cells′ len len′ (c .end) (c′ .end) (c .held - m) (a .top) (a′ .top) (omega (arith, a .low))
-      (omega (arith, a′ .low, o .held)) 0 ended bits-are (c .at) (c .held))
+      (omega (arith, a′ .low, o .held)) 0 ended (c .tally) bits-are (c .at) (c .held))
     where
       m : ℕ
       m = 30 * size (candidateBits cells c)
@@ -120,8 +123,8 @@ module _ (cells : List ℕ) (len : length cells ≡ 40) (c : Candidate) (a : Acc
       same : nAt (candidateBits cells′ c′) ≡ nAt (candidateBits cells c)
       same = ap nAt (o .bits) ∙ n-turned (candidateBits cells c) (stands-long (candidateBits cells c) s)
 
-      take-is : takeTo cells′ c′ ended ≡ movedTo (c .at) (c′ .end) (c .held) (huntOf cells′ (c′ .end) (c .held - m) 0 ended)
-      take-is = unfold takeTo in (λ i. movedTo (o .at i) (c′ .end) (o .held i) (huntOf cells′ (c′ .end) (o .held i - 30 * (2 + same i)) 0 ended))
+      take-is : takeTo cells′ c′ ended ≡ movedTo (c .at) (c′ .end) (c .held) (huntOf cells′ (c′ .end) (c .held - m) 0 ended (c .tally))
+      take-is = unfold takeTo in (λ i. movedTo (o .at i) (c′ .end) (o .held i) (huntOf cells′ (c′ .end) (o .held i - 30 * (2 + same i)) 0 ended (o .tally i)))
 
       long : length (heldBits cells (c .end) (c .held)) ≡ c .held
       long = length-held cells (c .end) (c .held) len (a .top) (a .low)

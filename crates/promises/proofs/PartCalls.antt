@@ -10,7 +10,7 @@ part-calls = record {
   byte-of = record { asks-nothing = λ κs a. tt; settles = λ κs a z e p. p; ends = line.byte_of.Met.met };
   data-of = record { asks-nothing = λ κs a. tt; settles = λ κs a z e p. p; ends = word.data_of.Met.met };
   word-remainder = record { asks-nothing = λ κs a. tt; settles = λ κs a z e p. p; ends = word.remainder.Met.met };
-  word-passes = record { asks-nothing = λ κs a. tt; settles = λ κs a z e p. p; ends = word.passes.Met.met };
+  word-test = record { asks-nothing = λ κs a. tt; settles = λ κs a z e p. p; ends = word.test.Met.met };
   word-of = record { asks-nothing = λ κs a. tt; settles = λ κs a z e p. p; ends = word.word_of.Met.met };
   state-of = record { asks-nothing = λ κs a. tt; settles = λ κs a z e p. p; ends = frame.state_of.Met.met };
   health-of = record { asks-nothing = λ κs a. tt; settles = λ κs a z e p. p; ends = frame.health_of.Met.met };

@@ -86,7 +86,7 @@ fewer s out r k w = subst (λ (t : Reader). t .candidate .held + 60 ≤ r .candi
         omega (
           arith,
           left-le (r .cells) (k .len) (r .candidate .end) (r .candidate .held - 30 * size (bitsOf r)) (k .accepted .top)
-              (omega (arith, k .accepted .low)) 0 (r .ended),
+              (omega (arith, k .accepted .low)) 0 (r .ended) (r .candidate .tally),
           k .found w .taken,
           held-long r (k .len) (k .accepted),
         )
@@ -180,7 +180,7 @@ module _ (s : List Bool) (out : List (ℕ × Frame)) (r : Reader) (k : Kept s ou
       held =
           unfold steppedBy stepTo movedTo candidateBits in
           rest-bits (stepCells (r .cells) c x) (length-step (r .cells) (k .len) c (k .accepted) w x) end (c .held + 6)
-          (step-top (r .cells) (k .len) c (k .accepted) w x) (step-low (r .cells) (k .len) c (k .accepted) w x) (c .words) false
+          (step-top (r .cells) (k .len) c (k .accepted) w x) (step-low (r .cells) (k .len) c (k .accepted) w x) (c .words) false (c .tally)
           ∙ h .rest ∙ ap (drop (h .gone)) is
 
   next : Reader

@@ -24,9 +24,10 @@ use Rattle.reader.specs.declared.Taken.{Taken}
 use Rattle.reader.proofs.Buffer.{held-none}
 use Rattle.reader.proofs.Accepted.{Accepted, length-step, accepted-step}
 use Rattle.reader.proofs.Running.{run-waits, run-on, run-over}
-use Rattle.promises.specs.Calls.{Call, feeds, feedsAll, ends, takes, replied, used, took, replyTo, after, replies}
+use Rattle.promises.specs.Calls.{Call, feeds, feedsAll, ends, takes, replied, used, took, replyTo, after, afterAll, replies}
 use Rattle.promises.specs.Demand3.{OppositeByte, OppositeBytes, no-bytes, byte-and, OppositeCalls, no-calls}
 use Rattle.promises.specs.Demand3.{fed-and, all-and, end-and, take-and, turnedReply, TurnedIsSame}
+use Rattle.promises.specs.Counters.{TurnedCounts}
 use Rattle.promises.proofs.Kept.{Kept, kept-started}
 use Rattle.promises.proofs.Runs.{given, fed-by, all-by, ended-by, sound-taken, kept-sound, never-past, kept-call}
 use Rattle.promises.proofs.Opposed.{Opposed, step-opposed, end-opposed, take-opposed}
@@ -197,38 +198,53 @@ module _ (s s′ : List Bool) (out out′ : List (ℕ × Frame)) (r r′ : Reade
 
 -- ---- any calls
 
+record AllAlike (r r′ : Reader) (cs ds : List Call) : Type 0 where
+  replies : replies r′ ds ≡ map turnedReply (replies r cs)
+  facing : Facing (afterAll r cs) (afterAll r′ ds)
+
+one-more : {r r′ : Reader} {c d : Call} {cs ds : List Call} → Alike r r′ c d → AllAlike (after r c) (after r′ d) cs ds → AllAlike r r′ (c ∷ cs) (d ∷ ds)
+one-more a l = record { replies = unfold replies in ap₂ _∷_ (a .reply) (l .replies); facing = unfold afterAll in l .facing }
+
 calls-alike : {cs ds : List Call} → OppositeCalls cs ds → (s s′ : List Bool) (out out′ : List (ℕ × Frame)) (r r′ : Reader) → Kept s out r
     → Kept s′ out′ r′ → Facing r r′
-    → replies r′ ds ≡ map turnedReply (replies r cs)
-unfolding replies
-calls-alike no-calls s s′ out out′ r r′ k k′ f = refl
+    → AllAlike r r′ cs ds
+calls-alike no-calls s s′ out out′ r r′ k k′ f = record { replies = unfold replies in refl; facing = unfold afterAll in f }
 calls-alike (fed-and {b = b} {c = d} t rest) s s′ out out′ r r′ k k′ f =
     let a = fed-alike s s′ out out′ r r′ k k′ f b d t in
-    ap₂ _∷_ (a .reply) (calls-alike rest _ _ _ _ (after r (feeds b)) (after r′ (feeds d)) (kept-call s out r (feeds b) k)
+    one-more a (calls-alike rest _ _ _ _ (after r (feeds b)) (after r′ (feeds d)) (kept-call s out r (feeds b) k)
     (kept-call s′ out′ r′ (feeds d) k′) (a .facing))
 calls-alike (all-and {bs = bs} {ds = ds} t rest) s s′ out out′ r r′ k k′ f =
     let a = all-alike s s′ out out′ r r′ k k′ f bs ds t in
-    ap₂ _∷_ (a .reply) (calls-alike rest _ _ _ _ (after r (feedsAll bs)) (after r′ (feedsAll ds)) (kept-call s out r (feedsAll bs) k)
+    one-more a (calls-alike rest _ _ _ _ (after r (feedsAll bs)) (after r′ (feedsAll ds)) (kept-call s out r (feedsAll bs) k)
     (kept-call s′ out′ r′ (feedsAll ds) k′) (a .facing))
 calls-alike (end-and rest) s s′ out out′ r r′ k k′ f =
     let a = end-alike s s′ out out′ r r′ k k′ f in
-    ap₂ _∷_ (a .reply) (calls-alike rest _ _ _ _ (after r ends) (after r′ ends) (kept-call s out r ends k) (kept-call s′ out′ r′ ends k′) (a .facing))
+    one-more a (calls-alike rest _ _ _ _ (after r ends) (after r′ ends) (kept-call s out r ends k) (kept-call s′ out′ r′ ends k′) (a .facing))
 calls-alike (take-and rest) s s′ out out′ r r′ k k′ f =
     let a = take-alike s s′ out out′ r r′ k k′ f in
-    ap₂ _∷_ (a .reply) (calls-alike rest _ _ _ _ (after r takes) (after r′ takes) (kept-call s out r takes k) (kept-call s′ out′ r′ takes k′) (a .facing))
+    one-more a (calls-alike rest _ _ _ _ (after r takes) (after r′ takes) (kept-call s out r takes k) (kept-call s′ out′ r′ takes k′) (a .facing))
+
+-- from the start
+empty : bitsOf started ≡ []
+empty = unfold started candidateBits in held-none (replicate 40 0) 0
+
+from-start : (cs ds : List Call) → OppositeCalls cs ds → AllAlike started started cs ds
+from-start cs ds t =
+    calls-alike t [] [] [] [] started started kept-started kept-started (record {
+      opposed = record { bits = empty ∙ sym (ap (map not) empty); held = refl; words = refl; at = refl; waits = refl; tally = refl };
+      ended = refl;
+    })
 
 pub turned-is-same : TurnedIsSame
 turned-is-same = record {
-  calls = λ cs ds t. calls-alike t [] [] [] [] started started kept-started kept-started (record { opposed = fresh; ended = refl });
+  calls = λ cs ds t. from-start cs ds t .replies;
   stand = λ d. (stands-turned d, stands-back d);
   frame = frame-turned;
 }
-  where
-    empty : bitsOf started ≡ []
-    empty = unfold started candidateBits in held-none (replicate 40 0) 0
 
-    fresh : Opposed (started .cells) (started .candidate) (started .cells) (started .candidate)
-    fresh = record { bits = empty ∙ sym (ap (map not) empty); held = refl; words = refl; at = refl; waits = refl }
+-- and as many positions are counted
+pub turned-counts : TurnedCounts
+turned-counts cs ds t = from-start cs ds t .facing .opposed .tally
 
 -- a byte and the same with its six low bits turned over
 pub turned-byte : (b : ℕ) → OppositeByte b (bitXor b 63)

@@ -11,22 +11,27 @@ use borrow.Author.Tests.{ltb-false}
 use Rattle.answer.specs.Order.{inOrder}
 use Rattle.line.specs.Line.{lineBits}
 use Rattle.stream.specs.Standing.{frameAt, scan, framesIn}
+use Rattle.stream.specs.Faults.{faults, faultsIn}
 use Rattle.stream.proofs.Hunting.{MayCome, Idle}
 use Rattle.frame.specs.Frames.{blank}
 use Rattle.frame.specs.declared.Frame.{Frame}
 use Rattle.reader.specs.Reading.{bitsOf, past, frameWaits, runTo, fedAllBy, endedBy, takeTo, takenBy}
+use Rattle.reader.specs.declared.Tally.{Tally}
 use Rattle.reader.specs.declared.Reader.{Reader}
 use Rattle.reader.specs.declared.Next.{Next}
 use Rattle.reader.specs.declared.FedAll.{FedAll}
 use Rattle.reader.specs.declared.Taken.{Taken}
 use Rattle.reader.specs.declared.Answer.{Answer}
 use Rattle.reader.specs.declared.Answer.the-variants.{Done, Refused}
+use Rattle.reader.proofs.Tallies.{countsOf}
 use Rattle.promises.specs.Calls.{ends, takes, replyTo, after, bitsGiven, frameGiven, afterAll, reported, takesAll}
 use Rattle.promises.proofs.Kept.{Kept}
 use Rattle.promises.proofs.Runs.{not-done, ended-by, never-past, kept-call}
 use Rattle.promises.proofs.Serving.{takes-ended, none-waits}
-use Rattle.listing.specs.Text.{frameLine, linesIn, lastLine, textOf}
-use Rattle.listing.specs.Listing.{begun, fedOn, handedOn, Lines, lineThen, linesOf, refusedListing, listed, endedOn, endRoom, finalLines, finishBy, finishText}
+use Rattle.promises.proofs.Counting.{kept-counts}
+use Rattle.listing.specs.Text.{frameLine, linesIn, oddLine, lastLine, textOf}
+use Rattle.listing.specs.Listing.{begun, fedOn, handedOn, Lines, lineThen, linesOf, refusedListing, listed, endedOn, endRoom, totalLines, finalLines}
+use Rattle.listing.specs.Listing.{finishBy, finishText}
 use Rattle.promises.specs.Course.{Piece, Course, courseOf, listedText, TextIsWhole}
 use Rattle.listing.specs.declared.Listing.{Listing}
 use Rattle.listing.proofs.Lengths.{final-le, stored-text}
@@ -168,16 +173,28 @@ module _ (bs : List ℕ) (out : List (ℕ × Frame)) (l : Listing) (t : Told bs 
     lines : told (out ++ y .more) ≡ linesIn (framesIn (lineBits bs))
     lines = ap told (told-all .kept .given) ∙ told-reported (told-all .kept .hits) ∙ ap linesIn (sym frames)
 
+    as-many : length (out ++ y .more) ≡ length (framesIn (lineBits bs))
+    as-many = ap length (told-all .kept .given) ∙ length-map (told-all .kept .hits) reported ∙ sym (ap length frames)
+
     total : x .listing .frames ≡ length (framesIn (lineBits bs)) % 2 ^ 64
-    total = told-all .frames ∙ ap (λ n. n % 2 ^ 64) (ap length (told-all .kept .given) ∙ length-map (told-all .kept .hits) reported ∙ sym (ap length frames))
+    total = told-all .frames ∙ ap (λ n. n % 2 ^ 64) as-many
+
+    counts : x .listing .reader .candidate .tally ≡ countsOf (faultsIn (lineBits bs))
+    counts =
+        kept-counts (lineBits bs) (out ++ y .more) (x .listing .reader) (told-all .kept)
+        ∙ (λ i. countsOf (faults (ended i) (as-many i) 0 (lineBits bs)))
+
+    -- the lines of totals, by the counters and by the totals of the listing
+    totals : Tally → ℕ → ℕ → ℕ → List ℕ
+    totals t a b c = oddLine (t .odd) (t .even) ++ lastLine a b c
 
     final-text : told out ++ finalLines l .text ≡ textOf bs
-    unfolding finalLines textOf x
+    unfolding totalLines finalLines textOf totals x
     final-text =
-        ap (λ r. told out ++ (r ++ lastLine (x .listing .frames) (x .listing .bytes) (x .listing .passed))) (y .text)
-        ∙ sym (append-assoc (told out) (told (y .more)) (lastLine (x .listing .frames) (x .listing .bytes) (x .listing .passed)))
-        ∙ ap (λ r. r ++ lastLine (x .listing .frames) (x .listing .bytes) (x .listing .passed)) (sym (told-after out (y .more)) ∙ lines)
-        ∙ (λ i. linesIn (framesIn (lineBits bs)) ++ lastLine (total i) (told-all .bytes i) (told-all .passed i))
+        ap (λ r. told out ++ (r ++ totalLines (x .listing))) (y .text)
+        ∙ sym (append-assoc (told out) (told (y .more)) (totalLines (x .listing)))
+        ∙ ap (λ r. r ++ totalLines (x .listing)) (sym (told-after out (y .more)) ∙ lines)
+        ∙ (λ i. linesIn (framesIn (lineBits bs)) ++ totals (counts i) (total i) (told-all .bytes i) (told-all .passed i))
 
 finish-tells : (bs : List ℕ) (out : List (ℕ × Frame)) (l : Listing) → Told bs out l → (buffer : List ℕ) → finishBy l (length buffer) .answer ≡ Done
     → told out ++ take (finishBy l (length buffer) .written) (finishText l buffer) ≡ textOf bs

@@ -17,11 +17,13 @@ use Rattle.record_corrections.specs.Corrections.{countCorrections}
 use Rattle.record_values.specs.Values.{signedValue, hundredthsOf, limits, udreValue}
 use Rattle.stream.specs.Standing.{right, nAt, dataFrom, frameAt, placed, allRight, stands, scan, framesIn}
 use Rattle.printing.specs.Printing.{lastDigits, digitsUpTo, decimal}
-use Rattle.listing.specs.Text.{spaced, lastLine, linesIn, textOf}
+use Rattle.stream.specs.Verdict.{verdictFrom, faultOf}
+use Rattle.stream.specs.Faults.{oddIn, evenIn, faults}
+use Rattle.listing.specs.Text.{spaced, oddLine, lastLine, linesIn, textOf}
 use Rattle.reader.specs.Reading.{started, saysNext}
 use Rattle.reader.specs.declared.Next.{Next}
 use Rattle.promises.specs.Calls.{feeds, replied, replyTo, reported}
-use Rattle.promises.specs.Worked.{elevenBytes, turnedBytes, tenBytes, elevenFrame, twoLines, WorkedValues}
+use Rattle.promises.specs.Worked.{elevenBytes, turnedBytes, tenBytes, elevenFrame, threeLines, WorkedValues}
 use Rattle.promises.proofs.Kept.{kept-started}
 use Rattle.promises.proofs.Runs.{fed-by, never-past}
 use Rattle.promises.proofs.Serving.{byte-bits}
@@ -43,14 +45,16 @@ unfolding bits number six lineBits rows places parity dataOf received computed r
     nAt dataFrom frameAt placed allRight stands scan reported
 frames-ten = refl
 
-text-eleven : textOf elevenBytes ≡ twoLines 48
+text-eleven : textOf elevenBytes ≡ threeLines 48
 unfolding bits number six lineBits rows places parity dataOf received computed remainderOf passes factors stateOf codeOf preambled nOf headerOf framed afterPair
-    right nAt dataFrom frameAt placed allRight stands scan without lastDigits digitsUpTo decimal spaced lastLine linesIn textOf twoLines
+    right nAt dataFrom frameAt placed allRight stands scan without lastDigits digitsUpTo decimal spaced lastLine linesIn
+    verdictFrom faultOf faults oddIn evenIn oddLine textOf threeLines
 text-eleven = refl
 
-text-turned : textOf turnedBytes ≡ twoLines 49
+text-turned : textOf turnedBytes ≡ threeLines 49
 unfolding bits number six lineBits rows places parity dataOf received computed remainderOf passes factors stateOf codeOf preambled nOf headerOf framed afterPair
-    right nAt dataFrom frameAt placed allRight stands scan without lastDigits digitsUpTo decimal spaced lastLine linesIn textOf twoLines
+    right nAt dataFrom frameAt placed allRight stands scan without lastDigits digitsUpTo decimal spaced lastLine linesIn
+    verdictFrom faultOf faults oddIn evenIn oddLine textOf threeLines
 text-turned = refl
 
 -- a fresh reader is not ended, and no frame waits

@@ -1,25 +1,18 @@
 -- The xor law holds of windows as bits by the laws of `word`, and of windows as numbers through their 32 bits. Assumes nothing.
 use mathlib.Core.Path.{_≡_, refl, sym, ap, ap₂, _∙_}
-use mathlib.Core.Bool.{Bool, true, false, true≢false}
-use mathlib.Core.List.{List}
+use mathlib.Core.Bool.{true, false, true≢false}
 use Prim.Native.Nat.{ℕ, _%_, _^_}
-use native.Mathlib.Nat.{mod-eq-of-lt}
-use lib.ListN.{length}
 use lib.Bits.{bitXor, xor-zero-r}
 use lib.Count.{ones}
 use borrow.Author.Tests.{eq-eqb}
-use Rattle.bits.specs.Bits.{_⊻_, _⊕_, odd, isOdd, bits, number}
-use Rattle.bits.proofs.Xor.{length-xors, odd-xors}
-use Rattle.bits.proofs.Numbers.{length-bits, bits-xor, bits-number, number-lt, number-xor, odd-ones}
+use Rattle.bits.specs.Bits.{_⊕_, odd, isOdd, bits, number}
+use Rattle.bits.proofs.Numbers.{length-bits, bits-xor, number-xor, odd-ones}
 use Rattle.word.specs.Word.{rows, places, parity, dataOf, received, computed, remainderOf, passes}
 use Rattle.word.specs.Answer.{remainderAt}
-use Rattle.word.proofs.Linearity.{remainder-xor, remainder-turned, passes-zero}
-use Rattle.word.proofs.Distance.{odd-remainder, odd-turned}
+use Rattle.word.proofs.Linearity.{remainder-xor, remainder-turned}
+use Rattle.word.proofs.Distance.{odd-turned}
+use Rattle.word.proofs.Testing.{six-long, ones-odd, odd-told}
 use Rattle.promises.specs.XorLaw.{XorLaw}
-
-length-remainder : (w : List Bool) → length (remainderOf w) ≡ 6
-unfolding rows received computed parity remainderOf
-length-remainder w = refl
 
 -- ---- of numbers
 
@@ -27,7 +20,7 @@ xor-number : (v w : ℕ) → remainderAt (bitXor v w) ≡ bitXor (remainderAt v)
 xor-number v w =
     ap (λ l. number (remainderOf l)) (bits-xor 32 v w)
     ∙ ap number (remainder-xor (bits 32 v) (bits 32 w))
-    ∙ number-xor 6 (remainderOf (bits 32 v)) (remainderOf (bits 32 w)) (length-remainder (bits 32 v)) (length-remainder (bits 32 w))
+    ∙ number-xor 6 (remainderOf (bits 32 v)) (remainderOf (bits 32 w)) (six-long (bits 32 v)) (six-long (bits 32 w))
 
 all-ones : remainderAt 0xFFFFFFFF ≡ 0
 unfolding bits number rows places parity dataOf received computed remainderOf
@@ -43,26 +36,14 @@ passes-at v z = eq-eqb (remainderAt v) 0 z
 
 -- ---- an odd number of turned bits
 
-told : (v w : List Bool) → length v ≡ 32 → length w ≡ 32 → passes v ≡ true → odd (remainderOf w) ≡ odd (v ⊕ w)
-told v w lv lw p =
-    sym (odd-xors (remainderOf v) (remainderOf w) ∙ ap (λ r. odd r ⊻ odd (remainderOf w)) (passes-zero v .0 p))
-    ∙ ap odd (sym (remainder-xor v w))
-    ∙ odd-remainder (v ⊕ w) (length-xors v w (lv ∙ sym lw) ∙ lw)
-
--- the ones of a remainder, and of the bits in which two windows differ
-ones-remainder : (w : ℕ) → isOdd (ones (remainderAt w)) ≡ odd (remainderOf (bits 32 w))
-ones-remainder w =
-    ap (λ n. isOdd (ones n)) (sym (mod-eq-of-lt (rw (length-remainder (bits 32 w)) at (number-lt (remainderOf (bits 32 w))))))
-    ∙ odd-ones 6 (remainderAt w)
-    ∙ ap odd (bits-number 6 (remainderOf (bits 32 w)) (length-remainder (bits 32 w)))
-
+-- the bits in which two windows differ
 ones-xor : (v w : ℕ) → isOdd (ones (bitXor v w % 2 ^ 32)) ≡ odd (bits 32 v ⊕ bits 32 w)
 ones-xor v w = odd-ones 32 (bitXor v w) ∙ ap odd (bits-xor 32 v w)
 
 told-at : (v w : ℕ) → remainderAt v ≡ 0 → isOdd (ones (remainderAt w)) ≡ isOdd (ones (bitXor v w % 2 ^ 32))
 told-at v w z =
-    ones-remainder w
-    ∙ told (bits 32 v) (bits 32 w) (length-bits 32 v) (length-bits 32 w) (passes-at v z)
+    ones-odd (remainderAt w) (bits 32 w) refl
+    ∙ odd-told (bits 32 v) (bits 32 w) (length-bits 32 v) (length-bits 32 w) (passes-at v z)
     ∙ sym (ones-xor v w)
 
 refused-at : (v w : ℕ) → remainderAt v ≡ 0 → isOdd (ones (bitXor v w % 2 ^ 32)) ≡ true → remainderAt w ≡ 0 → ⊥
@@ -79,6 +60,6 @@ xor-law = record {
   turned-number = turned-at;
   odd-refused = odd-turned;
   odd-refused-number = refused-at;
-  odd-told = told;
+  odd-told = odd-told;
   odd-told-number = told-at;
 }

@@ -9,6 +9,7 @@ pub mod ThoseOfRtcm
 pub mod ReadsBack
 pub mod Demand2
 pub mod Demand3
+pub mod Counters
 pub mod Demand1
 pub mod Course
 pub mod XorLaw

@@ -3,8 +3,8 @@ use Prim.Native.Nat.{_%_}
 use Rattle.line.specs.Answer.{sixOf}
 use Rattle.bits.specs.Bits.{bits, number}
 use Rattle.line.specs.Line.{byteOf}
-use Rattle.word.specs.Word.{dataOf, passes as passing}
-use Rattle.word.specs.Answer.{remainderAt, wordOf}
+use Rattle.word.specs.Word.{dataOf}
+use Rattle.word.specs.Answer.{testedBy, remainderAt, wordOf}
 use Rattle.frame.specs.Header.{stateOf, headerOf, nOf, preambled}
 use Rattle.frame.specs.Answer.{healthOf, headerWidths, headerWords, frameWidths, clockOf}
 use Rattle.frame.specs.Frames.{builtOf, blank}
@@ -13,7 +13,7 @@ use Rattle.line.proofs.six_of
 use Rattle.line.proofs.byte_of
 use Rattle.word.proofs.data_of
 use Rattle.word.proofs.remainder as word-remainder
-use Rattle.word.proofs.passes as word-passes
+use Rattle.word.proofs.test as word-test
 use Rattle.word.proofs.word_of
 use Rattle.frame.proofs.state_of
 use Rattle.frame.proofs.health_of
@@ -41,8 +41,8 @@ pub record PartCalls : Type 2 where
       (λ κs (window, _). number (dataOf (bits 32 window)))
   pub word-remainder : Answered word-remainder.Reads.Asked word-remainder.Reads.Learnt word-remainder.Statement.statement
       (λ κs (window, _). remainderAt window)
-  pub word-passes : Answered word-passes.Reads.Asked word-passes.Reads.Learnt word-passes.Statement.statement
-      (λ κs (window, _). passing (bits 32 window))
+  pub word-test : Answered word-test.Reads.Asked word-test.Reads.Learnt word-test.Statement.statement
+      (λ κs (window, _). testedBy (bits 32 window))
   pub word-of : Answered word_of.Reads.Asked word_of.Reads.Learnt word_of.Statement.statement
       (λ κs (carried, (d, _)). wordOf carried d)
   -- frame

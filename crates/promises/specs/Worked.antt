@@ -40,10 +40,11 @@ elevenFrame = builtOf (record { kind = 6; station = 5; z = 100; sequence = 3; st
 abbrev pub readOut : List ℕ → List (ℕ × Frame)
 readOut bs = handedOut started (served bs ++ (ends ∷ takesAll))
 
--- its text: "6 6 5 100 3 0 0" and the carried pair, each of its bits this digit; "frames 1 bytes 11 passed 0"; each with a newline
-unfoldable pub twoLines : ℕ → List ℕ
-twoLines digit =
+-- its text: "6 6 5 100 3 0 0" and the carried pair, each of its bits this digit; "odd 0 even 0"; "frames 1 bytes 11 passed 0"; each with a newline
+unfoldable pub threeLines : ℕ → List ℕ
+threeLines digit =
     54 ∷ 32 ∷ 54 ∷ 32 ∷ 53 ∷ 32 ∷ 49 ∷ 48 ∷ 48 ∷ 32 ∷ 51 ∷ 32 ∷ 48 ∷ 32 ∷ 48 ∷ 32 ∷ digit ∷ digit ∷ 10
+    ∷ 111 ∷ 100 ∷ 100 ∷ 32 ∷ 48 ∷ 32 ∷ 101 ∷ 118 ∷ 101 ∷ 110 ∷ 32 ∷ 48 ∷ 10
     ∷ 102 ∷ 114 ∷ 97 ∷ 109 ∷ 101 ∷ 115 ∷ 32 ∷ 49 ∷ 32 ∷ 98 ∷ 121 ∷ 116 ∷ 101 ∷ 115 ∷ 32 ∷ 49 ∷ 49 ∷ 32 ∷ 112 ∷ 97 ∷ 115 ∷ 115 ∷ 101 ∷ 100 ∷ 32 ∷ 48 ∷ 10 ∷ []
 
 -- the bytes are listed to this text by any pieces that are enough, each with a byte at least and room for a line, and by the end
@@ -66,9 +67,9 @@ pub record WorkedValues : Type 0 where
   pub eleven : readOut elevenBytes ≡ (6, elevenFrame) ∷ []
   pub turned : readOut turnedBytes ≡ (6, turnedFrame elevenFrame) ∷ []
   pub ten : readOut tenBytes ≡ []
-  -- both list as the same two lines but for the pair, 00 and 11
-  pub eleven-text : ListsAs (twoLines 48) elevenBytes
-  pub turned-text : ListsAs (twoLines 49) turnedBytes
+  -- both list as the same three lines but for the pair, 00 and 11
+  pub eleven-text : ListsAs (threeLines 48) elevenBytes
+  pub turned-text : ListsAs (threeLines 49) turnedBytes
   -- byte 0x3F is refusal 1; byte 0x40 is six zero bits; by the line's own call, and fed to a fresh reader
   pub byte-3F : saysSix (sixOf 0x3F) ≡ refuses 1
   pub byte-40 : saysSix (sixOf 0x40) ≡ answers (replicate 6 false)

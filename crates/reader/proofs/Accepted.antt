@@ -15,6 +15,7 @@ use Rattle.stream.proofs.HuntSteps.{hunt-short, hunt-suffix, Bounded, hunt-boun
 use Rattle.reader.specs.Cells.{heldBits, roomEnd}
 use Rattle.reader.specs.Hunting.{haltOf, huntOf}
 use Rattle.reader.specs.Reading.{candidateBits, knownBits, pastBy, pastOf, movedTo, stepCells, stepTo, endTo, takeTo}
+use Rattle.reader.specs.declared.Tally.{Tally}
 use Rattle.reader.specs.declared.Candidate.{Candidate}
 use Rattle.reader.proofs.Buffer.{length-held, held-part}
 use Rattle.reader.proofs.Pushing.{length-pushed, room-low, held-push}
@@ -120,7 +121,7 @@ module _ (c : Candidate) where
 
 -- the words known right there have come
 abbrev Known : List Bool → Verdict → Type 0
-Known d out = Unit {0}
+Known d (out j) = Unit {0}
 Known d standing = Unit {0}
 Known d (undecided j) = knownBits j ≤ length d
 
@@ -147,7 +148,7 @@ hunt-known e k (b ∷ d) h = go (verdictFrom (33 - k) k (b ∷ d)) e (verdict-kn
   where
     go : (v : Verdict) (x : Bool) → Known (b ∷ d) v → knownBits (hunt e 0 d .words) ≤ length (hunt e 0 d .rest)
         → knownBits (huntBy v x (b ∷ d) (hunt e 0 d) .words) ≤ length (huntBy v x (b ∷ d) (hunt e 0 d) .rest)
-    go out x l r = r
+    go (out j) x l r = r
     go standing x l r = omega arith
     go (undecided j) true l r = r
     go (undecided j) false l r = l
@@ -159,23 +160,23 @@ halt-room h b l = go (h .found) refl
     go true e = l
     go false e = b .free e
 
-module _ (cells : List ℕ) (len : length cells ≡ 40) (end held : ℕ) (top : end ≤ 1280) (low : held ≤ end) (k : ℕ) (e : Bool) where
+module _ (cells : List ℕ) (len : length cells ≡ 40) (end held : ℕ) (top : end ≤ 1280) (low : held ≤ end) (k : ℕ) (e : Bool) (t : Tally) where
   long : length (heldBits cells end held) ≡ held
   long = length-held cells end held len top low
 
-  pub left-le : huntOf cells end held k e .left ≤ held
+  pub left-le : huntOf cells end held k e t .left ≤ held
   unfolding huntOf haltOf
   left-le = omega (arith, hunt-short e k (heldBits cells end held), long)
 
   -- the bits held from there on are what the hunt left
-  pub rest-bits : heldBits cells end (huntOf cells end held k e .left) ≡ hunt e k (heldBits cells end held) .rest
+  pub rest-bits : heldBits cells end (huntOf cells end held k e t .left) ≡ hunt e k (heldBits cells end held) .rest
   unfolding huntOf haltOf
   rest-bits =
       sym (hunt-suffix e k (heldBits cells end held)
       ∙ ap (λ n. drop (n - length (hunt e k (heldBits cells end held) .rest)) (heldBits cells end held)) long
       ∙ held-part cells end held (length (hunt e k (heldBits cells end held) .rest)) (omega (arith, hunt-short e k (heldBits cells end held), long)) low)
 
-  pub accepted-halt : (at : ℕ) (held₀ : ℕ) → held ≤ 997 → k ≤ 32 → knownBits k ≤ held → Accepted (movedTo at end held₀ (huntOf cells end held k e))
+  pub accepted-halt : (at : ℕ) (held₀ : ℕ) → held ≤ 997 → k ≤ 32 → knownBits k ≤ held → Accepted (movedTo at end held₀ (huntOf cells end held k e t))
   unfolding movedTo candidateBits
   accepted-halt at held₀ room few known = record {
     top = top;
@@ -206,7 +207,7 @@ module _ (cells : List ℕ) (len : length cells ≡ 40) (c : Candidate) (a : Acc
     unfolding stepTo
     accepted-step =
         accepted-halt (stepCells cells c six) length-step (roomEnd (c .end) (c .held) + 6) (c .held + 6)
-        step-top step-low (c .words) false (c .at) (c .held + 6)
+        step-top step-low (c .words) false (c .tally) (c .at) (c .held + 6)
         (omega (arith, room-free c a w)) (a .few) (omega (arith, a .known))
 
     -- the bits held after six more, before the hunt
@@ -216,10 +217,10 @@ module _ (cells : List ℕ) (len : length cells ≡ 40) (c : Candidate) (a : Acc
 
   pub accepted-end : Accepted (endTo cells c)
   unfolding endTo
-  accepted-end = accepted-halt cells len (c .end) (c .held) (a .top) (a .low) (c .words) true (c .at) (c .held) (room-all c a) (a .few) (a .known)
+  accepted-end = accepted-halt cells len (c .end) (c .held) (a .top) (a .low) (c .words) true (c .tally) (c .at) (c .held) (room-all c a) (a .few) (a .known)
 
   pub accepted-take : (ended : Bool) → Accepted (takeTo cells c ended)
   unfolding takeTo
   accepted-take ended =
-      accepted-halt cells len (c .end) (c .held - 30 * size (candidateBits cells c)) (a .top) (omega (arith, a .low)) 0 ended (c .at) (c .held)
+      accepted-halt cells len (c .end) (c .held - 30 * size (candidateBits cells c)) (a .top) (omega (arith, a .low)) 0 ended (c .tally) (c .at) (c .held)
       (omega (arith, room-all c a)) (omega arith) (omega arith)

@@ -13,6 +13,7 @@ use Rattle.reader.specs.Cells.{putCells, putFive}
 use Rattle.reader.specs.Hunting.{huntOf}
 use Rattle.reader.specs.Reading.{movedTo, stepCells, stepTo, manyCells, manyTo, SixesAt, Run, spent, runTo}
 use Rattle.reader.specs.declared.hunt.Halt.{Halt}
+use Rattle.reader.specs.declared.Tally.{Tally}
 use Rattle.reader.specs.declared.Candidate.{Candidate}
 use Rattle.reader.proofs.Pushing.{length-puts, push-in}
 use Rattle.reader.proofs.Steps.{step-wait}
@@ -21,41 +22,41 @@ use Rattle.reader.proofs.Accepted.{Accepted, length-step, accepted-step
 use Rattle.reader.proofs.Running.{loop-on}
 
 -- a candidate for which nothing waits
-abbrev cand : ℕ → ℕ → ℕ → ℕ → Candidate
-cand end held words at = record { end = end; held = held; words = words; at = at; waits = false }
+abbrev cand : Tally → ℕ → ℕ → ℕ → ℕ → Candidate
+cand t end held words at = record { end = end; held = held; words = words; at = at; waits = false; tally = t }
 
-module _ (cells : List ℕ) (end held words at s : ℕ) (len : length cells ≡ 40) (top : end ≤ 1216) (low : held ≤ end) where
-  put-cells : stepCells cells (cand end held words at) s ≡ putCells cells end s
+module _ (t : Tally) (cells : List ℕ) (end held words at s : ℕ) (len : length cells ≡ 40) (top : end ≤ 1216) (low : held ≤ end) where
+  put-cells : stepCells cells (cand t end held words at) s ≡ putCells cells end s
   unfolding stepCells
   put-cells = sym (push-in cells end held s top .1)
 
   -- six bits with room
-  put-to : stepTo cells (cand end held words at) s ≡ movedTo at (end + 6) (held + 6) (huntOf (putCells cells end s) (end + 6) (held + 6) words false)
+  put-to : stepTo cells (cand t end held words at) s ≡ movedTo at (end + 6) (held + 6) (huntOf (putCells cells end s) (end + 6) (held + 6) words false t)
   put-to =
-      sym (step-law cells (cand end held words at) s (putCells cells end s) (end + 6) _
+      sym (step-law cells (cand t end held words at) s (putCells cells end s) (end + 6) _
       (push-in cells end held s top .1) (push-in cells end held s top .0) refl)
 
   -- and no word ends
-  quiet : words ≤ 32 → held + 6 < 32 + 30 * words → stepTo cells (cand end held words at) s ≡ cand (end + 6) (held + 6) words (at % 2 ^ 32)
+  quiet : words ≤ 32 → held + 6 < 32 + 30 * words → stepTo cells (cand t end held words at) s ≡ cand t (end + 6) (held + 6) words (at % 2 ^ 32)
   unfolding movedTo
   quiet few h =
       put-to
       ∙ ap (movedTo at (end + 6) (held + 6))
-      (step-wait (putCells cells end s) (length-puts cells end s ∙ len) (end + 6) (omega (arith, top)) (held + 6) (omega (arith, low)) words few h)
-      ∙ ap (λ n. cand (end + 6) (held + 6) words (n % 2 ^ 32)) same
+      (step-wait (putCells cells end s) (length-puts cells end s ∙ len) (end + 6) (omega (arith, top)) (held + 6) (omega (arith, low)) t words few h)
+      ∙ ap (λ n. cand t (end + 6) (held + 6) words (n % 2 ^ 32)) same
     where
       same : at + (held + 6 - (held + 6)) ≡ at
       same = omega arith
 
   -- the same of what is known to be these cells and this candidate
-  module _ (x : List ℕ) (y : Candidate) (ex : x ≡ cells) (ey : y ≡ cand end held words at) where
+  module _ (x : List ℕ) (y : Candidate) (ex : x ≡ cells) (ey : y ≡ cand t end held words at) where
     on-cells : stepCells x y s ≡ putCells cells end s
     on-cells = ap₂ (λ u v. stepCells u v s) ex ey ∙ put-cells
 
-    on-to : stepTo x y s ≡ movedTo at (end + 6) (held + 6) (huntOf (putCells cells end s) (end + 6) (held + 6) words false)
+    on-to : stepTo x y s ≡ movedTo at (end + 6) (held + 6) (huntOf (putCells cells end s) (end + 6) (held + 6) words false t)
     on-to = ap₂ (λ u v. stepTo u v s) ex ey ∙ put-to
 
-    on-quiet : words ≤ 32 → held + 6 < 32 + 30 * words → stepTo x y s ≡ cand (end + 6) (held + 6) words (at % 2 ^ 32)
+    on-quiet : words ≤ 32 → held + 6 < 32 + 30 * words → stepTo x y s ≡ cand t (end + 6) (held + 6) words (at % 2 ^ 32)
     on-quiet few h = ap₂ (λ u v. stepTo u v s) ex ey ∙ quiet few h
 
 pub length-five : (cells : List ℕ) (end a b d e f : ℕ) → length (putFive cells end a b d e f) ≡ length cells
@@ -63,11 +64,11 @@ unfolding putFive
 length-five cells end a b d e f = simp length-puts
 
 -- what a step reads of a candidate
-first-cells : (cells : List ℕ) (c : Candidate) (s : ℕ) → stepCells cells c s ≡ stepCells cells (cand (c .end) (c .held) (c .words) (c .at)) s
+first-cells : (cells : List ℕ) (c : Candidate) (s : ℕ) → stepCells cells c s ≡ stepCells cells (cand (c .tally) (c .end) (c .held) (c .words) (c .at)) s
 unfolding stepCells
 first-cells cells c s = refl
 
-first-to : (cells : List ℕ) (c : Candidate) (s : ℕ) → stepTo cells c s ≡ stepTo cells (cand (c .end) (c .held) (c .words) (c .at)) s
+first-to : (cells : List ℕ) (c : Candidate) (s : ℕ) → stepTo cells c s ≡ stepTo cells (cand (c .tally) (c .end) (c .held) (c .words) (c .at)) s
 unfolding stepTo stepCells
 first-to cells c s = refl
 
@@ -121,36 +122,40 @@ module _ (cells : List ℕ) (c : Candidate) (len : length cells ≡ 40)
 
   k₁ : stepCells cells c a ≡ c₁
   unfolding c₁ end
-  k₁ = first-cells cells c a ∙ put-cells cells (c .end) (c .held) (c .words) (c .at) a len (omega (arith, top)) low
+  k₁ = first-cells cells c a ∙ put-cells (c .tally) cells (c .end) (c .held) (c .words) (c .at) a len (omega (arith, top)) low
 
-  s₁ : stepTo cells c a ≡ cand (end + 6) (held + 6) words (at % 2 ^ 32)
+  s₁ : stepTo cells c a ≡ cand (c .tally) (end + 6) (held + 6) words (at % 2 ^ 32)
   unfolding end held words at
-  s₁ = first-to cells c a ∙ quiet cells (c .end) (c .held) (c .words) (c .at) a len (omega (arith, top)) low few (omega (arith, no))
+  s₁ = first-to cells c a ∙ quiet (c .tally) cells (c .end) (c .held) (c .words) (c .at) a len (omega (arith, top)) low few (omega (arith, no))
 
   k₂ : stepCells (stepCells cells c a) (stepTo cells c a) b ≡ c₂
   unfolding c₂ end held
-  k₂ = on-cells c₁ (end + 6) (held + 6) words (at % 2 ^ 32) b len₁ (omega (arith, top)) (omega (arith, low)) _ _ k₁ s₁
+  k₂ = on-cells (c .tally) c₁ (end + 6) (held + 6) words (at % 2 ^ 32) b len₁ (omega (arith, top)) (omega (arith, low)) _ _ k₁ s₁
 
-  s₂ : stepTo (stepCells cells c a) (stepTo cells c a) b ≡ cand (end + 6 + 6) (held + 6 + 6) words (at % 2 ^ 32 % 2 ^ 32)
+  s₂ : stepTo (stepCells cells c a) (stepTo cells c a) b ≡ cand (c .tally) (end + 6 + 6) (held + 6 + 6) words (at % 2 ^ 32 % 2 ^ 32)
   unfolding end held words
-  s₂ = on-quiet c₁ (end + 6) (held + 6) words (at % 2 ^ 32) b len₁ (omega (arith, top)) (omega (arith, low)) _ _ k₁ s₁ few (omega (arith, no))
+  s₂ = on-quiet (c .tally) c₁ (end + 6) (held + 6) words (at % 2 ^ 32) b len₁ (omega (arith, top)) (omega (arith, low)) _ _ k₁ s₁ few (omega (arith, no))
 
   k₃ : manyCells cells c (a ∷ b ∷ d ∷ []) ≡ c₃
   unfolding c₃ end held manyCells manyTo
-  k₃ = on-cells c₂ (end + 6 + 6) (held + 6 + 6) words (at % 2 ^ 32 % 2 ^ 32) d len₂ (omega (arith, top)) (omega (arith, low)) _ _ k₂ s₂
+  k₃ = on-cells (c .tally) c₂ (end + 6 + 6) (held + 6 + 6) words (at % 2 ^ 32 % 2 ^ 32) d len₂ (omega (arith, top)) (omega (arith, low)) _ _ k₂ s₂
 
-  s₃ : manyTo cells c (a ∷ b ∷ d ∷ []) ≡ cand (end + 6 + 6 + 6) (held + 6 + 6 + 6) words (at % 2 ^ 32 % 2 ^ 32 % 2 ^ 32)
+  s₃ : manyTo cells c (a ∷ b ∷ d ∷ []) ≡ cand (c .tally) (end + 6 + 6 + 6) (held + 6 + 6 + 6) words (at % 2 ^ 32 % 2 ^ 32 % 2 ^ 32)
   unfolding end held words manyCells manyTo
-  s₃ = on-quiet c₂ (end + 6 + 6) (held + 6 + 6) words (at % 2 ^ 32 % 2 ^ 32) d len₂ (omega (arith, top)) (omega (arith, low)) _ _ k₂ s₂ few (omega (arith, no))
+  s₃ =
+      on-quiet (c .tally) c₂ (end + 6 + 6) (held + 6 + 6) words (at % 2 ^ 32 % 2 ^ 32) d len₂
+      (omega (arith, top)) (omega (arith, low)) _ _ k₂ s₂ few (omega (arith, no))
 
   k₄ : manyCells cells c (a ∷ b ∷ d ∷ e ∷ []) ≡ c₄
   unfolding c₄ end held manyCells manyTo
-  k₄ = on-cells c₃ (end + 6 + 6 + 6) (held + 6 + 6 + 6) words (at % 2 ^ 32 % 2 ^ 32 % 2 ^ 32) e len₃ (omega (arith, top)) (omega (arith, low)) _ _ k₃ s₃
+  k₄ =
+      on-cells (c .tally) c₃ (end + 6 + 6 + 6) (held + 6 + 6 + 6) words (at % 2 ^ 32 % 2 ^ 32 % 2 ^ 32) e len₃
+      (omega (arith, top)) (omega (arith, low)) _ _ k₃ s₃
 
-  s₄ : manyTo cells c (a ∷ b ∷ d ∷ e ∷ []) ≡ cand (end + 6 + 6 + 6 + 6) (held + 6 + 6 + 6 + 6) words (at % 2 ^ 32 % 2 ^ 32 % 2 ^ 32 % 2 ^ 32)
+  s₄ : manyTo cells c (a ∷ b ∷ d ∷ e ∷ []) ≡ cand (c .tally) (end + 6 + 6 + 6 + 6) (held + 6 + 6 + 6 + 6) words (at % 2 ^ 32 % 2 ^ 32 % 2 ^ 32 % 2 ^ 32)
   unfolding end held words manyCells manyTo
   s₄ =
-      on-quiet c₃ (end + 6 + 6 + 6) (held + 6 + 6 + 6) words (at % 2 ^ 32 % 2 ^ 32 % 2 ^ 32) e len₃
+      on-quiet (c .tally) c₃ (end + 6 + 6 + 6) (held + 6 + 6 + 6) words (at % 2 ^ 32 % 2 ^ 32 % 2 ^ 32) e len₃
       (omega (arith, top)) (omega (arith, low)) _ _ k₃ s₃ few (omega (arith, no))
 
   five-is : putCells c₄ (end + 6 + 6 + 6 + 6) f ≡ putFive cells (c .end) a b d e f
@@ -165,20 +170,21 @@ module _ (cells : List ℕ) (c : Candidate) (len : length cells ≡ 40)
 
   pub many-cells : manyCells cells c (a ∷ b ∷ d ∷ e ∷ f ∷ []) ≡ putFive cells (c .end) a b d e f
   unfolding end held manyCells manyTo
-  many-cells = on-cells c₄ (end + 6 + 6 + 6 + 6) (held + 6 + 6 + 6 + 6) words _ f len₄ (omega (arith, top)) (omega (arith, low)) _ _ k₄ s₄ ∙ five-is
+  many-cells = on-cells (c .tally) c₄ (end + 6 + 6 + 6 + 6) (held + 6 + 6 + 6 + 6) words _ f len₄ (omega (arith, top)) (omega (arith, low)) _ _ k₄ s₄ ∙ five-is
 
-  pub many-to : (after : List ℕ) → after ≡ putFive cells (c .end) a b d e f → (halt : Halt) → halt ≡ huntOf after (c .end + 30) (c .held + 30) (c .words) false
+  pub many-to : (after : List ℕ) → after ≡ putFive cells (c .end) a b d e f → (halt : Halt)
+      → halt ≡ huntOf after (c .end + 30) (c .held + 30) (c .words) false (c .tally)
       → manyTo cells c (a ∷ b ∷ d ∷ e ∷ f ∷ []) ≡ movedTo (c .at) (c .end + 30) (c .held + 30) halt
   unfolding end held words at movedTo manyCells manyTo
   many-to after ea halt es =
       let ends : c .end + 6 + 6 + 6 + 6 + 6 ≡ c .end + 30 = omega arith in
       let helds : c .held + 6 + 6 + 6 + 6 + 6 ≡ c .held + 30 = omega arith in
-      on-to c₄ (end + 6 + 6 + 6 + 6) (held + 6 + 6 + 6 + 6) words (at % 2 ^ 32 % 2 ^ 32 % 2 ^ 32 % 2 ^ 32) f len₄
+      on-to (c .tally) c₄ (end + 6 + 6 + 6 + 6) (held + 6 + 6 + 6 + 6) words (at % 2 ^ 32 % 2 ^ 32 % 2 ^ 32 % 2 ^ 32) f len₄
       (omega (arith, top)) (omega (arith, low)) _ _ k₄ s₄
-      ∙ ap₂ (λ m n. movedTo (at % 2 ^ 32 % 2 ^ 32 % 2 ^ 32 % 2 ^ 32) m n (huntOf (putCells c₄ (end + 6 + 6 + 6 + 6) f) m n words false)) ends helds
+      ∙ ap₂ (λ m n. movedTo (at % 2 ^ 32 % 2 ^ 32 % 2 ^ 32 % 2 ^ 32) m n (huntOf (putCells c₄ (end + 6 + 6 + 6 + 6) f) m n words false (c .tally))) ends helds
       ∙ ap (movedTo (at % 2 ^ 32 % 2 ^ 32 % 2 ^ 32 % 2 ^ 32) (c .end + 30) (c .held + 30))
-      (ap (λ l. huntOf l (c .end + 30) (c .held + 30) (c .words) false) (five-is ∙ sym ea) ∙ sym es)
-      ∙ ap (λ n. record { end = c .end + 30; held = halt .left; words = halt .words; at = n; waits = halt .found }) same
+      (ap (λ l. huntOf l (c .end + 30) (c .held + 30) (c .words) false (c .tally)) (five-is ∙ sym ea) ∙ sym es)
+      ∙ ap (λ n. record { end = c .end + 30; held = halt .left; words = halt .words; at = n; waits = halt .found; tally = halt .tally }) same
     where
       same : (c .at % 2 ^ 32 % 2 ^ 32 % 2 ^ 32 % 2 ^ 32 + (c .held + 30 - halt .left)) % 2 ^ 32 ≡ (c .at + (c .held + 30 - halt .left)) % 2 ^ 32
       same = omega arith

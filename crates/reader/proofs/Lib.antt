@@ -3,6 +3,7 @@ pub mod Pushing
 pub mod PutNext
 pub mod Bursting
 pub mod Leaves
+pub mod Looking
 pub mod Steps
 pub mod Seeking
 pub mod Accepted
@@ -10,3 +11,4 @@ pub mod Stepping
 pub mod Running
 pub mod Bursts
 pub mod TakeLaws
+pub mod Tallies

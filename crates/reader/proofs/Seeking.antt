@@ -12,6 +12,7 @@ use lib.ListN.{length, take, drop}
 use Rattle.bits.specs.Bits.{number}
 use Rattle.reader.specs.Cells.{cellBits, pairAt}
 use Rattle.reader.specs.Hunting.{huntOf, Headless}
+use Rattle.reader.specs.declared.Tally.{Tally}
 use Rattle.reader.proofs.Buffer.{number-nine}
 use Rattle.reader.proofs.Steps.{step-seek}
 
@@ -155,13 +156,13 @@ headless-law n o z ho e =
 -- positions that two cells show to have no preamble, one after the other
 pub seek-past : (cells : List ℕ) (len : length cells ≡ 40) (end : ℕ) (top : end ≤ 1280) (left : ℕ) (low : left ≤ end) (both z : ℕ)
     → both ≡ pairAt cells ((end - left) / 32) → Headless both ((end - left) % 32) z
-    → (k l : ℕ) → l + k ≡ left → 31 ≤ l → k ≤ z → (end - left) % 32 + k ≤ 55 → (ended : Bool)
-    → huntOf cells end left 0 ended ≡ huntOf cells end l 0 ended
-seek-past cells len end top left low both z is none zero l e r g f ended = ap (λ n. huntOf cells end n 0 ended) (omega (arith, e))
-seek-past cells len end top left low both z is none (suc k) l e r g f ended =
-    seek-past cells len end top left low both z is none k (suc l) (omega (arith, e)) (omega (arith, r)) (omega (arith, g)) (omega (arith, f)) ended
-    ∙ step-seek cells len end top (suc l) (omega (arith, e, low)) ended 0 _ refl (omega (arith, r)) at (none s near far .0) (none s near far .1)
-    ∙ ap (λ n. huntOf cells end n 0 ended) down
+    → (k l : ℕ) → l + k ≡ left → 31 ≤ l → k ≤ z → (end - left) % 32 + k ≤ 55 → (ended : Bool) (t : Tally)
+    → huntOf cells end left 0 ended t ≡ huntOf cells end l 0 ended t
+seek-past cells len end top left low both z is none zero l e r g f ended t = ap (λ n. huntOf cells end n 0 ended t) (omega (arith, e))
+seek-past cells len end top left low both z is none (suc k) l e r g f ended t =
+    seek-past cells len end top left low both z is none k (suc l) (omega (arith, e)) (omega (arith, r)) (omega (arith, g)) (omega (arith, f)) ended t
+    ∙ step-seek cells len end top (suc l) (omega (arith, e, low)) ended t 0 _ refl (omega (arith, r)) at (none s near far .0) (none s near far .1)
+    ∙ ap (λ n. huntOf cells end n 0 ended t) down
   where
     o : ℕ
     o = (end - left) % 32 + k

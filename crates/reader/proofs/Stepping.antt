@@ -57,7 +57,7 @@ free r state is e = go (pastOf (r .candidate)) refl (r .ended) refl (r .candidat
 
 pub step-law : (cells : List ℕ) (c : Candidate) (six : ℕ) (after : List ℕ) (end : ℕ) (halt : Halt)
     → after ≡ pushedCells cells (c .end) (c .held) six → end ≡ roomEnd (c .end) (c .held) + 6
-    → halt ≡ huntOf after end (c .held + 6) (c .words) false
+    → halt ≡ huntOf after end (c .held + 6) (c .words) false (c .tally)
     → movedTo (c .at) end (c .held + 6) halt ≡ stepTo cells c six
 unfolding stepTo stepCells
 step-law cells c six after end halt a e s = rw (s, a, e)
@@ -106,7 +106,8 @@ module _ (r : Reader) (state : Ready) (is : state ≡ readyOf (r .candidate) (r 
   unfolding endedBy
   end-refused n e = not-ready (λ m. record { answer = answer.Refused m; reader = r }) _ r state is n e
 
-  pub end-done : state ≡ Yes → (s : Halt) → s ≡ huntOf (r .cells) (r .candidate .end) (r .candidate .held) (r .candidate .words) true
+  pub end-done : state ≡ Yes → (s : Halt)
+      → s ≡ huntOf (r .cells) (r .candidate .end) (r .candidate .held) (r .candidate .words) true (r .candidate .tally)
       → (c : Candidate) → c ≡ movedTo (r .candidate .at) (r .candidate .end) (r .candidate .held) s
       → record { answer = answer.Done; reader = record { cells = r .cells; candidate = c; ended = true } } ≡ endedBy r
   unfolding endedBy endTo

@@ -208,7 +208,8 @@ module _ (r : Reader) where
       pub come-there : length (bitsOf r) ≡ r .candidate .held → 30 * (x .frame .n + 2) ≤ r .candidate .held
       come-there long = omega (arith, n-there, test-stands (bitsOf r) (sym stands-is ∙ s) .taken)
 
-      pub take-done : (halt : Halt) → halt ≡ huntOf (r .cells) (r .candidate .end) (r .candidate .held - 30 * (x .frame .n + 2)) 0 (r .ended)
+      pub take-done : (halt : Halt)
+          → halt ≡ huntOf (r .cells) (r .candidate .end) (r .candidate .held - 30 * (x .frame .n + 2)) 0 (r .ended) (r .candidate .tally)
           → (c : Candidate) → c ≡ movedTo (r .candidate .at) (r .candidate .end) (r .candidate .held) halt
           → record { answer = Done; at = r .candidate .at; frame = x .frame; reader = record { cells = r .cells; candidate = c; ended = r .ended } } ≡ takenBy r
       unfolding given takeTo

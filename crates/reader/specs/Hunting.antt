@@ -1,19 +1,54 @@
--- The hunt over the bits that a buffer holds. Assumes nothing.
+-- The hunt over the bits that a buffer holds, and how the positions that a word ruled out are counted. Assumes nothing.
 use mathlib.Core.Path.{_≡_}
-use mathlib.Core.Bool.{Bool}
-use mathlib.Core.List.{List}
-use Prim.Native.Nat.{ℕ, _+_, _/_, _%_, _^_, _≤_}
+use mathlib.Core.Bool.{Bool, true, false, not, cond}
+use mathlib.Core.List.{List, [], _∷_}
+use Prim.Native.Nat.{ℕ, zero, suc, _+_, _/_, _%_, _^_, _≤_}
 use lib.ListN.{length}
-use Rattle.stream.specs.Verdict.{Hunted, hunt}
+use Rattle.bits.specs.Bits.{odd}
+use Rattle.word.specs.Word.{dataOf}
+use Rattle.frame.specs.Header.{preambled}
+use Rattle.stream.specs.Standing.{right}
+use Rattle.stream.specs.Verdict.{Fault, headless, failed, faultOf, Hunted, hunt}
 use Rattle.reader.specs.Cells.{heldBits}
+use Rattle.reader.specs.declared.Tally.{Tally}
 use Rattle.reader.specs.declared.hunt.Halt.{Halt}
+use Rattle.reader.specs.declared.hunt.Looked.{Looked}
+use Rattle.reader.specs.declared.hunt.Looked.the-variants.{Right, Wrong}
 
--- where a hunt stops, by the number of bits left
-unfoldable pub haltOf : Hunted → Halt
-haltOf h = record { left = length (h .rest); words = h .words; found = h .found }
+-- no position counted
+abbrev pub fresh : Tally
+fresh = record { odd = 0; even = 0 }
 
-unfoldable pub huntOf : List ℕ → ℕ → ℕ → ℕ → Bool → Halt
-huntOf cells end held words ended = haltOf (hunt ended words (heldBits cells end held))
+-- one position more: by an odd number of ones in the remainder, or an even number
+abbrev pub countedAs : Tally → Bool → Tally
+countedAs t true = record { odd = (t .odd + 1) % 2 ^ 32; even = t .even }
+countedAs t false = record { odd = t .odd; even = (t .even + 1) % 2 ^ 32 }
+
+-- by the fault of its word: a position without its preamble is not counted
+abbrev pub countedBy : Tally → Fault → Tally
+countedBy t headless = t
+countedBy t (failed r) = countedAs t (odd r)
+
+-- and position after position
+unfoldable pub tallied : Tally → List Fault → Tally
+tallied t [] = t
+tallied t (f ∷ fs) = tallied (countedBy t f) fs
+
+-- a first word without the preamble
+abbrev pub headlessAt : ℕ → List Bool → Bool
+headlessAt zero w = not (preambled (dataOf w))
+headlessAt (suc k) w = false
+
+-- what a look at a word says: right, or the counters with its position
+abbrev pub lookedAt : ℕ → List Bool → Tally → Looked
+lookedAt k w t = cond (right k w) Right (Wrong (countedBy t (faultOf k w)))
+
+-- where a hunt that begins with the counters t stops, by the number of bits left
+unfoldable pub haltOf : Tally → Hunted → Halt
+haltOf t h = record { left = length (h .rest); words = h .words; found = h .found; tally = tallied t (h .faults) }
+
+unfoldable pub huntOf : List ℕ → ℕ → ℕ → ℕ → Bool → Tally → Halt
+huntOf cells end held words ended t = haltOf t (hunt ended words (heldBits cells end held))
 
 -- of two cells as one number: at bit o and the bits after it, z in all, no nine bits are D30* and D1 to D8 of a preamble, as it is or turned over
 abbrev pub Headless : ℕ → ℕ → ℕ → Type 0

@@ -12,7 +12,7 @@ use Rattle.frame.specs.Frames.{blank}
 use Rattle.frame.specs.declared.Frame.{Frame}
 use Rattle.stream.specs.Standing.{size, stands, frameAt}
 use Rattle.reader.specs.Cells.{heldBits, roomEnd, pushedCells}
-use Rattle.reader.specs.Hunting.{huntOf}
+use Rattle.reader.specs.Hunting.{fresh, huntOf}
 use Rattle.reader.specs.declared.hunt.Halt.{Halt}
 use Rattle.reader.specs.declared.Candidate.{Candidate}
 use Rattle.reader.specs.declared.Reader.{Reader}
@@ -35,7 +35,8 @@ bitsOf r = candidateBits (r .cells) (r .candidate)
 
 -- a reader started fresh: the hunt starts at position 2
 unfoldable pub started : Reader
-started = record { cells = replicate 40 0; candidate = record { end = 0; held = 0; words = 0; at = 2; waits = false }; ended = false }
+started =
+    record { cells = replicate 40 0; candidate = record { end = 0; held = 0; words = 0; at = 2; waits = false; tally = fresh }; ended = false }
 
 -- the bits that so many words take, with the two before them
 abbrev pub knownBits : ℕ → ℕ
@@ -62,7 +63,8 @@ frameWaits r = r .candidate .waits && stands (bitsOf r)
 
 -- the candidate where a hunt stops
 unfoldable pub movedTo : ℕ → ℕ → ℕ → Halt → Candidate
-movedTo at end held s = record { end = end; held = s .left; words = s .words; at = (at + (held - s .left)) % 2 ^ 32; waits = s .found }
+movedTo at end held s =
+    record { end = end; held = s .left; words = s .words; at = (at + (held - s .left)) % 2 ^ 32; waits = s .found; tally = s .tally }
 
 -- six bits more, as a number
 unfoldable pub stepCells : List ℕ → Candidate → ℕ → List ℕ
@@ -71,7 +73,7 @@ stepCells cells c sixBits = pushedCells cells (c .end) (c .held) sixBits
 unfoldable pub stepTo : List ℕ → Candidate → ℕ → Candidate
 stepTo cells c sixBits =
     let end = roomEnd (c .end) (c .held) + 6 in
-    movedTo (c .at) end (c .held + 6) (huntOf (stepCells cells c sixBits) end (c .held + 6) (c .words) false)
+    movedTo (c .at) end (c .held + 6) (huntOf (stepCells cells c sixBits) end (c .held + 6) (c .words) false (c .tally))
 
 unfoldable pub steppedBy : Reader → ℕ → Reader
 steppedBy r b = record {
@@ -147,7 +149,7 @@ fedAllBy r bs =
 -- ---- END: 5, 3, 2
 
 unfoldable pub endTo : List ℕ → Candidate → Candidate
-endTo cells c = movedTo (c .at) (c .end) (c .held) (huntOf cells (c .end) (c .held) (c .words) true)
+endTo cells c = movedTo (c .at) (c .end) (c .held) (huntOf cells (c .end) (c .held) (c .words) true (c .tally))
 
 unfoldable pub endedBy : Reader → Next
 endedBy r =
@@ -159,7 +161,7 @@ endedBy r =
 unfoldable pub takeTo : List ℕ → Candidate → Bool → Candidate
 takeTo cells c ended =
     let n = 30 * size (candidateBits cells c) in
-    movedTo (c .at) (c .end) (c .held) (huntOf cells (c .end) (c .held - n) 0 ended)
+    movedTo (c .at) (c .end) (c .held) (huntOf cells (c .end) (c .held - n) 0 ended (c .tally))
 
 abbrev pub refusedTaking : Reader → ℕ → Taken
 refusedTaking r n = record { answer = Refused n; at = 0; frame = blank; reader = r }

@@ -31,12 +31,14 @@ pub(crate) fn moved(at: u32, end: usize, held: usize, halt: Halt) -> Candidate
     requires { ⌜ (halt .left ≤ held) × (held ≤ 1280) ⌝ }
     ensures { λ r. ⌜ r ≡ movedTo at end held halt ⌝ }
 {
+    let tally = halt.tally;
     Candidate {
         end,
         held: halt.left,
         words: halt.words,
         at: std::num::wrapping_add_u32(at, (held - halt.left) as u32),
         waits: halt.found,
+        tally,
     }
 }
 
@@ -46,12 +48,14 @@ fn hold(cells: &mut [u32; 40], c: Candidate, six: u32) -> Candidate
         × (c .held + 6 < 32 + 30 * c .words) ⌝ }
     ensures { λ r. ⌜ (r ≡ stepTo (now (cells .entry)) c six) × (now (cells .exit) ≡ stepCells (now (cells .entry)) c six) ⌝ }
 {
+    let tally = c.tally;
     let held = c.held + 6;
     let end = push(cells, c.end, c.held, six);
     let undecided = Halt {
         left: held,
         words: c.words,
         found: false,
+        tally,
     };
     moved(c.at, end, held, undecided)
 }
@@ -62,6 +66,7 @@ pub(crate) fn step(cells: &mut [u32; 40], c: Candidate, six: u32) -> Candidate
     ensures { λ r. ⌜ (r ≡ stepTo (now (cells .entry)) c six) × (now (cells .exit) ≡ stepCells (now (cells .entry)) c six) ⌝ }
 {
     let words = c.words;
+    let tally = c.tally;
     let held = c.held + 6;
     let end = push(cells, c.end, c.held, six);
     let left = seek(cells, end, held, words);
@@ -70,10 +75,11 @@ pub(crate) fn step(cells: &mut [u32; 40], c: Candidate, six: u32) -> Candidate
             left,
             words,
             found: false,
+            tally,
         };
         return moved(c.at, end, held, undecided);
     }
-    let halt = hunt(cells, end, left, words, false);
+    let halt = hunt(cells, end, left, words, false, tally);
     moved(c.at, end, held, halt)
 }
 
@@ -122,6 +128,7 @@ fn burst(cells: &mut [u32; 40], c: Candidate, a: u32, b: u32, d: u32, e: u32, f:
         × (now (cells .exit) ≡ manyCells (now (cells .entry)) c (a ∷ b ∷ d ∷ e ∷ f ∷ [])) ⌝ }
 {
     let words = c.words;
+    let tally = c.tally;
     let held = c.held + 30;
     let end = c.end + 30;
     put_five(cells, c.end, a, b, d, e, f);
@@ -131,10 +138,11 @@ fn burst(cells: &mut [u32; 40], c: Candidate, a: u32, b: u32, d: u32, e: u32, f:
             left,
             words,
             found: false,
+            tally,
         };
         return moved(c.at, end, held, undecided);
     }
-    let halt = hunt(cells, end, left, words, false);
+    let halt = hunt(cells, end, left, words, false, tally);
     moved(c.at, end, held, halt)
 }
 

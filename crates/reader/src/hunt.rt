@@ -3,18 +3,40 @@ ghost use mathlib.Core.Path.{_≡_};
 ghost use mathlib.Core.Bool.{Bool};
 ghost use Prim.Native.Nat.{_+_, _≤_, _<_};
 ghost use lib.ListN.{length};
-ghost use Rattle.bits.specs.Bits.{bits};
+ghost use lib.Count.{ones};
+ghost use Rattle.bits.specs.Bits.{isOdd, bits};
 ghost use Rattle.frame.specs.Header.{nOf};
-ghost use Rattle.word.specs.Word.{dataOf};
+ghost use Rattle.word.specs.Word.{dataOf, passes as passing};
 ghost use Rattle.stream.specs.Standing.{right as rightly};
-ghost use Rattle.reader.specs.Hunting.{huntOf, Headless};
+ghost use Rattle.reader.specs.Hunting.{huntOf, countedAs, headlessAt, lookedAt, Headless};
+ghost use Rattle.reader.specs.declared.Tally.{Tally};
+use crate::Tally;
+use word::Tested;
 
-// Where a hunt stops: the bits left from two before that position on, how many of its words are known right (0 where a frame stands), and whether
-// a frame stands there.
+// Where a hunt stops: the bits left from two before that position on, how many of its words are known right (0 where a frame stands), whether a
+// frame stands there, and the positions counted so far.
 pub struct Halt {
     pub left: usize,
     pub words: usize,
     pub found: bool,
+    pub tally: Tally,
+}
+
+// A word is right, or it rules its position out and these are the counters with it.
+pub(crate) enum Looked {
+    Right,
+    Wrong(Tally),
+}
+
+// A word passes the word test.
+pub(crate) fn passes(window: u32) -> bool
+    ensures { λ r. ⌜ r ≡ passing (bits 32 window) ⌝ }
+{
+    let told = word::test(window);
+    if let Tested::Failed(_) = told {
+        return false;
+    }
+    true
 }
 
 // The first word of a candidate is right: its preamble, then its parity.
@@ -24,17 +46,47 @@ pub(crate) fn headed(window: u32) -> bool
     if !frame::has_preamble(word::data_of(window)) {
         return false;
     }
-    word::passes(window)
+    passes(window)
 }
 
-// Word k of a candidate is right: its parity, and of the first word the preamble too.
-fn right(k: usize, window: u32) -> bool
-    ensures { λ r. ⌜ r ≡ rightly k (bits 32 window) ⌝ }
+// One position more that a word with this remainder ruled out.
+fn counted(tally: Tally, remainder: u32) -> Tally
+    ensures { λ r. ⌜ r ≡ countedAs tally (isOdd (ones remainder)) ⌝ }
+{
+    if u32::count_ones(remainder) % 2 == 0 {
+        return Tally {
+            odd: tally.odd,
+            even: std::num::wrapping_add_u32(tally.even, 1),
+        };
+    }
+    Tally {
+        odd: std::num::wrapping_add_u32(tally.odd, 1),
+        even: tally.even,
+    }
+}
+
+// Word k of a candidate is the first and lacks the preamble.
+fn lacks_preamble(k: usize, window: u32) -> bool
+    ensures { λ r. ⌜ r ≡ headlessAt k (bits 32 window) ⌝ }
 {
     if k != 0 {
-        return word::passes(window);
+        return false;
     }
-    headed(window)
+    !frame::has_preamble(word::data_of(window))
+}
+
+// A look at word k of a candidate: of the first the preamble, which is not counted, then the word test.
+fn look(k: usize, window: u32, tally: Tally) -> Looked
+    ensures { λ r. ⌜ r ≡ lookedAt k (bits 32 window) tally ⌝ }
+{
+    if lacks_preamble(k, window) {
+        return Looked::Wrong(tally);
+    }
+    let told = word::test(window);
+    if let Tested::Failed(remainder) = told {
+        return Looked::Wrong(counted(tally, remainder));
+    }
+    Looked::Right
 }
 
 // N, in the window of a second word.
@@ -83,7 +135,8 @@ fn passed(left: usize, off: usize, positions: usize) -> usize
 // hunt from here, so it may stop early.
 pub(crate) fn seek(cells: &[u32; 40], end: usize, left: usize, words: usize) -> usize
     requires { ⌜ (length (now cells) ≡ 40) × (end ≤ 1280) × (left ≤ end) ⌝ }
-    ensures { λ r. ⌜ (r ≤ left) × ((ended : Bool) → huntOf (now (cells .entry)) end left words ended ≡ huntOf (now (cells .entry)) end r words ended) ⌝ }
+    ensures { λ r. ⌜ (r ≤ left)
+        × ((ended : Bool) (t : Tally) → huntOf (now (cells .entry)) end left words ended t ≡ huntOf (now (cells .entry)) end r words ended t) ⌝ }
 {
     if words != 0 {
         return left;
@@ -98,17 +151,27 @@ pub(crate) fn seek(cells: &[u32; 40], end: usize, left: usize, words: usize) -> 
     passed(left, off, positions as usize)
 }
 
-// The hunt from word `words` of the candidate on: a word that has come and fails rules its position out.
-pub(crate) fn hunt(cells: &[u32; 40], end: usize, held: usize, words: usize, ended: bool) -> Halt
+// The hunt from word `words` of the candidate on: a word that has come and fails rules its position out, which is counted.
+pub(crate) fn hunt(
+    cells: &[u32; 40],
+    end: usize,
+    held: usize,
+    words: usize,
+    ended: bool,
+    tally: Tally,
+) -> Halt
     requires { ⌜ (length (now cells) ≡ 40) × (end ≤ 1280) × (held ≤ end) × (words ≤ 32) ⌝ }
-    ensures { λ r. ⌜ (r ≡ huntOf (now (cells .entry)) end held words ended) × (r .left ≤ held) ⌝ }
+    ensures { λ r. ⌜ (r ≡ huntOf (now (cells .entry)) end held words ended tally) × (r .left ≤ held) ⌝ }
 {
     let mut left = held;
     let mut good = words;
+    let mut count = tally;
     'position: while 0 < left {
         while 32 + 30 * good <= left {
             let w = crate::cells::window(cells, end - left + 30 * good);
-            if !right(good, w) {
+            let looked = look(good, w, count);
+            if let Looked::Wrong(more) = looked {
+                count = more;
                 left = seek(cells, end, left - 1, 0);
                 good = 0;
                 continue 'position;
@@ -121,6 +184,7 @@ pub(crate) fn hunt(cells: &[u32; 40], end: usize, held: usize, words: usize, end
                         left,
                         words: 0,
                         found: true,
+                        tally: count,
                     };
                 }
             }
@@ -130,6 +194,7 @@ pub(crate) fn hunt(cells: &[u32; 40], end: usize, held: usize, words: usize, end
                 left,
                 words: good,
                 found: false,
+                tally: count,
             };
         }
         left -= 1;
@@ -139,5 +204,6 @@ pub(crate) fn hunt(cells: &[u32; 40], end: usize, held: usize, words: usize, end
         left: 0,
         words: good,
         found: false,
+        tally: count,
     }
 }

@@ -19,14 +19,22 @@ use hunt::hunt;
 use line::Six;
 use taking::standing;
 
+// Positions that a word ruled out, by the ones in the remainder of that word: an odd number of them, or an even number; each modulo 2^32.
+pub struct Tally {
+    pub odd: u32,
+    pub even: u32,
+}
+
 // The position that is looked at: the bits held are the `held` ones before bit `end` of the buffer and start two bits before it; `words` of its
-// words are known right; `at` is its position in the stream modulo 2^32; `waits` says that a frame stands there and waits to be taken.
+// words are known right; `at` is its position in the stream modulo 2^32; `waits` says that a frame stands there and waits to be taken;
+// `tally` counts positions before it.
 pub struct Candidate {
     pub end: usize,
     pub held: usize,
     pub words: usize,
     pub at: u32,
     pub waits: bool,
+    pub tally: Tally,
 }
 
 // The bits not yet decided, the position that is looked at, and whether the input has ended.
@@ -76,6 +84,7 @@ pub fn new() -> Reader
             words: 0,
             at: 2,
             waits: false,
+            tally: Tally { odd: 0, even: 0 },
         },
         ended: false,
     }
@@ -153,6 +162,7 @@ pub fn end(reader: Reader) -> Next
         candidate.held,
         candidate.words,
         true,
+        candidate.tally,
     );
     let last = moved(candidate.at, candidate.end, candidate.held, halt);
     let mut next = reader;
@@ -199,6 +209,7 @@ pub fn take(reader: Reader) -> Taken
         c.held - 30 * (frame.n + 2),
         0,
         next.ended,
+        c.tally,
     );
     let last = moved(c.at, c.end, c.held, halt);
     next.candidate = last;

@@ -9,6 +9,7 @@ ghost use Rattle.reader.specs.Taking.{noneThere, thereIn, HeaderIn};
 use crate::cells::window;
 use crate::hunt::headed;
 use crate::hunt::n_in;
+use crate::hunt::passes;
 use frame::Carried;
 use frame::Frame;
 use frame::Header;
@@ -55,7 +56,7 @@ fn filled(
     let mut k: usize = 0;
     while k < n {
         let w = window(cells, first + 30 * k);
-        if !word::passes(w) {
+        if !passes(w) {
             return nothing();
         }
         words[k] = word::data_of(w);
@@ -89,7 +90,7 @@ pub(crate) fn standing(cells: &[u32; 40], end: usize, held: usize) -> There
     if !headed(one) {
         return nothing();
     }
-    if !word::passes(two) {
+    if !passes(two) {
         return nothing();
     }
     let header = frame::header_of(word::data_of(one), word::data_of(two));

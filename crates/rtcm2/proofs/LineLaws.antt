@@ -7,6 +7,7 @@ use lib.ListN.{length}
 use borrow.Author.Tests.{lt-ltb, le-ltb}
 use Rattle.answer.specs.Order.{Says, refuses, answers}
 use Rattle.reader.specs.Reading.{started, takenBy}
+use Rattle.reader.specs.declared.Tally.{Tally}
 use Rattle.reader.specs.declared.Reader.{Reader}
 use Rattle.reader.specs.declared.Answer.{Answer}
 use Rattle.reader.specs.declared.Answer.the-variants as reads
@@ -17,7 +18,7 @@ use Rattle.journal.specs.declared.Kept.the-variants as kept
 use Rattle.journal.proofs.RoundTrip.{refused-unchanged}
 use Rattle.rtcm2_state.specs.State.{stateSize, holdsState, stateIn}
 use Rattle.rtcm2.specs.Answer.{numberOf, left, andThen}
-use Rattle.rtcm2.specs.Line.{doneBy, readBy, startedIn, takenIn}
+use Rattle.rtcm2.specs.Line.{doneBy, readBy, startedIn, countsIn, takenIn}
 
 -- ---- the number, and a lent place after a refusal and after an answer
 
@@ -44,6 +45,20 @@ start-short state h = rw (lt-ltb (length state) stateSize h)
 pub start-done : (state : List ℕ) → stateSize ≤ length state → startedIn state ≡ answers started
 unfolding startedIn
 start-done state h = rw (le-ltb (length state) stateSize h)
+
+-- ---- COUNTS
+
+module _ (state : List ℕ) where
+  abbrev told : Bool → Says Tally
+  told b = andThen (cond b (answers (stateIn state)) (refuses 5)) (λ r. answers (r .candidate .tally))
+
+  pub counts-none : holdsState state ≡ false → countsIn state ≡ refuses 5
+  unfolding countsIn
+  counts-none h = ap told h
+
+  pub counts-held : holdsState state ≡ true → countsIn state ≡ answers (stateIn state .candidate .tally)
+  unfolding countsIn
+  counts-held h = ap told h
 
 -- ---- a call of the reader that is held
 

@@ -1,7 +1,7 @@
 -- The refusals of the calls that read the line: 5 for bytes that hold no state, then those of the reader's call. Assumes nothing.
 use mathlib.Core.Path.{_≡_, refl, ap, _∙_}
 use mathlib.Core.Bool.{Bool, true, false, cond, not}
-use mathlib.Core.List.{List}
+use mathlib.Core.List.{List, []}
 use Prim.Native.Nat.{ℕ}
 use Rattle.answer.specs.Order.{Says, refuses, answers, Check, inOrder}
 use Rattle.answer.proofs.OrderLaws.{says-order}
@@ -13,7 +13,7 @@ use Rattle.reader.specs.declared.Next.{Next}
 use Rattle.reader.specs.declared.FedAll.{FedAll}
 use Rattle.rtcm2_state.specs.State.{holdsState, stateIn}
 use Rattle.rtcm2.specs.Answer.{andThen}
-use Rattle.rtcm2.specs.Line.{doneBy, readBy, startedIn, fedAllIn, endedIn}
+use Rattle.rtcm2.specs.Line.{doneBy, readBy, startedIn, countsIn, fedAllIn, endedIn}
 use Rattle.rtcm2.specs.Orders.{startedOrder, heldOrder}
 
 -- a call of the reader in its order, on the bytes that hold the reader
@@ -35,6 +35,16 @@ module _ {A : Type 0} (answer : A → Answer) (call : Reader → A) (state : Lis
 pub start-order : (state : List ℕ) → startedIn state ≡ inOrder (startedOrder state) refuses (answers started)
 unfolding startedIn
 start-order state = refl
+
+-- COUNTS: 5
+pub counts-order : (state : List ℕ) → countsIn state ≡ inOrder (heldOrder state []) refuses (answers (stateIn state .candidate .tally))
+unfolding countsIn
+counts-order state = go (holdsState state)
+  where
+    go : (t : Bool) → andThen (cond t (answers (stateIn state)) (refuses 5)) (λ r. answers (r .candidate .tally))
+        ≡ cond (not t) (refuses 5) (answers (stateIn state .candidate .tally))
+    go true = refl
+    go false = refl
 
 module _ (state : List ℕ) where
   abbrev R : Reader

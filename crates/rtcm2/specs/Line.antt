@@ -6,6 +6,7 @@ use lib.Dec.{ltb}
 use lib.ListN.{length}
 use Rattle.answer.specs.Order.{Says, refuses, answers}
 use Rattle.reader.specs.Reading.{started, fedBy, fedAllBy, endedBy, takenBy}
+use Rattle.reader.specs.declared.Tally.{Tally}
 use Rattle.reader.specs.declared.Reader.{Reader}
 use Rattle.reader.specs.declared.Answer.{Answer}
 use Rattle.reader.specs.declared.Answer.the-variants.{Done, Refused}
@@ -32,6 +33,10 @@ readBy answer call state = andThen (heldIn state) (λ r. doneBy (answer (call r)
 -- START: 13
 unfoldable pub startedIn : List ℕ → Says Reader
 startedIn state = cond (ltb (length state) stateSize) (refuses 13) (answers started)
+
+-- COUNTS: 5
+unfoldable pub countsIn : List ℕ → Says Tally
+countsIn state = andThen (heldIn state) (λ r. answers (r .candidate .tally))
 
 -- FEED: 5, 3, 2, 1
 unfoldable pub fedIn : List ℕ → ℕ → Says Next

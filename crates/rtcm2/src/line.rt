@@ -3,7 +3,7 @@ ghost use mathlib.Core.Path.{_≡_};
 ghost use Rattle.journal.specs.Journal.{heldBy};
 ghost use Rattle.rtcm2_state.specs.State.{stateSize, startPut, statePut};
 ghost use Rattle.rtcm2.specs.Answer.{numberOf, left};
-ghost use Rattle.rtcm2.specs.Line.{startedIn, fedIn, fedAllIn, endedIn, takenIn};
+ghost use Rattle.rtcm2.specs.Line.{startedIn, countsIn, fedIn, fedAllIn, endedIn, takenIn};
 use journal::Kept;
 use reader::Answer;
 
@@ -25,6 +25,24 @@ pub extern "C" fn rtcm2_start(state: &mut [u8]) -> u8
         return 13;
     }
     rtcm2_state::put_state(reader::new(), state);
+    0
+}
+
+// The counters of a reader: positions that a word ruled out by an odd number of ones in its remainder, and by an even number. Refusal: 5.
+#[no_mangle]
+pub extern "C" fn rtcm2_counts(state: &[u8], odd: &mut u32, even: &mut u32) -> u8
+    ensures { λ r. ⌜ r ≡ numberOf (countsIn (now (state .entry))) ⌝ }
+    ensures { λ _. ⌜ now (odd .exit) ≡ left (countsIn (now (state .entry))) (λ t. t .odd) (now (odd .entry)) ⌝ }
+    ensures { λ _. ⌜ now (even .exit) ≡ left (countsIn (now (state .entry))) (λ t. t .even) (now (even .entry)) ⌝ }
+{
+    if !rtcm2_state::holds_state(state) {
+        return 5;
+    }
+    let reader = rtcm2_state::state_in(state);
+    let candidate = reader.candidate;
+    let tally = candidate.tally;
+    *odd = tally.odd;
+    *even = tally.even;
     0
 }
 

@@ -26,7 +26,7 @@ use Rattle.rtcm2_rows.specs.Corrections as correction
 use Rattle.rtcm2_rows.specs.Healths as health
 use Rattle.rtcm2.specs.Line.{fedIn}
 use Rattle.rtcm2.specs.Orders as in-order
-use Rattle.rtcm2.proofs.LineOrders.{held-order, start-order, feed-all-order, end-order}
+use Rattle.rtcm2.proofs.LineOrders.{held-order, start-order, counts-order, feed-all-order, end-order}
 use Rattle.rtcm2.proofs.LineTaking.{take-order}
 use Rattle.rtcm2.proofs.SendOrders.{open-order, write-order}
 use Rattle.rtcm2.proofs.ReadOrders as reads
@@ -57,6 +57,7 @@ put-stored c bytes = ordered (putChecks c bytes) _ (says-order saysStored stored
 pub library-numbers : LibraryNumbers
 library-numbers = record {
   start = λ state. ordered (in-order.startedOrder state) _ (start-order state) refl refl;
+  counts = λ state. ordered (in-order.heldOrder state []) _ (counts-order state) refl refl;
   feed = λ state byte. ordered (in-order.heldOrder state (busy (stateIn state) ++ ((not (isData byte), 1) ∷ []))) _ (feed-order state byte) refl refl;
   feed-all = λ state bs. ordered (in-order.heldOrder state (busy (stateIn state))) _ (feed-all-order state bs) refl refl;
   line-end = λ state. ordered (in-order.heldOrder state (busy (stateIn state))) _ (end-order state) refl refl;

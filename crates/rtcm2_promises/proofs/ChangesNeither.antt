@@ -60,6 +60,7 @@ state-keeps r bytes = keeps (put-stored (r .candidate) bytes) (λ b. b) (λ n. b
 pub library-keeps : LibraryKeeps
 library-keeps = record {
   start = λ state n e. rw e;
+  counts = λ state odd even. (λ n e. rw e, λ n e. rw e);
   feed = λ state byte n e. rw e;
   feed-all = λ state bytes used passed. (λ n e. rw e, λ n e. rw e, λ n e. rw e);
   line-end = λ state n e. rw e;

@@ -7,6 +7,7 @@ pub mod OneCall
 pub mod LineCalls
 pub mod Slices
 pub mod Demand3
+pub mod Counters
 pub mod KeptBack
 pub mod ReadsBack
 pub mod KeptAgain

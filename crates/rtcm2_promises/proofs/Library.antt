@@ -6,6 +6,7 @@ use Rattle.rtcm2_promises.proofs.ChangesNeither.{library-keeps}
 use Rattle.rtcm2_promises.proofs.ReadsBack.{library-reads-back}
 use Rattle.rtcm2_promises.proofs.KeptAgain.{kept-again}
 use Rattle.rtcm2_promises.proofs.Demand3.{takes-its-record, library-demand-3}
+use Rattle.rtcm2_promises.proofs.Counters.{library-counters}
 use Rattle.rtcm2_promises.proofs.LineBack.{line-gives-back}
 
 pub library : Library
@@ -17,5 +18,6 @@ library = record {
   kept-again = kept-again;
   third = library-demand-3;
   takes-record = takes-its-record;
+  counters = library-counters;
   line-back = line-gives-back;
 }

@@ -23,6 +23,7 @@ library-calls = record {
   put-health = record { asks-nothing = λ κs a. tt; settles = λ κs a z e p. p .0; leaves = λ κs a z e p. p .1; ends = rtcm2_rows.health.put_health.Met.met };
   state-size = record { asks-nothing = λ κs a. tt; settles = λ κs a z e p. p; ends = rtcm2.line.rtcm2_state_size.Met.met };
   start = record { asks-nothing = λ κs a. tt; settles = λ κs a z e p. p .0; leaves = λ κs a z e p. p .1; ends = rtcm2.line.rtcm2_start.Met.met };
+  counts = record { asks-nothing = λ κs a. tt; settles = λ κs a z e p. p .0; leaves = λ κs a z e p. two-places (p .1); ends = rtcm2.line.rtcm2_counts.Met.met };
   feed = record { asks-nothing = λ κs a. tt; settles = λ κs a z e p. p .0; leaves = λ κs a z e p. p .1; ends = rtcm2.line.rtcm2_feed.Met.met };
   feed-all = record {
     asks-nothing = λ κs a. tt;

@@ -20,7 +20,7 @@ use Rattle.rtcm2_rows.specs.Corrections as correction
 use Rattle.rtcm2_rows.specs.Healths as health
 use Rattle.rtcm2.specs.Header.{headed}
 use Rattle.rtcm2.specs.Frames.{frameSaid, keptTo, keepSaid, recallSaid}
-use Rattle.rtcm2.specs.Line.{startedIn, fedIn, fedAllIn, endedIn, takenIn}
+use Rattle.rtcm2.specs.Line.{startedIn, countsIn, fedIn, fedAllIn, endedIn, takenIn}
 use Rattle.rtcm2.specs.Send.{openSaid, writeSaid}
 use Rattle.rtcm2.specs.Rows.{rowTo}
 use Rattle.rtcm2.specs.Corrections as corrections
@@ -47,6 +47,7 @@ afterHeader numbers = 5 ∷ 5 ∷ 6 ∷ 7 ∷ numbers
 pub record LibraryNumbers : Type 0 where
   -- reading the line
   pub start : (state : List ℕ) → Ordered (13 ∷ []) (in-order.startedOrder state) (startedIn state)
+  pub counts : (state : List ℕ) → Ordered (5 ∷ []) (in-order.heldOrder state []) (countsIn state)
   pub feed : (state : List ℕ) (byte : ℕ)
       → Ordered (5 ∷ 5 ∷ 3 ∷ 2 ∷ 1 ∷ []) (in-order.heldOrder state (busy (stateIn state) ++ ((not (isData byte), 1) ∷ []))) (fedIn state byte)
   pub feed-all : (state bs : List ℕ) → Ordered (5 ∷ 5 ∷ 3 ∷ 2 ∷ []) (in-order.heldOrder state (busy (stateIn state))) (fedAllIn state bs)

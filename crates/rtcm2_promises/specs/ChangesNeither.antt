@@ -17,7 +17,7 @@ use Rattle.rtcm2_rows.specs.Rows.{putBy, rowAfter, saysPut}
 use Rattle.rtcm2_rows.specs.Corrections as entry-corrections
 use Rattle.rtcm2_rows.specs.Healths as entry-healths
 use Rattle.rtcm2.specs.Answer.{left}
-use Rattle.rtcm2.specs.Line.{startedIn, fedIn, fedAllIn, endedIn, takenIn}
+use Rattle.rtcm2.specs.Line.{startedIn, countsIn, fedIn, fedAllIn, endedIn, takenIn}
 use Rattle.rtcm2.specs.Send.{openSaid, writeSaid, d29After, d30After, lineLent}
 use Rattle.rtcm2.specs.Send as send
 use Rattle.rtcm2.specs.Frames.{frameSaid, keptTo, keepSaid, heldTo, sizeTo}
@@ -38,6 +38,7 @@ use Rattle.promises.specs.ChangesNeither.{Keeps}
 pub record LibraryKeeps : Type 0 where
   -- reading the line
   pub start : (state : List ℕ) → Keeps (startedIn state) (left (startedIn state) (λ r. statePut r state) state) state
+  pub counts : (state : List ℕ) (odd even : ℕ) → let s = countsIn state in Keeps s (left s (λ t. t .odd) odd) odd × Keeps s (left s (λ t. t .even) even) even
   pub feed : (state : List ℕ) (byte : ℕ) → Keeps (fedIn state byte) (left (fedIn state byte) (λ n. statePut (n .reader) state) state) state
   pub feed-all : (state bytes : List ℕ) (used passed : ℕ) → let s = fedAllIn state bytes in
       Keeps s (left s (λ f. statePut (f .reader) state) state) state

@@ -3,6 +3,7 @@ pub mod CarriesItsNumber
 pub mod ChangesNeither
 pub mod LineCalls
 pub mod Demand3
+pub mod Counters
 pub mod ReadsBack
 pub mod LineBack
 pub mod Library

@@ -7,6 +7,7 @@ use Rattle.rtcm2_promises.specs.LibraryCalls.{LibraryCalls}
 use Rattle.rtcm2_promises.specs.CarriesItsNumber.{LibraryNumbers}
 use Rattle.rtcm2_promises.specs.ChangesNeither.{LibraryKeeps}
 use Rattle.rtcm2_promises.specs.Demand3.{TakesItsRecord, LibraryDemand3}
+use Rattle.rtcm2_promises.specs.Counters.{LibraryCounters}
 use Rattle.rtcm2_promises.specs.ReadsBack.{LibraryReadsBack, KeptAgain}
 use Rattle.rtcm2_promises.specs.LineBack.{LineGivesBack}
 
@@ -23,5 +24,7 @@ pub record Library : Type 2 where
   -- demand 3, of every state's bytes with room; a frame that is taken is the one whose record comes
   pub third : (state : List ℕ) → stateSize ≤ length state → LibraryDemand3 state
   pub takes-record : TakesItsRecord
+  -- how words failed, told after any calls
+  pub counters : (state : List ℕ) → stateSize ≤ length state → LibraryCounters state
   -- and what is written comes back from the line
   pub line-back : (state : List ℕ) → stateSize ≤ length state → LineGivesBack state

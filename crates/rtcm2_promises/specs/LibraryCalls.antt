@@ -8,7 +8,7 @@ use Rattle.frame.specs.declared.System.the-variants.{Gps}
 use Rattle.rtcm2_state.specs.State.{stateSize, holdsState, stateIn, storedBy, startPut, statePut}
 use Rattle.rtcm2_rows.specs.Rows.{countOf, entriesFrom, putBy, rowAfter}
 use Rattle.rtcm2.specs.Answer.{numberOf, left}
-use Rattle.rtcm2.specs.Line.{startedIn, fedIn, fedAllIn, endedIn, takenIn}
+use Rattle.rtcm2.specs.Line.{startedIn, countsIn, fedIn, fedAllIn, endedIn, takenIn}
 use Rattle.journal.specs.Journal.{heldBy}
 use Rattle.rtcm2.specs.Send.{openSaid, writeSaid, d29After, d30After, lineLent}
 use Rattle.writer.specs.Answer.{openedTo}
@@ -43,6 +43,7 @@ use Rattle.rtcm2.proofs.line.rtcm2_state_size
 use Rattle.rtcm2.proofs.line.rtcm2_start
 use Rattle.rtcm2.proofs.line.rtcm2_feed
 use Rattle.rtcm2.proofs.line.rtcm2_feed_all
+use Rattle.rtcm2.proofs.line.rtcm2_counts
 use Rattle.rtcm2.proofs.line.rtcm2_end
 use Rattle.rtcm2.proofs.line.rtcm2_take
 use Rattle.rtcm2.proofs.send.rtcm2_open as rtcm2-open
@@ -103,6 +104,10 @@ pub record LibraryCalls : Type 2 where
   pub start : AnsweredLent rtcm2_start.Reads.Asked rtcm2_start.Reads.Learnt rtcm2_start.Statement.statement
       (λ κs (state, _). numberOf (startedIn (now state)))
       (λ κs (state, _). now state) (λ κs (state, _). left (startedIn (now state)) (λ r. statePut r (now state)) (now state))
+  pub counts : AnsweredLent {B = ℕ × ℕ} rtcm2_counts.Reads.Asked rtcm2_counts.Reads.Learnt rtcm2_counts.Statement.statement
+      (λ κs (state, _). numberOf (countsIn (now state)))
+      (λ κs (_, (odd, (even, _))). (now odd, now even))
+      (λ κs (state, (odd, (even, _))). let s = countsIn (now state) in (left s (λ t. t .odd) (now odd), left s (λ t. t .even) (now even)))
   pub feed : AnsweredLent rtcm2_feed.Reads.Asked rtcm2_feed.Reads.Learnt rtcm2_feed.Statement.statement
       (λ κs (state, (byte, _)). numberOf (fedIn (now state) byte))
       (λ κs (state, _). now state)

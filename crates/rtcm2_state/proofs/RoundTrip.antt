@@ -40,7 +40,7 @@ reader-numbers r =
     let c = r .candidate in
     ap₂ (λ waits ended. record {
       cells = r .cells;
-      candidate = record { end = c .end; held = c .held; words = c .words; at = c .at; waits = waits };
+      candidate = record { end = c .end; held = c .held; words = c .words; at = c .at; waits = waits; tally = c .tally };
       ended = ended;
     }) (yes-no (c .waits)) (yes-no (r .ended))
 
@@ -48,7 +48,7 @@ numbers-state : (r : Reader) → areState (stateNumbers r) ≡ true
 unfolding areState stateNumbers
 numbers-state r = rw (below-two (r .candidate .waits), below-two (r .ended))
 
-numbers-reader : (ns : List ℕ) → 7 ≤ length ns → areState ns ≡ true → stateNumbers (readerOf ns) ≡ ns
+numbers-reader : (ns : List ℕ) → 9 ≤ length ns → areState ns ≡ true → stateNumbers (readerOf ns) ≡ ns
 unfolding areState stateNumbers readerOf
 numbers-reader [] l h = absurd (omega arith)
 numbers-reader (a ∷ []) l h = absurd (omega arith)
@@ -57,11 +57,13 @@ numbers-reader (a ∷ b ∷ c ∷ []) l h = absurd (omega arith)
 numbers-reader (a ∷ b ∷ c ∷ d ∷ []) l h = absurd (omega arith)
 numbers-reader (a ∷ b ∷ c ∷ d ∷ e ∷ []) l h = absurd (omega arith)
 numbers-reader (a ∷ b ∷ c ∷ d ∷ e ∷ f ∷ []) l h = absurd (omega arith)
-numbers-reader (a ∷ b ∷ c ∷ d ∷ e ∷ f ∷ g ∷ ns) l h =
-    let p = and-eq-true-iff (eqb a 0x31533252 && ltb f 2) (ltb g 2) .0 h in
-    let q = and-eq-true-iff (eqb a 0x31533252) (ltb f 2) .0 (p .0) in
-    ap (λ m. m ∷ b ∷ c ∷ d ∷ e ∷ val (eqb f 1) ∷ val (eqb g 1) ∷ ns) (sym (eqb-true a 0x31533252 (q .0)))
-    ∙ ap₂ (λ m n. a ∷ b ∷ c ∷ d ∷ e ∷ m ∷ n ∷ ns) (one-zero f (ltb-true f 2 (q .1))) (one-zero g (ltb-true g 2 (p .1)))
+numbers-reader (a ∷ b ∷ c ∷ d ∷ e ∷ f ∷ g ∷ []) l h = absurd (omega arith)
+numbers-reader (a ∷ b ∷ c ∷ d ∷ e ∷ f ∷ g ∷ i ∷ []) l h = absurd (omega arith)
+numbers-reader (a ∷ b ∷ c ∷ d ∷ e ∷ f ∷ g ∷ i ∷ j ∷ ns) l h =
+    let p = and-eq-true-iff (eqb a 0x32533252 && ltb f 2) (ltb g 2) .0 h in
+    let q = and-eq-true-iff (eqb a 0x32533252) (ltb f 2) .0 (p .0) in
+    ap (λ m. m ∷ b ∷ c ∷ d ∷ e ∷ val (eqb f 1) ∷ val (eqb g 1) ∷ i ∷ j ∷ ns) (sym (eqb-true a 0x32533252 (q .0)))
+    ∙ ap₂ (λ m n. a ∷ b ∷ c ∷ d ∷ e ∷ m ∷ n ∷ i ∷ j ∷ ns) (one-zero f (ltb-true f 2 (q .1))) (one-zero g (ltb-true g 2 (p .1)))
 
 -- ---- put, then read
 

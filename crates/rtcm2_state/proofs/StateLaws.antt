@@ -10,14 +10,15 @@ use lib.Seq.{sets, sets-eq}
 use borrow.Author.Tests.{lt-ltb, le-ltb, ltb-false, lt-leb}
 use Rattle.bits.specs.Bits.{val}
 use Rattle.reader.specs.Reading.{started}
+use Rattle.reader.specs.declared.Tally.{Tally}
 use Rattle.reader.specs.declared.Candidate.{Candidate}
 use Rattle.reader.specs.declared.Reader.{Reader}
 use Rattle.rtcm2_state.specs.Numbers.{lowBytes, numberIn, numbersWritten, numbersIn}
-use Rattle.rtcm2_state.specs.State.{stateSize, stateCount, startSize, startOf, stateNumbers, readerOf, areState}
+use Rattle.rtcm2_state.specs.State.{stateSize, stateCount, startSize, countsOf, tallyOf, startOf, stateNumbers, readerOf, areState}
 use Rattle.rtcm2_state.specs.State.{holdsState, stateIn, tooWide, storedBy, startPut, statePut}
 use Rattle.rtcm2_state.specs.declared.Stored.the-variants as stored
 use Rattle.rtcm2_state.proofs.NumberLaws.{length-written, number-of, numbers-from}
-use Rattle.rtcm2_state.proofs.StoreLaws.{store-both, store-seven}
+use Rattle.rtcm2_state.proofs.StoreLaws.{store-both, store-seven, store-two}
 
 -- ---- what is held
 
@@ -28,7 +29,7 @@ held-short bs h = rw (lt-ltb (length bs) stateSize h)
 -- enough bytes: by the mark, waits and ended as they are read
 pub held-read : (bs : List ℕ) → stateSize ≤ length bs → {a b c : ℕ}
     → a ≡ numberIn (take 4 bs) → b ≡ numberIn (take 4 (drop 20 bs)) → c ≡ numberIn (take 4 (drop 24 bs))
-    → holdsState bs ≡ eqb a 0x31533252 && ltb b 2 && ltb c 2
+    → holdsState bs ≡ eqb a 0x32533252 && ltb b 2 && ltb c 2
 unfolding holdsState areState
 held-read bs h ea eb ec =
     rw (
@@ -55,25 +56,28 @@ pub read-none : (bs : List ℕ) → holdsState bs ≡ false → stateIn bs ≡ s
 unfolding stateIn
 read-none bs e = rw e
 
-pub read-held : (bs : List ℕ) → holdsState bs ≡ true → {end held words at waits ended : ℕ} {cells : List ℕ}
+pub read-held : (bs : List ℕ) → holdsState bs ≡ true → {end held words at waits ended odd even : ℕ} {cells : List ℕ}
     → end ≡ numberIn (take 4 (drop 4 bs)) → held ≡ numberIn (take 4 (drop 8 bs)) → words ≡ numberIn (take 4 (drop 12 bs)) → at ≡ numberIn (take 4 (drop 16 bs))
-    → waits ≡ numberIn (take 4 (drop 20 bs)) → ended ≡ numberIn (take 4 (drop 24 bs)) → cells ≡ numbersIn 40 (drop startSize bs)
+    → waits ≡ numberIn (take 4 (drop 20 bs)) → ended ≡ numberIn (take 4 (drop 24 bs))
+    → odd ≡ numberIn (take 4 (drop 28 bs)) → even ≡ numberIn (take 4 (drop 32 bs)) → cells ≡ numbersIn 40 (drop startSize bs)
     → _≡_ {A = Reader} (record {
       cells = cells;
-      candidate = record { end = end; held = held; words = words; at = at; waits = eqb waits 1 };
+      candidate = record { end = end; held = held; words = words; at = at; waits = eqb waits 1; tally = record { odd = odd; even = even } };
       ended = eqb ended 1;
     }) (stateIn bs)
 unfolding stateIn readerOf
-read-held bs e {end} {held} {words} {at} {waits} {ended} {cells} e₁ e₂ e₃ e₄ e₅ e₆ e₇ =
+read-held bs e e₁ e₂ e₃ e₄ e₅ e₆ e₇ e₈ e₉ =
     rw (
       e,
-      numbers-from stateCount 40 7 bs (omega arith),
+      numbers-from stateCount 40 9 bs (omega arith),
       number-of stateCount 1 bs (omega arith),
       number-of stateCount 2 bs (omega arith),
       number-of stateCount 3 bs (omega arith),
       number-of stateCount 4 bs (omega arith),
       number-of stateCount 5 bs (omega arith),
       number-of stateCount 6 bs (omega arith),
+      number-of stateCount 7 bs (omega arith),
+      number-of stateCount 8 bs (omega arith),
       e₁,
       e₂,
       e₃,
@@ -81,18 +85,33 @@ read-held bs e {end} {held} {words} {at} {waits} {ended} {cells} e₁ e₂ e₃ 
       e₅,
       e₆,
       e₇,
+      e₈,
+      e₉,
     )
 
 -- ---- what is put
 
 -- the mark, the counts, waits and ended, one after the other
 pub put-counts : (c : Candidate) (ended : Bool) (l : List ℕ) {l₁ l₂ l₃ l₄ l₅ l₆ l₇ : List ℕ} {m at w e : ℕ}
-    → m ≡ 0x31533252 → at ≡ c .at → w ≡ val (c .waits) → e ≡ val ended
+    → m ≡ 0x32533252 → at ≡ c .at → w ≡ val (c .waits) → e ≡ val ended
     → l₁ ≡ sets l 0 (lowBytes 4 m) → l₂ ≡ sets l₁ 4 (lowBytes 4 (c .end)) → l₃ ≡ sets l₂ 8 (lowBytes 4 (c .held)) → l₄ ≡ sets l₃ 12 (lowBytes 4 (c .words))
     → l₅ ≡ sets l₄ 16 (lowBytes 4 at) → l₆ ≡ sets l₅ 20 (lowBytes 4 w) → l₇ ≡ sets l₆ 24 (lowBytes 4 e)
-    → l₇ ≡ sets l 0 (numbersWritten (startOf c ended))
+    → l₇ ≡ sets l 0 (numbersWritten (countsOf c ended))
 put-counts c ended l em ea ew ee e₁ e₂ e₃ e₄ e₅ e₆ e₇ =
-    rw (e₇, e₆, e₅, e₄, e₃, e₂, e₁, em, ea, ew, ee) (store-seven l 0x31533252 (c .end) (c .held) (c .words) (c .at) (val (c .waits)) (val ended))
+    rw (e₇, e₆, e₅, e₄, e₃, e₂, e₁, em, ea, ew, ee) (store-seven l 0x32533252 (c .end) (c .held) (c .words) (c .at) (val (c .waits)) (val ended))
+
+-- then the two counters
+pub put-tally : (t : Tally) (l : List ℕ) {l₁ l₂ : List ℕ} {o e : ℕ} → o ≡ t .odd → e ≡ t .even
+    → l₁ ≡ sets l 28 (lowBytes 4 o) → l₂ ≡ sets l₁ 32 (lowBytes 4 e)
+    → l₂ ≡ sets l 28 (numbersWritten (tallyOf t))
+put-tally t l eo ee e₁ e₂ = rw (e₂, e₁, eo, ee) (store-two l (t .odd) (t .even))
+
+-- and so the whole start
+pub put-nine : (c : Candidate) (ended : Bool) (l : List ℕ) {l₁ l₂ : List ℕ}
+    → l₁ ≡ sets l 0 (numbersWritten (countsOf c ended)) → l₂ ≡ sets l₁ 28 (numbersWritten (tallyOf (c .tally)))
+    → l₂ ≡ sets l 0 (numbersWritten (startOf c ended))
+put-nine c ended l e₁ e₂ =
+    e₂ ∙ ap (λ k. sets k 28 (numbersWritten (tallyOf (c .tally)))) e₁ ∙ sym (store-both (countsOf c ended) (tallyOf (c .tally)) l 0)
 
 -- counts of less than 32 bits
 pub narrow : (c : Candidate) → c .end < 2 ^ 32 → c .held < 2 ^ 32 → c .words < 2 ^ 32 → tooWide c ≡ false

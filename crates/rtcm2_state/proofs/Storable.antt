@@ -13,7 +13,9 @@ use Rattle.answer.proofs.OrderLaws.{first-or-none, order-answers, order-refuses
 use Rattle.bits.specs.Bits.{val, number}
 use Rattle.bits.specs.Fields.{Fit}
 use Rattle.line.specs.Line.{isData, six}
-use Rattle.reader.specs.Cells.{putPair, putCells, downCells, roomEnd, roomCells, pushedCells}
+use Rattle.stream.specs.Verdict.{hunt}
+use Rattle.reader.specs.Hunting.{haltOf, huntOf}
+use Rattle.reader.specs.Cells.{heldBits, putPair, putCells, downCells, roomEnd, roomCells, pushedCells}
 use Rattle.frame.specs.Frames.{blank}
 use Rattle.stream.specs.Standing.{frameAt}
 use Rattle.reader.specs.Reading.{
@@ -38,6 +40,7 @@ use Rattle.reader.specs.Reading.{
   takenBy,
 }
 use Rattle.reader.specs.declared.hunt.Halt.{Halt}
+use Rattle.reader.specs.declared.Tally.{Tally}
 use Rattle.reader.specs.declared.Candidate.{Candidate}
 use Rattle.reader.specs.declared.Reader.{Reader}
 use Rattle.reader.specs.declared.Answer.the-variants.{Done, Refused}
@@ -45,6 +48,7 @@ use Rattle.reader.specs.declared.Next.{Next}
 use Rattle.reader.specs.declared.FedAll.{FedAll}
 use Rattle.reader.specs.declared.Taken.{Taken}
 use Rattle.reader.proofs.Accepted.{Accepted, accept-free, length-step, accepted-step, accepted-end, accepted-take}
+use Rattle.reader.proofs.Tallies.{Narrow, tallied-narrow}
 use Rattle.rtcm2_state.specs.State.{stateCount, stateNumbers, tooWide}
 use Rattle.rtcm2_state.proofs.StateLaws.{narrow}
 
@@ -102,13 +106,14 @@ small-step : (cells : List ℕ) (c : Candidate) (x : ℕ) → Small cells → Sm
 unfolding stepCells pushedCells
 small-step cells c x s = small-put (roomCells cells (c .end) (c .held)) (roomEnd (c .end) (c .held)) x (small-room cells (c .end) (c .held) s)
 
--- ---- storable: forty cells of 32 bits, counts that are not past, a position of 32 bits
+-- ---- storable: forty cells of 32 bits, counts that are not past, a position and counters of 32 bits
 
 pub record Storable (cells : List ℕ) (c : Candidate) : Type 0 where
   pub count : length cells ≡ 40
   pub small : Small cells
   pub fine : Accepted c
   pub place : c .at < 2 ^ 32
+  pub counters : Narrow (c .tally)
 
 abbrev pub StorableReader : Reader → Type 0
 StorableReader r = Storable (r .cells) (r .candidate)
@@ -133,13 +138,17 @@ storable-narrow r k =
 pub storable-fit : (r : Reader) → StorableReader r → Fit (replicate stateCount 32) (stateNumbers r)
 unfolding stateNumbers
 storable-fit r k =
-    let a = k .fine in (
+    let a = k .fine in
+    let cells = fit-small 40 (r .cells) (k .count) (k .small) in (
       omega arith,
       (
         omega (arith, a .top),
         (
           omega (arith, a .top, a .low),
-          (omega (arith, a .few), (k .place, (small-val (r .candidate .waits), (small-val (r .ended), fit-small 40 (r .cells) (k .count) (k .small))))),
+          (
+            omega (arith, a .few),
+            (k .place, (small-val (r .candidate .waits), (small-val (r .ended), (k .counters .odd, (k .counters .even, cells))))),
+          ),
         ),
       ),
     )
@@ -151,14 +160,20 @@ unfolding started
 storable-started = record {
   count = length-replicate {A = ℕ} 40 0;
   small = small-zeros 40;
-  fine =
-      accept-free (record { end = 0; held = 0; words = 0; at = 2; waits = false }) refl (omega arith) (omega arith) (omega arith) (omega arith) (omega arith);
+  fine = accept-free (started .candidate) refl (omega arith) (omega arith) (omega arith) (omega arith) (omega arith);
   place = omega arith;
+  counters = record { odd = omega arith; even = omega arith };
 }
 
 moved-place : (at end held : ℕ) (s : Halt) → movedTo at end held s .at < 2 ^ 32
 unfolding movedTo
 moved-place at end held s = omega arith
+
+-- wherever a hunt stops
+hunted-narrow : (cells : List ℕ) (end held words : ℕ) (ended : Bool) (t : Tally) (at held₀ : ℕ) → Narrow t
+    → Narrow (movedTo at end held₀ (huntOf cells end held words ended t) .tally)
+unfolding movedTo huntOf haltOf
+hunted-narrow cells end held words ended t at held₀ n = tallied-narrow t (hunt ended words (heldBits cells end held) .faults) n
 
 module _ (cells : List ℕ) (c : Candidate) (k : Storable cells c) where
   storable-step : c .waits ≡ false → (x : ℕ) → Storable (stepCells cells c x) (stepTo cells c x)
@@ -167,6 +182,7 @@ module _ (cells : List ℕ) (c : Candidate) (k : Storable cells c) where
     small = small-step cells c x (k .small);
     fine = accepted-step cells (k .count) c (k .fine) w x;
     place = unfold stepTo in moved-place _ _ _ _;
+    counters = unfold stepTo in hunted-narrow _ _ _ _ _ _ _ _ (k .counters);
   }
 
   storable-end : Storable cells (endTo cells c)
@@ -175,6 +191,7 @@ module _ (cells : List ℕ) (c : Candidate) (k : Storable cells c) where
     small = k .small;
     fine = accepted-end cells (k .count) c (k .fine);
     place = unfold endTo in moved-place _ _ _ _;
+    counters = unfold endTo in hunted-narrow _ _ _ _ _ _ _ _ (k .counters);
   }
 
   storable-take : (ended : Bool) → Storable cells (takeTo cells c ended)
@@ -183,6 +200,7 @@ module _ (cells : List ℕ) (c : Candidate) (k : Storable cells c) where
     small = k .small;
     fine = accepted-take cells (k .count) c (k .fine) ended;
     place = unfold takeTo in moved-place _ _ _ _;
+    counters = unfold takeTo in hunted-narrow _ _ _ _ _ _ _ _ (k .counters);
   }
 
 abbrev StorableRun : Run → Type 0

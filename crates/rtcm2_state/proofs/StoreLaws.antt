@@ -87,6 +87,11 @@ pub store-seven : (l : List ℕ) (a b c d e f g : ℕ)
 unfolding lowBytes numbersWritten
 store-seven l a b c d e f g = refl
 
+-- and two more behind them
+pub store-two : (l : List ℕ) (a b : ℕ) → sets (sets l 28 (lowBytes 4 a)) 32 (lowBytes 4 b) ≡ sets l 28 (numbersWritten (a ∷ b ∷ []))
+unfolding lowBytes numbersWritten
+store-two l a b = refl
+
 -- number i of those that are left
 pub store-next : (ns l : List ℕ) (next i : ℕ) → i < length ns
     → sets l next (numbersWritten (drop i ns)) ≡ sets (sets l next (lowBytes 4 (getD ns i 0))) (next + 4) (numbersWritten (drop (i + 1) ns))

@@ -1,4 +1,4 @@
-// A reader's state as bytes that a caller lends: 47 numbers of four bytes each, low byte first.
+// A reader's state as bytes that a caller lends: 49 numbers of four bytes each, low byte first.
 mod number;
 
 ghost use mathlib.Core.Path.{_≡_};
@@ -7,12 +7,13 @@ ghost use lib.ListN.{length, drop};
 ghost use lib.Seq.{sets};
 ghost use Rattle.bits.specs.Bits.{val};
 ghost use Rattle.rtcm2_state.specs.Numbers.{numbersWritten, numbersIn};
-ghost use Rattle.rtcm2_state.specs.State.{startSize, stateSize, startOf, holdsState, stateIn, tooWide, storedBy, startPut, statePut};
+ghost use Rattle.rtcm2_state.specs.State.{startSize, stateSize, countsOf, tallyOf, startOf, holdsState, stateIn, tooWide, storedBy, startPut, statePut};
 use crate::number::number_at;
 use crate::number::put_number;
 use crate::number::wide;
 use reader::Candidate;
 use reader::Reader;
+use reader::Tally;
 
 // A state is put in bytes, or the refusal's number.
 pub enum Stored {
@@ -20,14 +21,14 @@ pub enum Stored {
     Refused(u8),
 }
 
-// Where the cells start: past seven numbers of four bytes.
-const CELLS: usize = 4 * 7;
+// Where the cells start: past nine numbers of four bytes.
+const CELLS: usize = 4 * 9;
 
 // How many bytes a state takes.
 pub const SIZE: usize = CELLS + 4 * 40;
 
-// The mark, bytes 52 32 53 31.
-const MARK: u32 = 0x31533252;
+// The mark, bytes 52 32 53 32.
+const MARK: u32 = 0x32533252;
 
 // The bytes hold a state: there are enough, the mark stands first, and waits and ended are 0 or 1.
 pub fn holds_state(bytes: &[u8]) -> bool
@@ -74,6 +75,8 @@ pub fn state_in(bytes: &[u8]) -> Reader
     let at = number_at(16, bytes);
     let waits = number_at(20, bytes);
     let ended = number_at(24, bytes);
+    let odd = number_at(28, bytes);
+    let even = number_at(32, bytes);
     let cells = cells_in(bytes);
     Reader {
         cells,
@@ -83,6 +86,7 @@ pub fn state_in(bytes: &[u8]) -> Reader
             words: wide(words),
             at,
             waits: waits == 1,
+            tally: Tally { odd, even },
         },
         ended: ended == 1,
     }
@@ -101,7 +105,7 @@ fn flag(yes: bool) -> usize
 // Puts the mark, the counts and whether a frame waits and the input has ended.
 fn put_counts(c: Candidate, ended: bool, bytes: &mut [u8])
     requires { ⌜ stateSize ≤ length (now bytes) ⌝ }
-    ensures { λ _. ⌜ now (bytes .exit) ≡ sets (now (bytes .entry)) 0 (numbersWritten (startOf c ended)) ⌝ }
+    ensures { λ _. ⌜ now (bytes .exit) ≡ sets (now (bytes .entry)) 0 (numbersWritten (countsOf c ended)) ⌝ }
 {
     put_number(wide(MARK), 0, bytes);
     put_number(c.end, 4, bytes);
@@ -110,6 +114,24 @@ fn put_counts(c: Candidate, ended: bool, bytes: &mut [u8])
     put_number(wide(c.at), 16, bytes);
     put_number(flag(c.waits), 20, bytes);
     put_number(flag(ended), 24, bytes);
+}
+
+// Puts the two counters behind them.
+fn put_tally(tally: Tally, bytes: &mut [u8])
+    requires { ⌜ stateSize ≤ length (now bytes) ⌝ }
+    ensures { λ _. ⌜ now (bytes .exit) ≡ sets (now (bytes .entry)) 28 (numbersWritten (tallyOf tally)) ⌝ }
+{
+    put_number(wide(tally.odd), 28, bytes);
+    put_number(wide(tally.even), 32, bytes);
+}
+
+// Puts all of these.
+fn put_nine(c: Candidate, ended: bool, bytes: &mut [u8])
+    requires { ⌜ stateSize ≤ length (now bytes) ⌝ }
+    ensures { λ _. ⌜ now (bytes .exit) ≡ sets (now (bytes .entry)) 0 (numbersWritten (startOf c ended)) ⌝ }
+{
+    put_counts(c, ended, bytes);
+    put_tally(c.tally, bytes);
 }
 
 // A count that four bytes can't hold.
@@ -125,7 +147,7 @@ fn too_wide(c: Candidate) -> bool
     c.words >= 4294967296
 }
 
-// Puts the mark, the counts and the two flags alone, where the cells are those that stand there: 5, 13.
+// Puts the mark, the counts, the two flags and the two counters alone, where the cells are those that stand there: 5, 13.
 pub fn put_start(c: Candidate, ended: bool, bytes: &mut [u8]) -> Stored
     ensures { λ r. ⌜ r ≡ storedBy c (now (bytes .entry)) ⌝ }
     ensures { λ _. ⌜ now (bytes .exit) ≡ startPut c ended (now (bytes .entry)) ⌝ }
@@ -136,7 +158,7 @@ pub fn put_start(c: Candidate, ended: bool, bytes: &mut [u8]) -> Stored
     if bytes.len() < SIZE {
         return Stored::Refused(13);
     }
-    put_counts(c, ended, bytes);
+    put_nine(c, ended, bytes);
     Stored::Done
 }
 
@@ -166,7 +188,7 @@ pub fn put_state(reader: Reader, bytes: &mut [u8]) -> Stored
     if bytes.len() < SIZE {
         return Stored::Refused(13);
     }
-    put_counts(candidate, reader.ended, bytes);
+    put_nine(candidate, reader.ended, bytes);
     put_cells(&reader.cells, bytes);
     Stored::Done
 }

@@ -9,7 +9,7 @@ use lib.Dec.{leb}
 use lib.ListN.{length, drop}
 use borrow.Author.Tests.{le-leb, lt-leb, leb-false}
 use Rattle.stream.specs.Standing.{wordAt, right, size}
-use Rattle.stream.specs.Verdict.{Verdict, out, standing, undecided, judged, verdictFrom, Hunted, huntBy, hunt}
+use Rattle.stream.specs.Verdict.{Verdict, out, standing, undecided, judged, verdictFrom, Hunted, huntBy, hunt, faultOf, withFault, stopped}
 use Rattle.stream.proofs.Words.{unlike, n-lt}
 
 verdict-step : (k : ℕ) (d : List Bool) → k ≤ 32
@@ -32,22 +32,21 @@ module _ (e : Bool) (k : ℕ) (low : k ≤ 32) where
       rw (verdict-step k (b ∷ d) low, le-leb (32 + 30 * k) (length (b ∷ d)) c, r, lt-leb (size (b ∷ d)) (suc k) t)
 
   -- wordAt k is right, and is the last
-  pub hunt-whole : (d : List Bool) → 32 + 30 * k ≤ length d → right k (wordAt k d) ≡ true → size d ≤ suc k
-      → hunt e k d ≡ record { rest = d; words = 0; found = true }
+  pub hunt-whole : (d : List Bool) → 32 + 30 * k ≤ length d → right k (wordAt k d) ≡ true → size d ≤ suc k → hunt e k d ≡ stopped d 0 true
   unfolding hunt
   hunt-whole [] c r t = absurd (omega arith)
   hunt-whole (b ∷ d) c r t =
       rw (verdict-step k (b ∷ d) low, le-leb (32 + 30 * k) (length (b ∷ d)) c, r, le-leb (size (b ∷ d)) (suc k) t)
 
-  -- wordAt k is not right
-  pub hunt-out : (d : List Bool) → 32 + 30 * k ≤ length d → right k (wordAt k d) ≡ false → hunt e k d ≡ hunt e 0 (drop 1 d)
+  -- wordAt k is not right: its fault is met
+  pub hunt-out : (d : List Bool) → 32 + 30 * k ≤ length d → right k (wordAt k d) ≡ false → hunt e k d ≡ withFault (faultOf k (wordAt k d)) (hunt e 0 (drop 1 d))
   unfolding hunt
   hunt-out [] c r = absurd (omega arith)
   hunt-out (b ∷ d) c r =
       rw (verdict-step k (b ∷ d) low, le-leb (32 + 30 * k) (length (b ∷ d)) c, r)
 
 -- wordAt k has not come
-pub hunt-wait : (k : ℕ) (d : List Bool) → k ≤ 32 → length d < 32 + 30 * k → hunt false k d ≡ record { rest = d; words = k; found = false }
+pub hunt-wait : (k : ℕ) (d : List Bool) → k ≤ 32 → length d < 32 + 30 * k → hunt false k d ≡ stopped d k false
 unfolding hunt
 hunt-wait k [] low c = refl
 hunt-wait k (b ∷ d) low c = rw (verdict-step k (b ∷ d) low, lt-leb (32 + 30 * k) (length (b ∷ d)) c)
@@ -59,7 +58,7 @@ hunt-cut k [] low l c = absurd (omega arith)
 hunt-cut k (b ∷ d) low l c = rw (verdict-step k (b ∷ d) low, lt-leb (32 + 30 * k) (length (b ∷ d)) c)
 
 -- nothing is left
-pub hunt-none : (e : Bool) (k : ℕ) → hunt e k [] ≡ record { rest = []; words = k; found = false }
+pub hunt-none : (e : Bool) (k : ℕ) → hunt e k [] ≡ stopped [] k false
 unfolding hunt
 hunt-none e k = refl
 
@@ -70,7 +69,7 @@ hunt-short e k [] = omega arith
 hunt-short e k (b ∷ d) = go (verdictFrom (33 - k) k (b ∷ d)) e (hunt-short e 0 d)
   where
     go : (s : Verdict) (x : Bool) → length (hunt e 0 d .rest) ≤ length d → length (huntBy s x (b ∷ d) (hunt e 0 d) .rest) ≤ length (b ∷ d)
-    go out x h = omega arith
+    go (out j) x h = omega arith
     go standing x h = omega arith
     go (undecided j) true h = omega arith
     go (undecided j) false h = omega arith
@@ -98,14 +97,14 @@ hunt-suffix e k (b ∷ d) = go (verdictFrom (33 - k) k (b ∷ d)) e (up (hunt-su
 
     go : (s : Verdict) (x : Bool) → r ≡ drop (suc (length d) - length r) (b ∷ d)
         → huntBy s x (b ∷ d) (hunt e 0 d) .rest ≡ drop (length (b ∷ d) - length (huntBy s x (b ∷ d) (hunt e 0 d) .rest)) (b ∷ d)
-    go out x h = h
+    go (out j) x h = h
     go standing x h = none (b ∷ d)
     go (undecided j) true h = h
     go (undecided j) false h = none (b ∷ d)
 
 -- WHERE THE HUNT STOPS, whatever it began with: at a frame, or with less than 992 bits held
 abbrev Low : List Bool → Verdict → Type 0
-Low d out = Unit {0}
+Low d (out k) = Unit {0}
 Low d standing = Unit {0}
 Low d (undecided j) = (length d < 32 + 30 * j) × (j ≤ 32)
 
@@ -133,7 +132,7 @@ hunt-bounded e k [] h = record { few = h; free = λ f. omega arith }
 hunt-bounded e k (b ∷ d) h = go (verdictFrom (33 - k) k (b ∷ d)) e (verdict-low (33 - k) k (b ∷ d) (omega arith) h) (hunt-bounded e 0 d (omega arith))
   where
     go : (v : Verdict) (x : Bool) → Low (b ∷ d) v → Bounded (hunt e 0 d) → Bounded (huntBy v x (b ∷ d) (hunt e 0 d))
-    go out x l r = r
+    go (out j) x l r = record { few = r .few; free = r .free }
     go standing x l r = record { few = omega arith; free = λ f. unlike true refl f }
     go (undecided j) true l r = r
     go (undecided j) false l r = record { few = l .1; free = λ f. omega (arith, l .0, l .1) }

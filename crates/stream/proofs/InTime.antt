@@ -39,7 +39,7 @@ in-time zero p (suc q) (b ∷ d) l s t =
     go : (v : Verdict) → Judged (b ∷ d) v → Dec (past ≤ q) → (past ≤ q → FoundOrCovered sought (decided past (suc p) d))
         → FoundOrCovered sought (decided 0 (suc p) d)
         → FoundOrCovered sought (decidedBy v (placed p (b ∷ d) ∷ decided past (suc p) d) (decided 0 (suc p) d))
-    go v (is-out r) x f g = g
+    go v (is-out k w) x f g = g
     go v (is-standing u) (yes x) f g = later sought (placed p (b ∷ d)) (decided past (suc p) d) (f x)
     go v (is-standing u) (no x) f g =
         inr (record {

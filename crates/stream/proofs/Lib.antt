@@ -6,6 +6,7 @@ pub mod Verdicts
 pub mod Turning
 pub mod Damage
 pub mod Prefix
+pub mod Faulting
 pub mod Hunting
 pub mod HuntSteps
 pub mod InTime

@@ -11,7 +11,8 @@ use Rattle.stream.specs.Standing.{size, Stands, Placed, placed, scan}
 use Rattle.stream.specs.Verdict.{RuledOut, Verdict, undecided, verdict, decidedBy, decided}
 use Rattle.stream.proofs.Words.{n-append}
 use Rattle.stream.proofs.Stand.{stands-long, stands-append, stands-test, not-test, placed-append}
-use Rattle.stream.proofs.Verdicts.{Judged, is-out, is-standing, is-undecided, judge-all, out-stays, out-append, verdict-standing, verdict-out}
+use Rattle.stream.proofs.Verdicts.{Judged, is-out, is-standing, is-undecided, judge-all, wrong-out, wrong-append, out-stays}
+use Rattle.stream.proofs.Verdicts.{verdict-standing, verdict-wrong, verdict-out}
 
 -- one list begins another
 pub record Begins (a b : List Placed) : Type 0 where
@@ -31,7 +32,7 @@ decided-skip (suc n) p (b ∷ d) = rw (add-suc p n, ← (suc-add p n)) (decided-
 
 pub decided-out : (p : ℕ) (b : Bool) (d : List Bool) → RuledOut (b ∷ d) → decided 0 p (b ∷ d) ≡ decided 0 (suc p) d
 unfolding decided
-decided-out p b d r = rw (verdict-out (b ∷ d) .1 r)
+decided-out p b d r = rw (verdict-out (b ∷ d) .1 r .1)
 
 pub decided-undecided : (p k : ℕ) (d : List Bool) → verdict d ≡ undecided k → decided 0 p d ≡ []
 unfolding decided
@@ -64,7 +65,7 @@ decided-begins zero p (b ∷ d) e =
         → Begins (decided (30 * size (b ∷ d) - 1) (suc p) d) (scan (30 * size (b ∷ d) - 1) (suc p) (d ++ e))
         → Begins (decided 0 (suc p) d) (scan 0 (suc p) (d ++ e))
         → Begins (decidedBy v found (decided 0 (suc p) d)) (scan 0 p (b ∷ (d ++ e)))
-    go v (is-out r) f g = rw (not-test (b ∷ (d ++ e)) (out-stays (b ∷ d) e r)) g
+    go v (is-out k w) f g = rw (not-test (b ∷ (d ++ e)) (out-stays (b ∷ d) e (wrong-out k (b ∷ d) w))) g
     go v (is-standing s) f g =
         rw (stands-test (b ∷ (d ++ e)) (stands-append (b ∷ d) e s), placed-append p (b ∷ d) e s, n-append (b ∷ d) e (stands-long (b ∷ d) s))
         (after (placed p (b ∷ d)) (decided (30 * size (b ∷ d) - 1) (suc p) d) (scan (30 * size (b ∷ d) - 1) (suc p) (d ++ e)) f)
@@ -85,7 +86,7 @@ decided-grows zero p (b ∷ d) e =
         → Begins (decided (30 * size (b ∷ d) - 1) (suc p) d) (decided (30 * size (b ∷ d) - 1) (suc p) (d ++ e))
         → Begins (decided 0 (suc p) d) (decided 0 (suc p) (d ++ e))
         → Begins (decidedBy v found (decided 0 (suc p) d)) (decided 0 p (b ∷ (d ++ e)))
-    go v (is-out r) f g = rw (verdict-out (b ∷ (d ++ e)) .1 (out-append (b ∷ d) e r)) g
+    go v (is-out k w) f g = rw (verdict-wrong k (b ∷ (d ++ e)) .1 (wrong-append k (b ∷ d) e w)) g
     go v (is-standing s) f g =
         rw (verdict-standing (b ∷ (d ++ e)) .1 (stands-append (b ∷ d) e s), placed-append p (b ∷ d) e s, n-append (b ∷ d) e (stands-long (b ∷ d) s))
         (after (placed p (b ∷ d)) (decided (30 * size (b ∷ d) - 1) (suc p) d) (decided (30 * size (b ∷ d) - 1) (suc p) (d ++ e)) f)

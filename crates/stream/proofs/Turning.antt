@@ -9,12 +9,12 @@ use lib.Dec.{leb}
 use lib.ListN.{length, take, drop, length-map}
 use borrow.Author.Tests.{leb-true, lt-leb}
 use Rattle.bits.specs.Bits.{val, number}
-use Rattle.word.specs.Word.{dataOf, passes}
-use Rattle.word.proofs.Linearity.{data-turned, passes-turned}
+use Rattle.word.specs.Word.{dataOf, remainderOf, passes}
+use Rattle.word.proofs.Linearity.{data-turned, remainder-turned, passes-turned}
 use Rattle.frame.specs.Header.{preambled, nOf}
 use Rattle.frame.specs.Frames.{afterPair, turnedPair, turnedFrame}
 use Rattle.stream.specs.Standing.{wordAt, right, nAt, size, Stands, stands, dataFrom, pairBefore, frameAt, placed, turnedPlaced, scan}
-use Rattle.stream.specs.Verdict.{judged, verdictFrom}
+use Rattle.stream.specs.Verdict.{judged, verdictFrom, headless, failed, faultOf}
 use Rattle.stream.proofs.Words.{unlike, word-long}
 use Rattle.stream.proofs.Stand.{stands-long, stands-test, test-stands, not-test}
 
@@ -46,10 +46,19 @@ module _ (k : ℕ) (d : List Bool) (l : 32 + 30 * k ≤ length d) where
   passes-same : passes (wordAt k (map not d)) ≡ passes (wordAt k d)
   passes-same = rw (word-turned k d) (passes-turned (wordAt k d) (word-long k d l))
 
+  remainder-same : remainderOf (wordAt k (map not d)) ≡ remainderOf (wordAt k d)
+  remainder-same = rw (word-turned k d) (remainder-turned (wordAt k d) (word-long k d l))
+
 pub right-turned : (k : ℕ) (d : List Bool) → 32 + 30 * k ≤ length d → right k (wordAt k (map not d)) ≡ right k (wordAt k d)
 unfolding right
 right-turned zero d l = ap₂ (λ ds p. preambled ds && p) (data-same 0 d l) (passes-same 0 d l)
 right-turned (suc k) d l = passes-same (suc k) d l
+
+-- a word that fails turned over fails with the same remainder, or lacks its preamble as before
+pub fault-turned : (k : ℕ) (d : List Bool) → 32 + 30 * k ≤ length d → faultOf k (wordAt k (map not d)) ≡ faultOf k (wordAt k d)
+unfolding faultOf
+fault-turned zero d l = ap₂ (λ ds r. cond (preambled ds) (failed r) headless) (data-same 0 d l) (remainder-same 0 d l)
+fault-turned (suc k) d l = ap failed (remainder-same (suc k) d l)
 
 pub n-turned : (d : List Bool) → 62 ≤ length d → nAt (map not d) ≡ nAt d
 unfolding nAt

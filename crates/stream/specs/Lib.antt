@@ -1,3 +1,4 @@
 pub mod Standing
 pub mod Verdict
 pub mod Places
+pub mod Faults

@@ -2,3 +2,4 @@ pub mod Linearity
 pub mod Distance
 pub mod Sending
 pub mod Computes
+pub mod Testing

@@ -1,11 +1,17 @@
-// The thirty-bit word: its remainder, its data bits, and the word to send.
+// The thirty-bit word: its test, its remainder, its data bits, and the word to send.
 ghost use mathlib.Core.Path.{_≡_};
 ghost use Prim.Native.Nat.{_+_, _%_};
 ghost use lib.Bits.{bitAnd};
 ghost use lib.Count.{ones};
 ghost use Rattle.bits.specs.Bits.{bits, number};
-ghost use Rattle.word.specs.Word.{d29*, d30*, parity, dataOf, passes as passing, turnedBy};
-ghost use Rattle.word.specs.Answer.{remainderAt, wordOf};
+ghost use Rattle.word.specs.Word.{d29*, d30*, parity, dataOf, turnedBy};
+ghost use Rattle.word.specs.Answer.{testedBy, remainderAt, wordOf};
+
+// A word passes, or fails with its remainder: received parity xor computed parity, D25 highest, never 0.
+pub enum Tested {
+    Passed,
+    Failed(u32),
+}
 
 // The thirty bits to send, D1 highest; or the refusal's number.
 pub enum Sent {
@@ -69,11 +75,15 @@ pub fn remainder(window: u32) -> u32
     (window % 64) ^ parity_of(window / 1073741824, data_of(window))
 }
 
-// THE WORD TEST: the remainder is zero.
-pub fn passes(window: u32) -> bool
-    ensures { λ r. ⌜ r ≡ passing (bits 32 window) ⌝ }
+// THE WORD TEST: passed where the remainder is zero, else failed with it.
+pub fn test(window: u32) -> Tested
+    ensures { λ r. ⌜ r ≡ testedBy (bits 32 window) ⌝ }
 {
-    remainder(window) == 0
+    let r = remainder(window);
+    if r == 0 {
+        return Tested::Passed;
+    }
+    Tested::Failed(r)
 }
 
 // D1 to D30 for the data after the carried bits D29* D30*.

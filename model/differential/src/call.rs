@@ -14,6 +14,7 @@ pub enum Function {
     FeedAll,
     End,
     Take,
+    Counts,
     Open,
     Write,
     Keep,
@@ -58,13 +59,14 @@ const fn row(function: Function, name: &'static str, answers: &'static [u64]) ->
 }
 
 /// All functions, in the order of the header.
-pub const FUNCTIONS: [Row; 29] = [
-    row(Function::StateSize, "rtcm2_state_size", &[188]),
+pub const FUNCTIONS: [Row; 30] = [
+    row(Function::StateSize, "rtcm2_state_size", &[196]),
     row(Function::Start, "rtcm2_start", &[0, 13]),
     row(Function::Feed, "rtcm2_feed", &[0, 1, 2, 3, 5]),
     row(Function::FeedAll, "rtcm2_feed_all", &[0, 2, 3, 5]),
     row(Function::End, "rtcm2_end", &[0, 2, 3, 5]),
     row(Function::Take, "rtcm2_take", &[0, 4, 5, 13]),
+    row(Function::Counts, "rtcm2_counts", &[0, 5]),
     row(Function::Open, "rtcm2_open", &[0, 13]),
     row(Function::Write, "rtcm2_write", &[0, 5, 7, 13, 14, 15, 16]),
     row(Function::Keep, "rtcm2_keep", &[0, 5, 13]),

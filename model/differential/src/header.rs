@@ -23,6 +23,7 @@ unsafe extern "C" {
         d29: *mut u8,
         d30: *mut u8,
     ) -> u8;
+    pub fn rtcm2_counts(state: *const u8, state_size: usize, odd: *mut u32, even: *mut u32) -> u8;
     pub fn rtcm2_open(line: *mut u8, line_size: usize) -> u8;
     pub fn rtcm2_write(
         frame: *const u8,

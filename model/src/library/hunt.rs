@@ -4,14 +4,17 @@ use super::state::{State, CELLS};
 use crate::frame::{n_of, preamble_is_right};
 use crate::line::{bits_of_byte, BITS_PER_BYTE};
 use crate::window;
+use crate::word::Tested;
 
 /// The last end of the bits held from which a byte finds room.
 const LAST_END: usize = 1216;
 
 /// What the bits that have come say of a position.
 enum Verdict {
-    /// A word that has come fails.
-    Out,
+    /// Word 1 has come and has no preamble.
+    Headless,
+    /// A word that has come fails with this remainder.
+    Failed(u8),
     /// A frame stands.
     Standing,
     /// So many words are right, and the next has not come.
@@ -85,7 +88,10 @@ impl State {
                     self.words = words;
                     return;
                 }
-                Verdict::Waiting(_) | Verdict::Out => {
+                out => {
+                    if let Verdict::Failed(remainder) = out {
+                        self.counts.add(remainder);
+                    }
                     self.leave(1);
                     self.words = 0;
                 }
@@ -104,8 +110,11 @@ impl State {
         while 32 + 30 * k <= self.held {
             let word = self.word(k);
             let preambled = k > 0 || preamble_is_right(window::data(word));
-            if !preambled || !window::passes(word) {
-                return Verdict::Out;
+            if !preambled {
+                return Verdict::Headless;
+            }
+            if let Tested::Failed(remainder) = window::test(word) {
+                return Verdict::Failed(remainder);
             }
             k += 1;
             if k >= 2 && k >= self.size() {

@@ -65,6 +65,12 @@ pub fn take(state: &mut [u8], frame: &mut [u8], into: Taking) -> u8 {
     }))
 }
 
+/// How many positions a word ruled out, by its remainder. Refuses with 5.
+pub fn counts(state: &[u8], odd: &mut u32, even: &mut u32) -> u8 {
+    let counts = State::read(state).map(|reader| reader.counts);
+    numbered(counts.map(|counts| (*odd, *even) = (counts.odd, counts.even)))
+}
+
 /// Puts the changed state back, unless the call is refused.
 fn changed(state: &mut [u8], call: impl FnOnce(&mut State) -> Answer<()>) -> Answer<()> {
     let mut reader = State::read(state)?;

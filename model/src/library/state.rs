@@ -1,6 +1,7 @@
-//! A reader's state as 188 lent bytes, and the calls on it, forged states too: the
+//! A reader's state as 196 lent bytes, and the calls on it, forged states too: the
 //! words that it says are known right are believed, a frame that waits is not.
 
+use crate::counts::Counts;
 use crate::frame::Frame;
 use crate::line::is_data_byte;
 use crate::reader::{Fed, Taken};
@@ -8,10 +9,11 @@ use crate::refusal::{refuse_if, Answer, Refusal};
 use crate::window;
 
 /// Bytes of a state.
-pub const SIZE: usize = 188;
+pub const SIZE: usize = 196;
 
-/// The number that a state begins with: the bytes "R2S1".
-pub const MARK: u32 = 0x3153_3252;
+/// The number that a state begins with: the bytes "R2S2". Before the counters it was
+/// "R2S1".
+pub const MARK: u32 = 0x3253_3252;
 
 /// Cells of 32 bits, the highest bit of a cell first.
 pub const CELLS: usize = 40;
@@ -40,6 +42,8 @@ pub struct State {
     pub waits: bool,
     /// Whether the input has ended.
     pub ended: bool,
+    /// Positions that a word ruled out; any numbers are believed.
+    pub counts: Counts,
     /// The bits.
     pub cells: [u32; CELLS],
 }
@@ -54,6 +58,7 @@ impl State {
             at: 2,
             waits: false,
             ended: false,
+            counts: Counts::default(),
             cells: [0; CELLS],
         }
     }
@@ -71,7 +76,11 @@ impl State {
             at: number(4),
             waits: number(5) == 1,
             ended: number(6) == 1,
-            cells: std::array::from_fn(|i| number(7 + i)),
+            counts: Counts {
+                odd: number(7),
+                even: number(8),
+            },
+            cells: std::array::from_fn(|i| number(9 + i)),
         })
     }
 
@@ -84,8 +93,10 @@ impl State {
             self.at,
         ];
         let flags = [u32::from(self.waits), u32::from(self.ended)];
-        let numbers = [MARK].into_iter().chain(counts).chain(flags);
-        for (i, number) in numbers.chain(self.cells).enumerate() {
+        let ruled_out = [self.counts.odd, self.counts.even];
+        let start = [MARK].into_iter().chain(counts).chain(flags);
+        let numbers = start.chain(ruled_out).chain(self.cells);
+        for (i, number) in numbers.enumerate() {
             bytes[4 * i..4 * i + 4].copy_from_slice(&number.to_le_bytes());
         }
     }

@@ -6,7 +6,7 @@ use crate::bits::Bits;
 use crate::frame::Frame;
 use crate::rng::Rng;
 use crate::samples;
-use crate::word::{passes, Pair};
+use crate::word::{test, Pair};
 
 pub(super) const STREAMS: &[Entry] = &[
     ("one-turned", |rng| turned_in_words(rng, 1)),
@@ -61,7 +61,7 @@ fn unseen_four(rng: &mut Rng) -> [usize; 4] {
         for at in four {
             word[at] = true;
         }
-        if word.iter().filter(|bit| **bit).count() == 4 && passes(&word, pair) {
+        if word.iter().filter(|bit| **bit).count() == 4 && test(&word, pair).passed() {
             return four;
         }
     }

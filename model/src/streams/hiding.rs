@@ -5,7 +5,7 @@ use crate::bits::Bits;
 use crate::frame::{header_words, n_of, preamble_is_right};
 use crate::rng::Rng;
 use crate::samples;
-use crate::word::{data_bits, number_of, passes, Pair};
+use crate::word::{data_bits, number_of, test, Pair};
 
 /// What to hide.
 pub(super) struct Hidden {
@@ -73,5 +73,5 @@ fn false_word_is_right(bits: &[bool], place: usize, number: usize, n: u8) -> boo
         1 => n_of(data) == n,
         _ => true,
     };
-    header && passes(&word, pair)
+    header && test(&word, pair).passed()
 }

@@ -2,6 +2,7 @@
 //! so adding or dropping one changes no other.
 
 mod damage;
+pub mod failing;
 mod false_starts;
 mod grid;
 mod hiding;
@@ -26,7 +27,7 @@ type Maker = fn(&mut Rng) -> Vec<u8>;
 type Entry = (&'static str, Maker);
 
 /// The groups; a group's place is the number its names start with.
-const GROUPS: [&[Entry]; 12] = [
+const GROUPS: [&[Entry]; 13] = [
     valid::STREAMS,
     slips::STREAMS,
     polarity::STREAMS,
@@ -39,6 +40,7 @@ const GROUPS: [&[Entry]; 12] = [
     small::STREAMS,
     mixed::STREAMS,
     vectors::STREAMS,
+    failing::STREAMS,
 ];
 
 /// A test stream.

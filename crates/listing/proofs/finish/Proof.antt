@@ -1,4 +1,4 @@
--- `finish` meets its contract: 5, 3, 2, 13, then the lines that the end released and the last line. Assumes nothing.
+-- `finish` meets its contract: 5, 3, 2, 13, then the lines that the end released and the two lines of totals. Assumes nothing.
 use mathlib.Core.Path.{_∙_}
 use mathlib.Core.List.{[]}
 use native.Mathlib.Omega.{arith}
@@ -6,8 +6,7 @@ use lib.ListN.{length}
 use denote.Ref.{now}
 use borrow.Author.Needs.{needs}
 use Rattle.printing.proofs.StoreLaws.{length-stored}
-use Rattle.listing.specs.Text.{lastLine}
-use Rattle.listing.specs.Listing.{linesOf}
+use Rattle.listing.specs.Listing.{linesOf, totalLines}
 use Rattle.listing.proofs.CallLaws.{nothing, finish-refused, finish-short, finish-done}
 use Rattle.listing.proofs.finish.Statement.{statement}
 use Rattle.listing.proofs.finish.Tie as tie
@@ -30,7 +29,7 @@ returns-2 c =
 returns-3 : tie.Need-returns-3
 returns-3 c =
     let t = c .before .before in
-    let last = t .put-last .ensures in
+    let last = t .put-totals .ensures in
     let p = t .before .before .before .before .before in
     let lines = p .put-lines .ensures in
     let n = p .before .before .before in
@@ -40,7 +39,7 @@ returns-3 c =
     let x = linesOf 16 (n .ended-on .result) [] in
     let end = p .put-lines .result .listing in
     let same =
-    length-stored _ (p .put-lines .result .written) (lastLine (end .frames) (end .bytes) (end .passed)) _ (last .1)
+    length-stored _ (p .put-lines .result .written) (totalLines end) _ (last .1)
     ∙ length-stored (now (a .output)) 0 (x .text) _ (lines .1 .1) in
     let w = finish-done (a .listing) (now (a .output)) _ (e .end .ensures) (n .before .before .enum-told .given .1) room _ (n .ended-on .ensures)
     _ (lines .0) _ (lines .1 .1) _ (last .0 .0) _ (last .1) in

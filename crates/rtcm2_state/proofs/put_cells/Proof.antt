@@ -12,7 +12,7 @@ use Rattle.rtcm2_state.proofs.StoreLaws.{store-next}
 use Rattle.rtcm2_state.proofs.put_cells.Statement.{statement}
 use Rattle.rtcm2_state.proofs.put_cells.Tie as tie
 
--- storing the cells that are left from here on is storing all of them from byte 28 on
+-- storing the cells that are left from here on is storing all of them from byte 36 on
 abbrev Inv-loop : tie.InvT-loop
 Inv-loop cells bytes₀ i₀ next₀ bytes i next =
     (sets bytes₀ startSize (numbersWritten cells) ≡ sets bytes next (numbersWritten (drop i cells)))

@@ -25,7 +25,7 @@ returns-3 c =
     let a = fits .before .before .before .args in
     let w = sym (fits .before .too-wide .ensures) ∙ fits .if1 .left in (
       start-done (a .c) (a .ended) (now (a .bytes)) w (long .if2 .left),
-      start-whole (a .c) (a .ended) (now (a .bytes)) w (long .if2 .left) (put .put-counts .ensures),
+      start-whole (a .c) (a .ended) (now (a .bytes)) w (long .if2 .left) (put .put-nine .ensures),
     )
 
 pub put-start-spec : {M : Type 1} → statement M

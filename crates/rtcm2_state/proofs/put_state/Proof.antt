@@ -37,7 +37,7 @@ returns-3 c =
     let r = a .t1 in
     let w = sym (fits .before .too-wide .ensures) ∙ fits .if1 .left in (
       start-done (r .candidate) (r .ended) (now (a .bytes)) w (long .if2 .left),
-      put-whole r (now (a .bytes)) w (full s) (long .if2 .left) (put .put-counts .ensures) (cells .put-cells .ensures),
+      put-whole r (now (a .bytes)) w (full s) (long .if2 .left) (put .put-nine .ensures) (cells .put-cells .ensures),
     )
 
 pub put-state-spec : {M : Type 1} → statement M

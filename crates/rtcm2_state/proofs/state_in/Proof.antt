@@ -24,7 +24,9 @@ returns-2 : tie.Need-returns-2
 returns-2 c =
     let w₂ = c .before in
     let w₁ = w₂ .before in
-    let n₇ = w₁ .before in
+    let n₉ = w₁ .before in
+    let n₈ = n₉ .before in
+    let n₇ = n₈ .before in
     let n₆ = n₇ .before in
     let n₅ = n₆ .before in
     let n₄ = n₅ .before in
@@ -35,7 +37,8 @@ returns-2 c =
     let h = e .before in
     read-held (now (h .before .before .args .bytes)) (sym (h .holds-state .ensures) ∙ not-false _ (e .if1 .left))
     (w₁ .wide .ensures ∙ n₁ .number-at .ensures) (w₂ .wide2 .ensures ∙ n₂ .number-at2 .ensures) (c .wide3 .ensures ∙ n₃ .number-at3 .ensures)
-    (n₄ .number-at4 .ensures) (n₅ .number-at5 .ensures) (n₆ .number-at6 .ensures) (n₇ .cells-in .ensures)
+    (n₄ .number-at4 .ensures) (n₅ .number-at5 .ensures) (n₆ .number-at6 .ensures)
+    (n₇ .number-at7 .ensures) (n₈ .number-at8 .ensures) (n₉ .cells-in .ensures)
 
 pub state-in-spec : {M : Type 1} → statement M
 state-in-spec =
@@ -44,5 +47,7 @@ state-in-spec =
     (λ c κs. omega (arith, long (c .before))) (λ c κs. omega (arith, long (c .before .before)))
     (λ c κs. omega (arith, long (c .before .before .before))) (λ c κs. omega (arith, long (c .before .before .before .before)))
     (λ c κs. omega (arith, long (c .before .before .before .before .before)))
-    (λ c κs. let ended = c .before in long (ended .before .before .before .before .before))
+    (λ c κs. let ended = c .before in omega (arith, long (ended .before .before .before .before .before)))
+    (λ c κs. let ended = c .before .before in omega (arith, long (ended .before .before .before .before .before)))
+    (λ c κs. let ended = c .before .before .before in long (ended .before .before .before .before .before))
     (λ c κs. search needs) (λ c κs. search needs) (λ c κs. search needs) returns-2)

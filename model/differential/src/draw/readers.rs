@@ -45,11 +45,15 @@ impl Readers {
         reader.call(rng)
     }
 
-    /// The reader goes on from the state that the call left, after the bytes used.
+    /// The reader goes on from the state that the call left, after the bytes used; the
+    /// call that only reads it leaves it.
     pub fn after(&mut self, call: &mut Call, answer: u64) {
         let Some(number) = self.called.take() else {
             return;
         };
+        if call.function == Function::Counts {
+            return;
+        }
         let reader = &mut self.all[number];
         let size = reader.state.len();
         reader.state.copy_from_slice(&call.lent[0].bytes()[..size]);
@@ -98,9 +102,10 @@ impl Reader {
             2 => Function::Take,
             3 => Function::Feed,
             4 => Function::FeedAll,
+            5 => Function::Counts,
             _ if waits => Function::Take,
             _ if self.fed >= self.line.len() => Function::End,
-            5..=9 => Function::Feed,
+            6..=9 => Function::Feed,
             _ => Function::FeedAll,
         };
         self.call_of(function, rng)
@@ -111,6 +116,10 @@ impl Reader {
         let mut lent = vec![Place::starting(rng, &self.state)];
         let (mut given, mut read) = (vec![], vec![]);
         match function {
+            Function::Counts => {
+                read.append(&mut lent);
+                lent.extend(numbers(rng, 2));
+            }
             Function::Feed => given.push(self.next_byte(rng).into()),
             Function::FeedAll => {
                 read.push(self.next_bytes(rng));

@@ -6,6 +6,10 @@ use super::ends::{longer, one_of};
 use rtcm2_model::library::state::{State, MARK, MOST_HELD, MOST_WORDS, ROOM, SIZE};
 use rtcm2_model::rng::Rng;
 
+/// Bytes of a state without the two counters, and its mark.
+const OLD_SIZE: usize = 188;
+const OLD_MARK: u32 = 0x3153_3252;
+
 /// Forged bytes, most of which hold a state.
 pub fn forged(rng: &mut Rng) -> Vec<u8> {
     let mut state = match rng.below(4) {
@@ -23,7 +27,7 @@ pub fn forged(rng: &mut Rng) -> Vec<u8> {
     let mut bytes: Vec<u8> = (0..size(rng)).map(|_| rng.byte()).collect();
     state.put(&mut bytes);
     match rng.below(12) {
-        0 => bytes.truncate(one_of(rng, &[0, 1, 28, SIZE - 4, SIZE - 1, SIZE])),
+        0 => bytes.truncate(one_of(rng, &[0, 1, 36, OLD_SIZE, SIZE - 4, SIZE - 1, SIZE])),
         1 => bytes.truncate(rng.place(SIZE + 1)),
         2 => damage(rng, &mut bytes),
         _ => {}
@@ -78,7 +82,7 @@ fn under_way(rng: &mut Rng) -> State {
 
 /// Gives one of the numbers another value, or turns over a bit that is held.
 fn forge(rng: &mut Rng, state: &mut State) {
-    match rng.below(14) {
+    match rng.below(17) {
         0 => state.end = around(rng, ROOM),
         1 => state.end = around(rng, ROOM - 64),
         2 => state.end = state.held + rng.place(ROOM),
@@ -95,11 +99,23 @@ fn forge(rng: &mut Rng, state: &mut State) {
         9 => state.waits = !state.waits,
         10 => state.ended = !state.ended,
         11 | 12 => turn_bit(rng, state),
+        13 => state.counts.odd = counter(rng),
+        14 => state.counts.even = counter(rng),
+        15 => (state.counts.odd, state.counts.even) = (counter(rng), counter(rng)),
         _ => {
             let more = 1 << one_of(rng, &[8, 16, 31]);
             let counts = [&mut state.end, &mut state.held, &mut state.words];
             *counts[rng.place(3)] += more;
         }
+    }
+}
+
+/// A counter: any, small, or just before it goes round.
+fn counter(rng: &mut Rng) -> u32 {
+    match rng.below(3) {
+        0 => rng.draw() as u32,
+        1 => rng.below(4) as u32,
+        _ => u32::MAX - rng.below(4) as u32,
     }
 }
 
@@ -119,9 +135,10 @@ fn around(rng: &mut Rng, number: usize) -> usize {
 /// Damages the mark or a flag, or makes a count far too large.
 fn damage(rng: &mut Rng, bytes: &mut [u8]) {
     let any = rng.draw() as u32;
-    let (place, number) = match rng.below(3) {
+    let (place, number) = match rng.below(4) {
         0 => (0, MARK ^ 1 << rng.below(32)),
-        1 => {
+        1 => (0, OLD_MARK),
+        2 => {
             let flags = [2, 255, 1 << 8, (1 << 8) + 1, (1 << 16) + 1, 1 << 31, any];
             (5 + rng.place(2), one_of(rng, &flags))
         }

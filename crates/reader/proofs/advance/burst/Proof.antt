@@ -19,7 +19,7 @@ use Rattle.reader.proofs.advance.burst.Tie as tie
 
 module _ (c : tie.After-put-five) where
   abbrev start : tie.Start
-  start = c .before .before .before .before
+  start = c .before .before .before .before .before
 
   long : length (c .put-five .last .0) ≡ 40
   long =
@@ -34,7 +34,7 @@ module _ (c : tie.After-put-five) where
       c .put-five .ensures ∙ sym (many-cells (now (a .cells)) (a .c) (p .0) (p .1) (p .2) (p .4) (p .5) (a .a) (a .b) (a .d) (a .e) (a .f))
 
   moved-is : (halt : Halt)
-      → halt ≡ huntOf (c .put-five .last .0) (start .args .c .end + 30) (start .args .c .held + 30) (start .args .c .words) false
+      → halt ≡ huntOf (c .put-five .last .0) (start .args .c .end + 30) (start .args .c .held + 30) (start .args .c .words) false (start .args .c .tally)
       → movedTo (start .args .c .at) (start .args .c .end + 30) (start .args .c .held + 30) halt
       ≡ manyTo (now (start .args .cells)) (start .args .c) (start .args .a ∷ start .args .b ∷ start .args .d ∷ start .args .e ∷ start .args .f ∷ [])
   moved-is halt e =
@@ -56,8 +56,8 @@ returns c =
     let s = start put in
     let stays =
     step-wait (put .put-five .last .0) (long put) (s .args .c .end + 30) (omega (arith, s .pre .1)) (sought .seek .result)
-    (omega (arith, s .pre .2, sought .seek .ensures .0)) (s .args .c .words) (s .pre .4) (c .before .if1 .taken) in
-    (c .moved .ensures ∙ moved-is put _ (sym (sought .seek .ensures .1 false ∙ stays)), cells-are put)
+    (omega (arith, s .pre .2, sought .seek .ensures .0)) (s .args .c .tally) (s .args .c .words) (s .pre .4) (c .before .if1 .taken) in
+    (c .moved .ensures ∙ moved-is put _ (sym (sought .seek .ensures .1 false (s .args .c .tally) ∙ stays)), cells-are put)
 
 hunt-requires : tie.Need-hunt-requires
 hunt-requires c κs =
@@ -70,7 +70,7 @@ returns-2 : tie.Need-returns-2
 returns-2 c =
     let sought = c .before .before .before .before in
     let put = sought .before .before in
-    (c .moved2 .ensures ∙ moved-is put _ (c .before .hunt .ensures .0 ∙ sym (sought .seek .ensures .1 false)), cells-are put)
+    (c .moved2 .ensures ∙ moved-is put _ (c .before .hunt .ensures .0 ∙ sym (sought .seek .ensures .1 false (start put .args .c .tally))), cells-are put)
 
 pub burst-spec : {M : Type 1} → statement M
 burst-spec =

@@ -19,7 +19,7 @@ use Rattle.reader.proofs.advance.step.Tie as tie
 
 module _ (c : tie.After-push) where
   abbrev start : tie.Start
-  start = c .before .before .before
+  start = c .before .before .before .before
 
   long : length (c .push .last .0) ≡ 40
   long =
@@ -34,7 +34,8 @@ module _ (c : tie.After-push) where
       let low = room-low (now (a .cells)) (a .c .end) (a .c .held) (p .0) (p .1) (p .2) (p .3) in
       (omega (arith, c .push .ensures .0, low .0), omega (arith, c .push .ensures .0, low .1))
 
-  moved-is : (halt : Halt) → halt ≡ huntOf (c .push .last .0) (c .push .result) (start .args .c .held + 6) (start .args .c .words) false
+  moved-is : (halt : Halt)
+      → halt ≡ huntOf (c .push .last .0) (c .push .result) (start .args .c .held + 6) (start .args .c .words) false (start .args .c .tally)
       → movedTo (start .args .c .at) (c .push .result) (start .args .c .held + 6) halt ≡ stepTo (now (start .args .cells)) (start .args .c) (start .args .six)
   moved-is halt e =
       let a = start .args in
@@ -54,8 +55,8 @@ returns c =
     let s = start pushed in
     let stays =
     step-wait (pushed .push .last .0) (long pushed) (pushed .push .result) (ends pushed .0) (sought .seek .result)
-    (omega (arith, ends pushed .1, sought .seek .ensures .0)) (s .args .c .words) (s .pre .4) (c .before .if1 .taken) in
-    (c .moved .ensures ∙ moved-is pushed _ (sym (sought .seek .ensures .1 false ∙ stays)), pushed .push .ensures .1)
+    (omega (arith, ends pushed .1, sought .seek .ensures .0)) (s .args .c .tally) (s .args .c .words) (s .pre .4) (c .before .if1 .taken) in
+    (c .moved .ensures ∙ moved-is pushed _ (sym (sought .seek .ensures .1 false (s .args .c .tally) ∙ stays)), pushed .push .ensures .1)
 
 hunt-requires : tie.Need-hunt-requires
 hunt-requires c κs =
@@ -71,7 +72,8 @@ unfolding stepCells
 returns-2 c =
     let sought = c .before .before .before .before in
     let pushed = sought .before .before in
-    (c .moved2 .ensures ∙ moved-is pushed _ (c .before .hunt .ensures .0 ∙ sym (sought .seek .ensures .1 false)), pushed .push .ensures .1)
+    let halt = c .before .hunt .ensures .0 ∙ sym (sought .seek .ensures .1 false (start pushed .args .c .tally)) in
+    (c .moved2 .ensures ∙ moved-is pushed _ halt, pushed .push .ensures .1)
 
 pub step-spec : {M : Type 1} → statement M
 step-spec =

@@ -17,10 +17,10 @@ returns-3 c =
     let headless = c .before .headless in
     let p = c .passed .ensures in (
       p .0,
-      λ ended. rw z
+      λ ended t. rw z
           (seek-past (now (a .cells)) (s .pre .0) (a .end) (s .pre .1) (a .left) (s .pre .2) (pair .result) (headless .result) (pair .ensures)
           (headless .ensures .1) (a .left - c .passed .result) (c .passed .result) (omega (arith, p .0)) (p .1)
-          (omega (arith, p .2)) (omega (arith, p .3)) ended),
+          (omega (arith, p .2)) (omega (arith, p .3)) ended t),
     )
 
 pub seek-spec : {M : Type 1} → statement M
