@@ -25,6 +25,7 @@ use Rattle.word.specs.Answer.{sentAt, wordOf, saysSent}
 use Rattle.word.proofs.Linearity.{passes-equal, passes-turned, data-turned}
 use Rattle.word.proofs.Sending.{data-number, length-sent, length-dataOf, data-sent, passes-sent, only-sent}
 use Rattle.word.proofs.Computes.{word-answers}
+use Rattle.word.proofs.Tables.{tables-agree}
 use Rattle.frame.specs.Header.{factors, stateOf, preambled, nOf, headerOf, firstWord, secondWord}
 use Rattle.frame.specs.Widths.{stateOutside, headerOutside, late}
 use Rattle.frame.specs.Answer.{headerWords, saysWords}
@@ -134,6 +135,7 @@ gps-parity-rule = record {
     λ p. at-each (λ (r : Row). D w (r .0)) (parityBit (d29* w) (d30* w) (dataOf w)) rows (sym (received-rows w) ∙ passes-equal w .0 p ∙ computed-rows w),
     λ h. passes-equal w .1 (received-rows w ∙ from-each (λ (r : Row). D w (r .0)) (parityBit (d29* w) (d30* w) (dataOf w)) rows h ∙ sym (computed-rows w)),
   );
+  tables = tables-agree;
   sent-passes = sent-back;
   only-sent = only-said;
   turned = λ w h. (passes-turned w h, data-turned w h);

@@ -14,8 +14,9 @@ use Rattle.bits.specs.Bits.{bits, number}
 use Rattle.bits.specs.Signed.{signed, code}
 use Rattle.line.specs.Line.{byteOf}
 use Rattle.line.specs.Answer.{sixOf, saysSix}
-use Rattle.word.specs.Word.{Row, rows, parityBit, d29*, d30*, D, dataOf, passes}
+use Rattle.word.specs.Word.{Row, rows, parityBit, parity, d29*, d30*, D, dataOf, passes}
 use Rattle.word.specs.Answer.{remainderAt, wordOf, saysSent}
+use Rattle.word.specs.Tables.{tableParity}
 use Rattle.frame.specs.Header.{stateOf, preambled, nOf, headerOf}
 use Rattle.frame.specs.Frames.{turnedFrame}
 use Rattle.frame.specs.Widths.{stateOutside, late}
@@ -53,6 +54,8 @@ pub record GpsParityRule : Type 0 where
   pub remainder : (w : ℕ) → eqb (remainderAt w) 0 ≡ passes (bits 32 w)
   -- it passes exactly when each parity bit is that of its row of the table, the sum of the row's terms modulo 2
   pub each-row : (w : List Bool) → (passes w ≡ true) ↔ ((r : Row) → List·Memᴰ r rows → D w (r .0) ≡ parityBit (d29* w) (d30* w) (dataOf w) r)
+  -- the parity by the four tables of remainders is that of the six equations, for every word and carried pair
+  pub tables : (c d : ℕ) → tableParity c d ≡ number (parity (d29* (bits 2 c)) (d30* (bits 2 c)) (bits 24 d))
   -- the word answered for data passes after its carried bits, and gives the data back
   pub sent-passes : (c d : ℕ) (w : List Bool) → saysSent (wordOf c d) ≡ answers w
       → (passes (bits 2 c ++ w) ≡ true) × (dataOf (bits 2 c ++ w) ≡ bits 24 d)

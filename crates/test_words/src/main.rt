@@ -79,4 +79,9 @@ fn main() {
     show_window(0x1986017F ^ 0xF8000000);
     show_window(0x1986017F ^ 0xFE000000);
     show_window(0x1986017F ^ 0xFFFFFFFE);
+    // word 2, no bit, all bits, and D30* alone
+    show_window(0xFF373FC8);
+    show_window(0x00000000);
+    show_window(0xFFFFFFFF);
+    show_window(0x40000000);
 }

@@ -3,3 +3,4 @@ pub mod Distance
 pub mod Sending
 pub mod Computes
 pub mod Testing
+pub mod Tables

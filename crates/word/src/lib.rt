@@ -1,11 +1,22 @@
 // The thirty-bit word: its test, its remainder, its data bits, and the word to send.
+mod first;
+mod fourth;
+mod second;
+mod third;
+
 ghost use mathlib.Core.Path.{_≡_};
+ghost use mathlib.Core.Bool.{false};
+ghost use mathlib.Core.List.{[]};
 ghost use Prim.Native.Nat.{_+_, _%_};
 ghost use lib.Bits.{bitAnd};
 ghost use lib.Count.{ones};
 ghost use Rattle.bits.specs.Bits.{bits, number};
 ghost use Rattle.word.specs.Word.{d29*, d30*, parity, dataOf, turnedBy};
 ghost use Rattle.word.specs.Answer.{testedBy, remainderAt, wordOf};
+use crate::first::first;
+use crate::fourth::fourth;
+use crate::second::second;
+use crate::third::third;
 
 // A word passes, or fails with its remainder: received parity xor computed parity, D25 highest, never 0.
 pub enum Tested {
@@ -68,11 +79,25 @@ pub fn data_of(window: u32) -> u32
     turned_by(window / 1073741824, window / 64)
 }
 
-// Received parity xor computed parity, D25 highest: zero where the window passes.
+// What the 24 lowest bits of `data` give alone, after carried bits 00: the entries of their four sixes, combined.
+fn data_part(data: u32) -> u32
+    ensures { λ r. ⌜ r ≡ number (parity false false (bits 24 «data»)) ⌝ }
+{
+    first(data / 262144) ^ (second(data / 4096) ^ (third(data / 64) ^ fourth(data)))
+}
+
+// What the two lowest bits of `carried`, D29* and D30*, give alone.
+fn carried_part(carried: u32) -> u32
+    ensures { λ r. ⌜ r ≡ number (parity (d29* (bits 2 carried)) (d30* (bits 2 carried)) []) ⌝ }
+{
+    (carried / 2 % 2 * 0b101001) ^ (carried % 2 * 0b010110)
+}
+
+// Received parity xor computed parity, D25 highest: zero where the window passes. The tables agree with the six equations.
 pub fn remainder(window: u32) -> u32
     ensures { λ r. ⌜ r ≡ remainderAt window ⌝ }
 {
-    (window % 64) ^ parity_of(window / 1073741824, data_of(window))
+    (window % 64) ^ (carried_part(window / 1073741824) ^ data_part(data_of(window)))
 }
 
 // THE WORD TEST: passed where the remainder is zero, else failed with it.
