@@ -7,6 +7,7 @@ pub mod bits;
 pub mod counts;
 pub mod example;
 pub mod frame;
+pub mod joining;
 pub mod journal;
 pub mod library;
 pub mod line;

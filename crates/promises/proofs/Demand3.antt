@@ -155,8 +155,8 @@ module _ (cs : List Call) where
       go q s false x (inr t) = absurd (false≢true (sym x ∙ t))
 
 module _ (bs : List ℕ) where
-  v : Served started bs
-  v = serves bs [] [] started kept-started (unfold started in refl) (unfold started in refl)
+  pub fresh-served : Served started bs
+  fresh-served = serves bs [] [] started kept-started (unfold started in refl) (unfold started in refl)
 
   abbrev all : List Call
   all = served bs ++ (ends ∷ takesAll)
@@ -178,24 +178,24 @@ module _ (bs : List ℕ) where
       over : endedBy (afterAll started (served bs)) .reader .ended ≡ true
       over =
           ap (λ (f : Next). f .reader .ended)
-          (ended-by (afterAll started (served bs)) false false false (never-past _ _ _ (kept (served bs))) (v .goes) (v .none))
+          (ended-by (afterAll started (served bs)) false false false (never-past _ _ _ (kept (served bs))) (fresh-served .goes) (fresh-served .none))
 
-  last-none : afterAll started all .candidate .waits ≡ false
+  pub last-none : afterAll started all .candidate .waits ≡ false
   unfolding last r
   last-none =
       ap (λ (t : Reader). t .candidate .waits) last-is ∙ none-waits _ _ (after (afterAll started (served bs)) ends) (kept-call _ _ _ ends (kept (served bs)))
 
   pub last-bits : bitsTaken started all ≡ lineBits bs
   unfolding r
-  last-bits = bits-append (served bs) (ends ∷ takesAll) started ∙ ap₂ _++_ (v .bits) none ∙ append-nil (lineBits bs)
+  last-bits = bits-append (served bs) (ends ∷ takesAll) started ∙ ap₂ _++_ (fresh-served .bits) none ∙ append-nil (lineBits bs)
     where
       none : bitsTaken (afterAll started (served bs)) (ends ∷ takesAll) ≡ []
       none = unfold bitsTaken bitsGiven in takes-no-bit 16 (after (afterAll started (served bs)) ends)
 
   pub one-by-one : OneByOne bs (outcome (served bs)) (outcome all)
   one-by-one = record {
-    bits = v .bits;
-    out = out-is (served bs) false (v .goes) (v .none) (lineBits bs) (v .bits);
+    bits = fresh-served .bits;
+    out = out-is (served bs) false (fresh-served .goes) (fresh-served .none) (lineBits bs) (fresh-served .bits);
     ended = out-is all true last-ended last-none (lineBits bs) last-bits;
   }
 

@@ -22,6 +22,7 @@ pub mod ReadsBack
 pub mod Demand2
 pub mod Telling
 pub mod Slices
+pub mod LateJoiners
 pub mod Pieces
 pub mod Whole
 pub mod Progress

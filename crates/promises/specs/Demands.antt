@@ -1,10 +1,12 @@
--- EVERYTHING PROMISED, in one record: the three demands, the listing, the xor law and the worked values. Assumes nothing.
+-- EVERYTHING PROMISED, in one record: the three demands, how words failed, late joiners, the listing, the xor law and the worked values.
+-- Assumes nothing.
 use mathlib.Core.List.{List}
 use Prim.Native.Nat.{ℕ}
 use Rattle.promises.specs.Demand1.{Demand1}
 use Rattle.promises.specs.Demand2.{Demand2}
 use Rattle.promises.specs.Demand3.{Demand3}
 use Rattle.promises.specs.Counters.{Counters}
+use Rattle.promises.specs.LateJoiners.{LateJoiners}
 use Rattle.promises.specs.Course.{Piece, TextIsWhole, NothingLeft, PieceTaken, Reached, TextComes}
 use Rattle.promises.specs.XorLaw.{XorLaw}
 use Rattle.promises.specs.Worked.{WorkedValues}
@@ -15,6 +17,8 @@ pub record Demands : Type 2 where
   pub third : Demand3
   -- how a word failed: told by the word test, and counted by the reader
   pub counters : Counters
+  -- two readers of one line agree behind a common frame
+  pub late : LateJoiners
   -- in whatever pieces a stream is listed, the text is that of the whole
   pub text : (bs : List ℕ) (ps : List Piece) (out : List ℕ) → TextIsWhole bs ps out
   -- a piece that writes nothing used all bytes lent; every piece with room for a line is taken; after enough of them nothing is left, and the whole

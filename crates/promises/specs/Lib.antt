@@ -10,6 +10,7 @@ pub mod ReadsBack
 pub mod Demand2
 pub mod Demand3
 pub mod Counters
+pub mod LateJoiners
 pub mod Demand1
 pub mod Course
 pub mod XorLaw

@@ -12,4 +12,5 @@ pub mod KeptBack
 pub mod ReadsBack
 pub mod KeptAgain
 pub mod LineBack
+pub mod LateJoiners
 pub mod Library

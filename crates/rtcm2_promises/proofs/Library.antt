@@ -8,6 +8,7 @@ use Rattle.rtcm2_promises.proofs.KeptAgain.{kept-again}
 use Rattle.rtcm2_promises.proofs.Demand3.{takes-its-record, library-demand-3}
 use Rattle.rtcm2_promises.proofs.Counters.{library-counters}
 use Rattle.rtcm2_promises.proofs.LineBack.{line-gives-back}
+use Rattle.rtcm2_promises.proofs.LateJoiners.{library-late-joiners}
 
 pub library : Library
 library = record {
@@ -19,5 +20,6 @@ library = record {
   third = library-demand-3;
   takes-record = takes-its-record;
   counters = library-counters;
+  late = library-late-joiners;
   line-back = line-gives-back;
 }

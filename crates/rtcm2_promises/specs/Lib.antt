@@ -6,4 +6,5 @@ pub mod Demand3
 pub mod Counters
 pub mod ReadsBack
 pub mod LineBack
+pub mod LateJoiners
 pub mod Library

@@ -8,6 +8,7 @@ use Rattle.rtcm2_promises.specs.CarriesItsNumber.{LibraryNumbers}
 use Rattle.rtcm2_promises.specs.ChangesNeither.{LibraryKeeps}
 use Rattle.rtcm2_promises.specs.Demand3.{TakesItsRecord, LibraryDemand3}
 use Rattle.rtcm2_promises.specs.Counters.{LibraryCounters}
+use Rattle.rtcm2_promises.specs.LateJoiners.{LibraryLateJoiners}
 use Rattle.rtcm2_promises.specs.ReadsBack.{LibraryReadsBack, KeptAgain}
 use Rattle.rtcm2_promises.specs.LineBack.{LineGivesBack}
 
@@ -26,5 +27,7 @@ pub record Library : Type 2 where
   pub takes-record : TakesItsRecord
   -- how words failed, told after any calls
   pub counters : (state : List ℕ) → stateSize ≤ length state → LibraryCounters state
+  -- two readers of one line, each in a state's bytes with room, agree behind a common frame
+  pub late : (state late : List ℕ) → stateSize ≤ length state → stateSize ≤ length late → LibraryLateJoiners state late
   -- and what is written comes back from the line
   pub line-back : (state : List ℕ) → stateSize ≤ length state → LineGivesBack state

@@ -10,3 +10,4 @@ pub mod Faulting
 pub mod Hunting
 pub mod HuntSteps
 pub mod InTime
+pub mod Joining

@@ -1,10 +1,12 @@
 //! Random calls of the proved library and of the model: answer, lent bytes and
-//! canary bytes must be equal. `rtcm2-differential [SEED COUNT]`; 1 if they are
-//! not, or if an answer of a function never came.
+//! canary bytes must be equal. Then readers that start late, of each test stream.
+//! `rtcm2-differential [SEED COUNT]`; 1 if anything differs, or if an answer of a
+//! function never came.
 
 mod call;
 mod draw;
 mod header;
+mod joiners;
 mod library;
 mod model;
 mod place;
@@ -30,7 +32,7 @@ fn main() -> ExitCode {
             return ExitCode::from(2);
         }
     };
-    if run(seed, count) {
+    if run(seed, count) && joiners::run(seed) {
         ExitCode::SUCCESS
     } else {
         ExitCode::from(1)
