@@ -114,12 +114,13 @@ def function_table(root, crate, crates):
 
 
 def program_table(root, crates):
-    """Every edit that is tried alone."""
+    """Every wrong program: the wrong lines that are one, and the edits that are tried alone."""
     rows = []
     for name in crates:
-        for label, edit in must_fail_edits(root, name).items():
-            rows.append([edit.program, f"`{name}/{label}`", words(edit.wrong), f"`{edit.fails}`: {words(edit.fact)}"])
-    return table(["wrong program", "edit", "what is changed", "what fails first"], rows)
+        lines = [(f"`{name}`, a wrong line", edit) for edit in wrong_lines(root, name) if edit.program]
+        alone = [(f"`{name}/{label}`", edit) for label, edit in must_fail_edits(root, name).items()]
+        rows += [[edit.program, where, words(edit.wrong), f"`{edit.fails}`: {words(edit.fact)}"] for where, edit in lines + alone]
+    return table(["wrong program", "edit", "what is changed", "what fails"], rows)
 
 
 def wanted(root, crates):
