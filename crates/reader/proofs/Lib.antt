@@ -10,5 +10,6 @@ pub mod Accepted
 pub mod Stepping
 pub mod Running
 pub mod Bursts
+pub mod Dividing
 pub mod TakeLaws
 pub mod Tallies

@@ -1,28 +1,31 @@
 -- The frame that waits, word by word: what the loop of `filled` goes by, whether a frame stands, and the cases of `take`. Assumes nothing.
-use mathlib.Core.Path.{_≡_, refl, sym, ap, ap₂, _∙_}
-use mathlib.Core.Bool.{Bool, true, false, cond, not, _&&_}
+use mathlib.Core.Path.{_≡_, refl, sym, ap, ap₂, subst, _∙_}
+use mathlib.Core.Bool.{Bool, true, false, cond, not, _&&_, and-eq-true-iff}
 use mathlib.Core.List.{List, [], _∷_, _++_, append-assoc}
-use Prim.Native.Nat.{ℕ, suc, _+_, _-_, _*_, _/_, _%_, _^_, _≤_, _<_}
+use Prim.Native.Nat.{ℕ, zero, suc, _+_, _-_, _*_, _/_, _%_, _^_, _≤_, _<_}
+use native.Mathlib.Nat.{zero-add}
 use native.Mathlib.Numerals.{add-one}
 use native.Mathlib.Omega.{arith}
 use lib.ListN.{length, set, replicate}
 use lib.Seq.{set-at}
+use lib.Dec.{eqb}
+use borrow.Author.Tests.{eqb-true, eq-eqb}
 use borrow.Author.Count.{below-more}
 use Rattle.bits.specs.Bits.{bits, number}
 use Rattle.bits.proofs.Xor.{val-odd}
 use Rattle.word.specs.Word.{dataOf, passes}
-use Rattle.frame.specs.Header.{headerOf, nOf}
+use Rattle.frame.specs.Header.{preambled, headerOf, nOf}
 use Rattle.frame.specs.Frames.{framed, afterPair}
 use Rattle.frame.specs.declared.Header.{Header}
 use Rattle.frame.specs.declared.Carried.{Carried}
 use Rattle.frame.specs.declared.Frame.{Frame}
 use Rattle.stream.specs.Standing.{wordAt, right, nAt, size, Stands, stands, dataFrom, pairBefore, frameAt}
-use Rattle.stream.proofs.Words.{length-dataFrom, data-more, frame-n, unlike, right-later}
+use Rattle.stream.proofs.Words.{length-dataFrom, data-more, frame-n, unlike, right-later, right-at-first, right-first}
 use Rattle.stream.proofs.Stand.{stands-long, test-stands, stands-test, not-test}
 use Rattle.reader.specs.Cells.{heldBits}
 use Rattle.reader.specs.Hunting.{huntOf}
 use Rattle.reader.specs.Reading.{bitsOf, past, frameWaits, movedTo, takeTo, refusedTaking, takenBy}
-use Rattle.reader.specs.Taking.{noneThere, someThere, thereIn, RightTo, HeaderIn}
+use Rattle.reader.specs.Taking.{noneThere, someThere, thereIn, PassTo, RightTo, HeaderIn, Summed}
 use Rattle.reader.specs.declared.hunt.Halt.{Halt}
 use Rattle.reader.specs.declared.Candidate.{Candidate}
 use Rattle.reader.specs.declared.Reader.{Reader}
@@ -86,16 +89,30 @@ pub there-none : (d : List Bool) → (Stands d → ⊥) → (x : There) → x �
 unfolding thereIn
 there-none d f x e = e ∙ sym (ap (λ t. cond t (someThere d) noneThere) (not-test d f))
 
--- a word of it is not right
-pub wrong-word : (d : List Bool) (k : ℕ) → k < size d → right k (wordAt k d) ≡ false → Stands d → ⊥
-wrong-word d k l e s = unlike (right k (wordAt k d)) (s .each k l) e
+-- its first word has no preamble
+pub no-head : (d : List Bool) → preambled (dataOf (wordAt 0 d)) ≡ false → Stands d → ⊥
+no-head d e s = unlike (preambled (dataOf (wordAt 0 d))) (right-first (wordAt 0 d) (s .each 0 (omega arith))) e
 
-pub right-more : (m : ℕ) (d : List Bool) → RightTo m d → right m (wordAt m d) ≡ true → RightTo (m + 1) d
-right-more m d r e = below-more (λ j. right j (wordAt j d) ≡ true) m r e
+-- with the preamble, words that pass are right; and words that are right pass
+pub right-all : (m : ℕ) (d : List Bool) → preambled (dataOf (wordAt 0 d)) ≡ true → PassTo m d → RightTo m d
+right-all m d h p zero l = right-at-first 0 (wordAt 0 d) refl ∙ ap (λ b. b && passes (wordAt 0 d)) h ∙ p 0 l
+right-all m d h p (suc j) l = right-later (suc j) (wordAt (suc j) d) (λ z. omega arith) ∙ p (suc j) l
 
--- the two words of a header
-pub right-two : (d : List Bool) → right 0 (wordAt 0 d) ≡ true → right 1 (wordAt 1 d) ≡ true → RightTo 2 d
-right-two d one two = right-more 1 d (right-more 0 d (λ j l. absurd (omega arith)) one) two
+pub stands-pass : (d : List Bool) → Stands d → PassTo (size d) d
+stands-pass d s zero l =
+    and-eq-true-iff (preambled (dataOf (wordAt 0 d))) (passes (wordAt 0 d)) .0 (sym (right-at-first 0 (wordAt 0 d) refl) ∙ s .each 0 l) .1
+stands-pass d s (suc j) l = sym (right-later (suc j) (wordAt (suc j) d) (λ z. omega arith)) ∙ s .each (suc j) l
+
+-- what is left over, added
+pub summed-none : (d : List Bool) → Summed 0 0 d
+summed-none d = record { low = omega arith; none = λ z j l. absurd (omega arith); all = λ p. refl }
+
+pub summed-more : (k wrong x : ℕ) (d : List Bool) → Summed k wrong d → x < 64 → eqb x 0 ≡ passes (wordAt k d) → Summed (k + 1) (wrong + x) d
+summed-more k wrong x d s l e = record {
+  low = omega (arith, s .low);
+  none = λ z. below-more (λ j. passes (wordAt j d) ≡ true) k (s .none (omega arith)) (sym e ∙ eq-eqb x 0 (omega arith));
+  all = λ p. omega (arith, s .all (λ j h. p j (omega arith)), eqb-true x 0 (e ∙ p k (omega arith)));
+}
 
 -- ---- what windows of the bits held say of it
 
@@ -109,7 +126,7 @@ module _ (cells : List ℕ) (len : length cells ≡ 40) (end : ℕ) (top : end �
   pub too-short : held < 62 → Stands d → ⊥
   too-short l s = omega (arith, stands-long d s, long)
 
-  -- data word k
+  -- data word k, and what is left of it
   module _ (k w : ℕ) (come : 92 + 30 * k ≤ held) (e : w ≡ seen cells (end - held + 60 + 30 * k)) where
     pub word-here : bits 32 w ≡ wordAt (2 + k) d
     word-here = word-is cells len end top held low (2 + k) w (omega arith) (e ∙ ap (seen cells) place)
@@ -117,8 +134,11 @@ module _ (cells : List ℕ) (len : length cells ≡ 40) (end : ℕ) (top : end �
         place : end - held + 60 + 30 * k ≡ end - held + 30 * (2 + k)
         place = omega arith
 
-    pub right-here : (b : Bool) → b ≡ passes (bits 32 w) → right (2 + k) (wordAt (2 + k) d) ≡ b
-    right-here b f = ap (right (2 + k)) (sym word-here) ∙ right-later (2 + k) (bits 32 w) (λ z. omega arith) ∙ sym f
+    pub more-here : (wrong x : ℕ) → Summed (2 + k) wrong d → (eqb x 0 ≡ passes (bits 32 w)) × (x < 64) → Summed (2 + (k + 1)) (wrong + x) d
+    more-here wrong x s f = subst (λ m. Summed m (wrong + x) d) more (summed-more (2 + k) wrong x d s (f .1) (f .0 ∙ ap passes word-here))
+      where
+        more : 2 + k + 1 ≡ 2 + (k + 1)
+        more = omega arith
 
   -- the header's two words
   module _ (some : 62 ≤ held) (one two n : ℕ) (e1 : one ≡ seen cells (end - held)) (e2 : two ≡ seen cells (end - held + 30))
@@ -135,24 +155,29 @@ module _ (cells : List ℕ) (len : length cells ≡ 40) (end : ℕ) (top : end �
     pub n-here : n ≡ nAt d
     n-here = n-is cells len end top held low two n some e2 en
 
+    pub both-here : (x y : ℕ) → (eqb x 0 ≡ passes (bits 32 one)) × (x < 64) → (eqb y 0 ≡ passes (bits 32 two)) × (y < 64) → Summed 2 (x + y) d
+    both-here x y f g =
+        summed-more 1 x y d (subst (λ w. Summed 1 w d) (zero-add x) (summed-more 0 0 x d (summed-none d) (f .1) (f .0 ∙ ap passes first)))
+        (g .1) (g .0 ∙ ap passes second)
+
     pub words-missing : held < 62 + 30 * n → Stands d → ⊥
     words-missing l s = omega (arith, s .taken, long, n-here)
 
-    pub wrong-first : (b : Bool) → b ≡ right 0 (bits 32 one) → b ≡ false → Stands d → ⊥
-    wrong-first b f z = wrong-word d 0 (omega arith) (ap (right 0) (sym first) ∙ sym f ∙ z)
+    module _ (x y : ℕ) (ex : x ≡ number (dataOf (bits 32 one))) (ey : y ≡ number (dataOf (bits 32 two))) where
+      data-first : bits 24 x ≡ dataOf (wordAt 0 d)
+      data-first = bits-data one x ex ∙ ap dataOf first
 
-    pub wrong-second : (b : Bool) → b ≡ passes (bits 32 two) → b ≡ false → Stands d → ⊥
-    wrong-second b f z = wrong-word d 1 (omega arith) (ap (right 1) (sym second) ∙ right-later 1 (bits 32 two) (λ e. omega arith) ∙ sym f ∙ z)
+      pub headless-here : (b : Bool) → b ≡ preambled (bits 24 x) → b ≡ false → Stands d → ⊥
+      headless-here b f z = no-head d (ap preambled (sym data-first) ∙ sym f ∙ z)
 
-    pub header-here : true ≡ right 0 (bits 32 one) → true ≡ passes (bits 32 two) → (x y : ℕ) → x ≡ number (dataOf (bits 32 one))
-        → y ≡ number (dataOf (bits 32 two))
-        → (h : Header) → h ≡ headerOf (bits 24 x) (bits 24 y) → (c : Carried) → c ≡ pairBefore (bits 32 one) → HeaderIn d h c n
-    header-here r1 r2 x y ex ey h eh c ec = record {
-      pair = ec ∙ ap pairBefore first ∙ pair-first d;
-      words = eh ∙ ap₂ headerOf (bits-data one x ex ∙ ap dataOf first) (bits-data two y ey ∙ ap dataOf second);
-      count = n-here;
-      right = right-two d (ap (right 0) (sym first) ∙ sym r1) (ap (right 1) (sym second) ∙ right-later 1 (bits 32 two) (λ e. omega arith) ∙ sym r2);
-    }
+      pub header-here : (b : Bool) → b ≡ preambled (bits 24 x) → b ≡ true → (h : Header) → h ≡ headerOf (bits 24 x) (bits 24 y)
+          → (c : Carried) → c ≡ pairBefore (bits 32 one) → HeaderIn d h c n
+      header-here b f z h eh c ec = record {
+        pair = ec ∙ ap pairBefore first ∙ pair-first d;
+        words = eh ∙ ap₂ headerOf data-first (bits-data two y ey ∙ ap dataOf second);
+        count = n-here;
+        head = ap preambled (sym data-first) ∙ sym f ∙ z;
+      }
 
 -- ---- 5, 4
 

@@ -2,9 +2,9 @@
 use mathlib.Core.Path.{_≡_}
 use mathlib.Core.Bool.{Bool, true, false, cond}
 use mathlib.Core.List.{List}
-use Prim.Native.Nat.{ℕ, _<_}
-use Rattle.word.specs.Word.{dataOf}
-use Rattle.frame.specs.Header.{headerOf}
+use Prim.Native.Nat.{ℕ, _*_, _≤_, _<_}
+use Rattle.word.specs.Word.{dataOf, passes}
+use Rattle.frame.specs.Header.{preambled, headerOf}
 use Rattle.frame.specs.Frames.{blank}
 use Rattle.frame.specs.declared.Header.{Header}
 use Rattle.frame.specs.declared.Carried.{Carried}
@@ -20,13 +20,22 @@ someThere d = record { stands = true; frame = frameAt d }
 unfoldable pub thereIn : List Bool → There
 thereIn d = cond (stands d) (someThere d) noneThere
 
--- the first m words are right
+-- the first m words pass; are right
+abbrev pub PassTo : ℕ → List Bool → Type 0
+PassTo m d = (j : ℕ) → j < m → passes (wordAt j d) ≡ true
+
 abbrev pub RightTo : ℕ → List Bool → Type 0
 RightTo m d = (j : ℕ) → j < m → right j (wordAt j d) ≡ true
 
--- the two words of a header, each right, the two bits before them, and N
+-- the two words of a header, of which the first has the preamble, the two bits before them, and N
 pub record HeaderIn (d : List Bool) (header : Header) (carried : Carried) (n : ℕ) : Type 0 where
   pub pair : carried ≡ pairBefore d
   pub words : header ≡ headerOf (dataOf (wordAt 0 d)) (dataOf (wordAt 1 d))
   pub count : n ≡ nAt d
-  pub right : RightTo 2 d
+  pub head : preambled (dataOf (wordAt 0 d)) ≡ true
+
+-- what is left over of the first k words, added: zero exactly where all pass
+pub record Summed (k wrong : ℕ) (d : List Bool) : Type 0 where
+  pub low : wrong ≤ 64 * k
+  pub none : wrong ≡ 0 → PassTo k d
+  pub all : PassTo k d → wrong ≡ 0

@@ -6,8 +6,7 @@ ghost use lib.ListN.{length};
 ghost use lib.Count.{ones};
 ghost use Rattle.bits.specs.Bits.{isOdd, bits};
 ghost use Rattle.frame.specs.Header.{nOf};
-ghost use Rattle.word.specs.Word.{dataOf, passes as passing};
-ghost use Rattle.stream.specs.Standing.{right as rightly};
+ghost use Rattle.word.specs.Word.{dataOf};
 ghost use Rattle.reader.specs.Hunting.{huntOf, countedAs, headlessAt, lookedAt, Headless};
 ghost use Rattle.reader.specs.declared.Tally.{Tally};
 use crate::Tally;
@@ -26,27 +25,6 @@ pub struct Halt {
 pub(crate) enum Looked {
     Right,
     Wrong(Tally),
-}
-
-// A word passes the word test.
-pub(crate) fn passes(window: u32) -> bool
-    ensures { λ r. ⌜ r ≡ passing (bits 32 window) ⌝ }
-{
-    let told = word::test(window);
-    if let Tested::Failed(_) = told {
-        return false;
-    }
-    true
-}
-
-// The first word of a candidate is right: its preamble, then its parity.
-pub(crate) fn headed(window: u32) -> bool
-    ensures { λ r. ⌜ r ≡ rightly 0 (bits 32 window) ⌝ }
-{
-    if !frame::has_preamble(word::data_of(window)) {
-        return false;
-    }
-    passes(window)
 }
 
 // One position more that a word with this remainder ruled out.
@@ -90,7 +68,7 @@ fn look(k: usize, window: u32, tally: Tally) -> Looked
 }
 
 // N, in the window of a second word.
-pub(crate) fn n_in(window: u32) -> usize
+fn n_in(window: u32) -> usize
     ensures { λ r. ⌜ r ≡ nOf (dataOf (bits 32 window)) ⌝ }
 {
     frame::n_of(word::data_of(window))

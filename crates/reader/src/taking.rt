@@ -1,15 +1,14 @@
 // The frame that waits: each of its words is tested as it is taken out, so that nothing but a frame that stands is handed out.
 ghost use mathlib.Core.Path.{_≡_};
-ghost use Prim.Native.Nat.{_+_, _*_, _≤_};
+ghost use Prim.Native.Nat.{_+_, _*_, _≤_, _<_};
 ghost use lib.ListN.{length};
+ghost use lib.Dec.{eqb};
 ghost use Rattle.bits.specs.Bits.{bits};
+ghost use Rattle.word.specs.Word.{passes};
 ghost use Rattle.stream.specs.Standing.{pairBefore};
 ghost use Rattle.reader.specs.Cells.{heldBits};
-ghost use Rattle.reader.specs.Taking.{noneThere, thereIn, HeaderIn};
+ghost use Rattle.reader.specs.Taking.{noneThere, thereIn, HeaderIn, Summed};
 use crate::cells::window;
-use crate::hunt::headed;
-use crate::hunt::n_in;
-use crate::hunt::passes;
 use frame::Carried;
 use frame::Frame;
 use frame::Header;
@@ -39,7 +38,21 @@ fn pair_of(window: u32) -> Carried
     Carried { d29: one, d30: two }
 }
 
-// The header's two words are right and all words have come: the data words are tested and put in, one after the other.
+// What is left of a word when it is divided: zero exactly where the word passes. D29* D30* D1 to D24, D27 to D29, D25 D26 are a word of a cyclic
+// code, a multiple of 1 + x^2 + x^5 over two elements, and D30 makes the ones even: a factor 1 + x more. Each line is one step of the division.
+fn left_over(window: u32) -> u32
+    ensures { λ r. ⌜ (eqb r 0 ≡ passes (bits 32 window)) × (r < 64) ⌝ }
+{
+    let round = (window / 64 * 32) ^ ((window / 2 % 8 * 4) ^ (window / 16 % 4));
+    let one = round ^ (round << 1);
+    let two = one ^ ((one << 4) ^ ((one << 5) ^ (one << 7)));
+    let three = two ^ ((two << 8) ^ ((two << 10) ^ (two << 14)));
+    let four = three ^ ((three << 16) ^ ((three << 20) ^ (three << 28)));
+    (four / 33554432 % 64) ^ (window % 2 * 63)
+}
+
+// All words of a header with its preamble have come, and `wrong` is what is left of its two: the data words are put in, one after the other, and
+// what is left of each is added, which is zero in the end exactly where all pass.
 fn filled(
     cells: &[u32; 40],
     end: usize,
@@ -47,20 +60,24 @@ fn filled(
     header: Header,
     carried: Carried,
     n: usize,
+    wrong: u32,
 ) -> There
-    requires { ⌜ (length (now cells) ≡ 40) × (end ≤ 1280) × (held ≤ end) × HeaderIn (heldBits (now cells) end held) header carried n × (62 + 30 * n ≤ held) ⌝ }
+    requires { ⌜ (length (now cells) ≡ 40) × (end ≤ 1280) × (held ≤ end) × HeaderIn (heldBits (now cells) end held) header carried n × (62 + 30 * n ≤ held)
+        × Summed 2 wrong (heldBits (now cells) end held) ⌝ }
     ensures { λ r. ⌜ r ≡ thereIn (heldBits (now (cells .entry)) end held) ⌝ }
 {
     let first = end - held + 60;
     let mut words = [0u32; 31];
+    let mut sum = wrong;
     let mut k: usize = 0;
     while k < n {
         let w = window(cells, first + 30 * k);
-        if !passes(w) {
-            return nothing();
-        }
+        sum += left_over(w);
         words[k] = word::data_of(w);
         k += 1;
+    }
+    if sum != 0 {
+        return nothing();
     }
     There {
         stands: true,
@@ -83,17 +100,17 @@ pub(crate) fn standing(cells: &[u32; 40], end: usize, held: usize) -> There
     }
     let one = window(cells, end - held);
     let two = window(cells, end - held + 30);
-    let n = n_in(two);
+    let first = word::data_of(one);
+    let second = word::data_of(two);
+    let n = frame::n_of(second);
     if held < 62 + 30 * n {
         return nothing();
     }
-    if !headed(one) {
+    if !frame::has_preamble(first) {
         return nothing();
     }
-    if !passes(two) {
-        return nothing();
-    }
-    let header = frame::header_of(word::data_of(one), word::data_of(two));
+    let header = frame::header_of(first, second);
     let carried = pair_of(one);
-    filled(cells, end, held, header, carried, n)
+    let wrong = left_over(one) + left_over(two);
+    filled(cells, end, held, header, carried, n, wrong)
 }

@@ -2,12 +2,14 @@
 use borrow.Author.Needs.{needs}
 use borrow.Author.Tests.{not-true, not-false}
 use denote.Ref.{now}
-use mathlib.Core.Path.{sym, _∙_}
+use mathlib.Core.Path.{_≡_, sym, ap, _∙_}
 use native.Mathlib.Omega.{arith}
 use Rattle.bits.specs.Bits.{bits}
 use Rattle.word.specs.Word.{dataOf}
+use Rattle.frame.specs.Header.{nOf}
+use Rattle.reader.proofs.Leaves.{bits-data}
 use Rattle.frame.proofs.HeaderLaws.{n-lt}
-use Rattle.reader.proofs.TakeLaws.{there-none, too-short, words-missing, wrong-first, wrong-second, header-here}
+use Rattle.reader.proofs.TakeLaws.{there-none, too-short, words-missing, headless-here, header-here, both-here}
 use Rattle.reader.proofs.taking.standing.Statement.{statement}
 use Rattle.reader.proofs.taking.standing.Tie as tie
 
@@ -18,75 +20,74 @@ returns c =
     there-none _ (too-short (now (a .cells)) (s .pre .0) (a .end) (s .pre .1) (a .held) (s .pre .2) (c .before .if1 .taken))
     (c .nothing .result) (c .nothing .ensures)
 
+-- ---- N is read
+
+module _ (c : tie.After-n-of) where
+  abbrev second : tie.After-data-of2
+  second = c .before
+
+  abbrev one : tie.After-window
+  one = second .before .before .before
+
+  abbrev start : tie.Start
+  start = one .before .before
+
+  abbrev two : tie.After-window2
+  two = second .before .before
+
+  n-is : c .n-of .result ≡ nOf (dataOf (bits 32 (two .window2 .result)))
+  n-is = c .n-of .ensures ∙ ap nOf (bits-data (two .window2 .result) _ (second .data-of2 .ensures))
+
 mul-if2 : tie.Need-mul-if2
-mul-if2 c = omega (arith, c .n-in .ensures, n-lt (dataOf (bits 32 (c .before .window2 .result))))
+mul-if2 c = omega (arith, n-is c, n-lt (dataOf (bits 32 (two c .window2 .result))))
 
 add-if2 : tie.Need-add-if2
-add-if2 c = omega (arith, c .n-in .ensures, n-lt (dataOf (bits 32 (c .before .window2 .result))))
+add-if2 c = omega (arith, n-is c, n-lt (dataOf (bits 32 (two c .window2 .result))))
 
 returns-2 : tie.Need-returns-2
 returns-2 c =
-    let counted = c .before .before in
-    let two = counted .before in
-    let one = two .before in
-    let s = one .before .before in
+    let n = c .before .before in
+    let s = start n in
     let a = s .args in
-    there-none _ (words-missing (now (a .cells)) (s .pre .0) (a .end) (s .pre .1) (a .held) (s .pre .2) (one .before .if1 .left) (one .window .result)
-    (two .window2 .result) (counted .n-in .result)
-    (one .window .ensures) (two .window2 .ensures) (counted .n-in .ensures) (c .before .if2 .taken)) (c .nothing2 .result) (c .nothing2 .ensures)
+    there-none _ (words-missing (now (a .cells)) (s .pre .0) (a .end) (s .pre .1) (a .held) (s .pre .2) (one n .before .if1 .left) (one n .window .result)
+    (two n .window2 .result) (n .n-of .result) (one n .window .ensures) (two n .window2 .ensures) (n-is n) (c .before .if2 .taken))
+    (c .nothing2 .result) (c .nothing2 .ensures)
 
 returns-3 : tie.Need-returns-3
 returns-3 c =
-    let first = c .before .before in
-    let counted = first .before .before in
-    let two = counted .before in
-    let one = two .before in
-    let s = one .before .before in
+    let asked = c .before .before in
+    let n = asked .before .before in
+    let s = start n in
     let a = s .args in
-    there-none _ (wrong-first (now (a .cells)) (s .pre .0) (a .end) (s .pre .1) (a .held) (s .pre .2) (one .before .if1 .left) (one .window .result)
-    (two .window2 .result) (counted .n-in .result)
-    (one .window .ensures) (two .window2 .ensures) (counted .n-in .ensures) (first .headed .result) (first .headed .ensures)
-    (not-true _ (c .before .if3 .taken))) (c .nothing3 .result) (c .nothing3 .ensures)
-
-returns-4 : tie.Need-returns-4
-returns-4 c =
-    let second = c .before .before in
-    let first = second .before .before in
-    let counted = first .before .before in
-    let two = counted .before in
-    let one = two .before in
-    let s = one .before .before in
-    let a = s .args in
-    there-none _ (wrong-second (now (a .cells)) (s .pre .0) (a .end) (s .pre .1) (a .held) (s .pre .2) (one .before .if1 .left) (one .window .result)
-    (two .window2 .result) (counted .n-in .result)
-    (one .window .ensures) (two .window2 .ensures) (counted .n-in .ensures) (second .passes .result) (second .passes .ensures)
-    (not-true _ (c .before .if4 .taken))) (c .nothing4 .result) (c .nothing4 .ensures)
+    there-none _ (headless-here (now (a .cells)) (s .pre .0) (a .end) (s .pre .1) (a .held) (s .pre .2) (one n .before .if1 .left) (one n .window .result)
+    (two n .window2 .result) (n .n-of .result) (one n .window .ensures) (two n .window2 .ensures) (n-is n) (second n .before .data-of .result)
+    (second n .data-of2 .result) (second n .before .data-of .ensures) (second n .data-of2 .ensures)
+    (asked .has-preamble .result) (asked .has-preamble .ensures) (not-true _ (c .before .if3 .taken))) (c .nothing3 .result) (c .nothing3 .ensures)
 
 filled-requires : tie.Need-filled-requires
 filled-requires c κs =
-    let headed = c .before in
-    let data2 = headed .before in
-    let data1 = data2 .before in
-    let second = data1 .before .before in
-    let first = second .before .before in
-    let counted = first .before .before in
-    let two = counted .before in
-    let one = two .before in
-    let s = one .before .before in
+    let left1 = c .before in
+    let pair = left1 .before in
+    let header = pair .before in
+    let headed = header .before in
+    let asked = headed .before in
+    let n = asked .before .before in
+    let s = start n in
     let a = s .args in
-    let header = header-here (now (a .cells)) (s .pre .0) (a .end) (s .pre .1) (a .held) (s .pre .2) (one .before .if1 .left) (one .window .result)
-    (two .window2 .result) (counted .n-in .result)
-    (one .window .ensures) (two .window2 .ensures) (counted .n-in .ensures)
-    (sym (not-false _ (second .before .if3 .left)) ∙ first .headed .ensures) (sym (not-false _ (data1 .before .if4 .left)) ∙ second .passes .ensures)
-    (data1 .data-of .result) (data2 .data-of2 .result) (data1 .data-of .ensures) (data2 .data-of2 .ensures)
-    (headed .header-of .result) (headed .header-of .ensures)
-    (c .pair-of .result) (c .pair-of .ensures) in
-    (s .pre .0, s .pre .1, s .pre .2, header, first .before .if2 .left)
+    let there = header-here (now (a .cells)) (s .pre .0) (a .end) (s .pre .1) (a .held) (s .pre .2) (one n .before .if1 .left) (one n .window .result)
+    (two n .window2 .result) (n .n-of .result) (one n .window .ensures) (two n .window2 .ensures) (n-is n) (second n .before .data-of .result)
+    (second n .data-of2 .result) (second n .before .data-of .ensures) (second n .data-of2 .ensures)
+    (asked .has-preamble .result) (asked .has-preamble .ensures) (not-false _ (headed .if3 .left))
+    (header .header-of .result) (header .header-of .ensures) (pair .pair-of .result) (pair .pair-of .ensures) in
+    let sum = both-here (now (a .cells)) (s .pre .0) (a .end) (s .pre .1) (a .held) (s .pre .2) (one n .before .if1 .left) (one n .window .result)
+    (two n .window2 .result) (n .n-of .result) (one n .window .ensures) (two n .window2 .ensures) (n-is n)
+    (left1 .left-over .result) (c .left-over2 .result) (left1 .left-over .ensures) (c .left-over2 .ensures) in
+    (s .pre .0, s .pre .1, s .pre .2, there, asked .before .if2 .left, sum)
 
 pub standing-spec : {M : Type 1} → statement M
 standing-spec =
     tie.close
     (tie.spec (λ c κs. search needs) returns (λ c. search needs) (λ c κs. search needs) (λ c. search needs) (λ c. search needs) (λ c κs. search needs)
-    (λ c κs. search needs) mul-if2 add-if2 (λ c κs. search needs) returns-2 (λ c κs. search needs) (λ c κs. search needs) returns-3
-    (λ c κs. search needs) (λ c κs. search needs) returns-4 (λ c κs. search needs) (λ c κs. search needs) (λ c κs. search needs)
-    (λ c κs. search needs) filled-requires (λ c. search needs))
+    (λ c κs. search needs) (λ c κs. search needs) (λ c κs. search needs) mul-if2 add-if2 (λ c κs. search needs) returns-2
+    (λ c κs. search needs) (λ c κs. search needs) returns-3 (λ c κs. search needs) (λ c κs. search needs) (λ c κs. search needs)
+    (λ c κs. search needs) (λ c. search needs) filled-requires (λ c. search needs))
