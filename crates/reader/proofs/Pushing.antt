@@ -128,7 +128,7 @@ pub length-puts : (cells : List ℕ) (end x : ℕ) → length (putCells cells en
 unfolding putCells
 length-puts cells end x = simp length-set
 
-held-puts : (cells : List ℕ) (end n x : ℕ) → length cells ≡ 40 → x < 64 → end ≤ 1216 → n ≤ end
+pub held-puts : (cells : List ℕ) (end n x : ℕ) → length cells ≡ 40 → x < 64 → end ≤ 1216 → n ≤ end
     → heldBits (putCells cells end x) (end + 6) (n + 6) ≡ heldBits cells end n ++ bits 6 x
 unfolding heldBits
 held-puts cells end n x l h room low =

@@ -97,9 +97,14 @@ SixesAt bytes at [] = Unit {0}
 SixesAt bytes at (s ∷ ss) =
     (at < length bytes) × (isData (getD bytes at 0) ≡ true) × (s ≡ number (six (getD bytes at 0))) × (s < 64) × SixesAt bytes (suc at) ss
 
--- of five bytes that carry sixes the first four bring no word to its end, and there is room for all
+-- the next word; where none is known the second, since no frame has less than two
+abbrev pub later : ℕ → ℕ
+later zero = 1
+later (suc k) = suc k
+
+-- of five bytes that carry sixes the first four bring no frame to its end, and there is room for all
 abbrev pub FiveIn : Candidate → List ℕ → ℕ → Five → Type 0
-FiveIn c bytes at (Sixes a b d e f) = (c .end ≤ 1192) × (c .held + 24 < 32 + 30 * c .words) × SixesAt bytes at (a ∷ b ∷ d ∷ e ∷ f ∷ [])
+FiveIn c bytes at (Sixes a b d e f) = (c .end ≤ 1192) × (c .held + 24 < 32 + 30 * later (c .words)) × SixesAt bytes at (a ∷ b ∷ d ∷ e ∷ f ∷ [])
 FiveIn c bytes at Fewer = Unit {0}
 
 -- ---- FEED: 5, 3, 2, 1

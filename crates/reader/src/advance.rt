@@ -4,7 +4,7 @@ ghost use mathlib.Core.Bool.{false};
 ghost use mathlib.Core.List.{[], _∷_};
 ghost use Prim.Native.Nat.{_+_, _*_, _≤_, _<_};
 ghost use lib.ListN.{length};
-ghost use Rattle.reader.specs.Reading.{knownBits, movedTo, stepCells, stepTo, manyCells, manyTo, FiveIn, runTo};
+ghost use Rattle.reader.specs.Reading.{knownBits, movedTo, stepCells, stepTo, manyCells, manyTo, later as laterThan, FiveIn, runTo};
 use crate::Candidate;
 use crate::cells::push;
 use crate::cells::put_five;
@@ -83,7 +83,17 @@ pub(crate) fn step(cells: &mut [u32; 40], c: Candidate, six: u32) -> Candidate
     moved(c.at, end, held, halt)
 }
 
-// The sixes of the next five bytes, where each carries six, the first four bring no word to its end, and there is room for all.
+// The next word; where none is known the second, since no frame has less than two.
+fn later(words: usize) -> usize
+    ensures { λ r. ⌜ (r ≡ laterThan words) × (r ≤ words + 1) ⌝ }
+{
+    if words == 0 {
+        return 1;
+    }
+    words
+}
+
+// The sixes of the next five bytes, where each carries six, the first four bring no frame to its end, and there is room for all.
 fn five_of(c: Candidate, bytes: &[u8], at: usize) -> Five
     requires { ⌜ (at ≤ length (now bytes)) × (c .held ≤ 991) × (c .words ≤ 32) ⌝ }
     ensures { λ r. ⌜ FiveIn c (now (bytes .entry)) at r ⌝ }
@@ -91,7 +101,7 @@ fn five_of(c: Candidate, bytes: &[u8], at: usize) -> Five
     if 1192 < c.end {
         return Five::Fewer;
     }
-    if 32 + 30 * c.words <= c.held + 24 {
+    if 32 + 30 * later(c.words) <= c.held + 24 {
         return Five::Fewer;
     }
     if bytes.len() - at < 5 {
@@ -120,10 +130,10 @@ fn five_of(c: Candidate, bytes: &[u8], at: usize) -> Five
     Five::Sixes(a, b, d, e, f)
 }
 
-// Five times six bits more, of which the first four bring no word to its end, and the hunt goes on.
+// Five times six bits more, of which the first four bring no frame to its end, and the hunt goes on: once, for what five times would find.
 fn burst(cells: &mut [u32; 40], c: Candidate, a: u32, b: u32, d: u32, e: u32, f: u32) -> Candidate
     requires { ⌜ (length (now cells) ≡ 40) × (c .end ≤ 1192) × (c .held ≤ c .end) × (c .held ≤ 991) × (c .words ≤ 32)
-        × (c .held + 24 < 32 + 30 * c .words) × (a < 64) × (b < 64) × (d < 64) × (e < 64) × (f < 64) ⌝ }
+        × (c .held + 24 < 32 + 30 * laterThan (c .words)) × (a < 64) × (b < 64) × (d < 64) × (e < 64) × (f < 64) ⌝ }
     ensures { λ r. ⌜ (r ≡ manyTo (now (cells .entry)) c (a ∷ b ∷ d ∷ e ∷ f ∷ []))
         × (now (cells .exit) ≡ manyCells (now (cells .entry)) c (a ∷ b ∷ d ∷ e ∷ f ∷ [])) ⌝ }
 {

@@ -9,5 +9,6 @@ pub mod Prefix
 pub mod Faulting
 pub mod Hunting
 pub mod HuntSteps
+pub mod Growing
 pub mod InTime
 pub mod Joining

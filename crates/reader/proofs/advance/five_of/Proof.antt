@@ -7,6 +7,7 @@ use Prim.Native.Nat.{ℕ, _+_, _*_, _≤_, _<_}
 use native.Mathlib.Omega.{arith}
 use lib.ListN.{length, getD}
 use Rattle.line.proofs.LineLaws.{six-bits}
+use Rattle.reader.specs.Reading.{later}
 use Rattle.reader.proofs.Bursts.{five-sixes}
 use Rattle.reader.proofs.advance.five_of.Statement.{statement}
 use Rattle.reader.proofs.advance.five_of.Tie as tie
@@ -29,8 +30,11 @@ abbrev enough : tie.After-one → tie.Else3
 enough c = c .before .before .before .before
 
 module _ (c : tie.Else3) where
+  abbrev asked : tie.After-later
+  asked = c .before .before .before
+
   abbrev room : tie.Else1
-  room = c .before .before .before .before
+  room = asked .before
 
   abbrev start : tie.Start
   start = room .before .before .before
@@ -38,8 +42,14 @@ module _ (c : tie.Else3) where
   abbrev bytes : List ℕ
   bytes = now (start .args .bytes)
 
-  full : (start .args .c .end ≤ 1192) × (start .args .c .held + 24 < 32 + 30 * start .args .c .words) × (start .args .at + 5 ≤ length bytes)
-  full = (omega arith, omega arith, omega arith)
+  full : (start .args .c .end ≤ 1192) × (start .args .c .held + 24 < 32 + 30 * later (start .args .c .words)) × (start .args .at + 5 ≤ length bytes)
+  full = (omega arith, omega (arith, asked .later .ensures .0), omega arith)
+
+mul-if2 : tie.Need-mul-if2
+mul-if2 c = omega (arith, c .later .ensures .1)
+
+add-if2 : tie.Need-add-if2
+add-if2 c = omega (arith, c .later .ensures .1)
 
 returns-9 : tie.Need-returns-9
 returns-9 c =
@@ -60,7 +70,7 @@ returns-9 c =
 pub five-of-spec : {M : Type 1} → statement M
 five-of-spec =
     tie.close
-    (tie.spec (λ c. search needs) (λ c. search needs) (λ c. search needs) (λ c. search needs) (λ c. search needs)
+    (tie.spec (λ c. search needs) (λ c κs. search needs) mul-if2 add-if2 (λ c. search needs) (λ c. search needs)
     (λ c. search needs) (λ c. search needs) (λ c. search needs) (λ c κs. search needs) (λ c. search needs)
     (λ c. search needs) (λ c. search needs) (λ c. search needs) (λ c. search needs) (λ c κs. search needs)
     (λ c. search needs) (λ c. search needs) (λ c. search needs) (λ c. search needs) (λ c. search needs)

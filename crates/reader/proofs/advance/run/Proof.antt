@@ -108,7 +108,7 @@ loop-again c =
     let v = subst (FiveIn (h .c) (bytes turn) (h .used)) (there .ahead .given .1) (asked .five-of .ensures) in
     let cells = c .burst .ensures .1 in
     let next = c .burst .ensures .0 in
-    let quiet = many-quiet (h .cells) (h .c) (h .inv .0) (v .0) (k .low) (k .few) (v .1) _ _ _ _ 0 in
+    let quiet = many-quiet (h .cells) (h .c) (h .inv .0) (v .0) (k .low) (k .few) (v .1) _ _ _ _ (v .2 .4 .3) (v .2 .4 .4 .3) (v .2 .4 .4 .4 .3) 0 in
     let g =
     goes-many (whole turn) (bytes turn) _ (h .cells) (h .c) (h .used) (h .passed) (record { long = h .inv .0; fine = k; is = h .inv .4 })
     (turn .if1 .left) (v .2) quiet in (
