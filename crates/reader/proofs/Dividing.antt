@@ -1,18 +1,19 @@
--- The word test by division: a window passes exactly when it, as a polynomial over two elements, is a multiple of that of its code. Assumes nothing.
+-- The word test by division: what `left_over` computes keeps xor, as the remainder does, and at each single bit each of the two is settled by the other;
+-- so one is zero exactly where the other is. Assumes nothing.
 use mathlib.Core.Path.{_≡_, refl, sym, ap, ap₂, _∙_}
 use mathlib.Core.Bool.{Bool, true, false, _&&_, and-eq-true-iff}
 use mathlib.Core.List.{List, [], _∷_}
 use Prim.Native.Nat.{ℕ, zero, suc, _+_, _-_, _*_, _/_, _%_, _^_, _≤_, _<_}
-use native.Mathlib.Nat.{mod-eq-of-lt, pow-suc, lt-of-le-of-lt, lt-of-lt-of-le}
+use native.Mathlib.Nat.{mod-eq-of-lt, pow-suc, lt-of-le-of-lt}
 use native.Mathlib.Decide.{decLt}
 use native.Mathlib.Omega.{arith}
 use lib.Dec.{eqb}
 use lib.Bits.{bitXor, xor-lt, xor-shr, xor-mod, xor-block, xor-self, xor-zero-l, xor-zero-r, xor-shifted}
-use lib.Pow.{pow-pos, pow-mono}
+use lib.Pow.{pow-pos}
 use borrow.Author.Tests.{eqb-true, eqb-false, eq-eqb, ne-eqb}
 use Rattle.bits.specs.Bits.{_⊻_, _⊕_, isOdd, bits, number}
 use Rattle.bits.proofs.Xor.{xor-four}
-use Rattle.bits.proofs.Numbers.{length-bits, number-bits, bits-xor, number-xor}
+use Rattle.bits.proofs.Numbers.{number-bits, bits-xor, number-xor}
 use Rattle.word.specs.Word.{remainderOf, received, computed, parity, dataOf, passes}
 use Rattle.word.specs.Answer.{remainderAt}
 use Rattle.word.proofs.Linearity.{remainder-xor}
@@ -131,30 +132,22 @@ s-mod k {a} {b} p = record { is = ap (λ n. n % 2 ^ k) (p .is) ∙ xor-mod a b k
 s-shl : (k : ℕ) {a b c : ℕ} → Sum a b c → Sum (a * 2 ^ k) (b * 2 ^ k) (c * 2 ^ k)
 s-shl k {a} {b} p = record {
   is = ap (λ n. n * 2 ^ k) (p .is)
-      ∙ sym (ap₂ bitXor (none a) (none b) ∙ xor-block k a b 0 0 (pow-pos k) (pow-pos k) ∙ ap (λ z. bitXor a b * 2 ^ k + z) (xor-self 0) ∙ sym (none (bitXor a b)));
+      ∙ sym (ap₂ bitXor (none a) (none b) ∙ xor-block k a b 0 0 (pow-pos k) (pow-pos k) ∙ ap (λ z. bitXor a b * 2 ^ k + z) (xor-self 0)
+      ∙ sym (none (bitXor a b)));
 }
   where
     none : (z : ℕ) → z * 2 ^ k ≡ z * 2 ^ k + 0
     none z = omega arith
 
 -- a bit of it, times m
+no-times : (m : ℕ) → 0 * m ≡ 0
+no-times m = omega arith
+
 bit-times : (m x y : ℕ) → x < 2 → y < 2 → bitXor x y * m ≡ bitXor (x * m) (y * m)
-bit-times m zero zero h l = none ∙ sym (ap₂ bitXor none none)
-  where
-    none : 0 * m ≡ 0
-    none = omega arith
-bit-times m zero (suc zero) h l = sym (ap (λ z. bitXor z (1 * m)) none ∙ xor-zero-l (1 * m))
-  where
-    none : 0 * m ≡ 0
-    none = omega arith
-bit-times m (suc zero) zero h l = sym (ap (λ z. bitXor (1 * m) z) none ∙ xor-zero-r (1 * m))
-  where
-    none : 0 * m ≡ 0
-    none = omega arith
-bit-times m (suc zero) (suc zero) h l = none ∙ sym (xor-self (1 * m))
-  where
-    none : 0 * m ≡ 0
-    none = omega arith
+bit-times m zero zero h l = no-times m ∙ sym (ap₂ bitXor (no-times m) (no-times m))
+bit-times m zero (suc zero) h l = sym (ap (λ z. bitXor z (1 * m)) (no-times m) ∙ xor-zero-l (1 * m))
+bit-times m (suc zero) zero h l = sym (ap (λ z. bitXor (1 * m) z) (no-times m) ∙ xor-zero-r (1 * m))
+bit-times m (suc zero) (suc zero) h l = no-times m ∙ sym (xor-self (1 * m))
 bit-times m zero (suc (suc y)) h l = absurd (omega arith)
 bit-times m (suc zero) (suc (suc y)) h l = absurd (omega arith)
 bit-times m (suc (suc x)) y h l = absurd (omega arith)

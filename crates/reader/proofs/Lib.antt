@@ -9,6 +9,7 @@ pub mod Seeking
 pub mod Accepted
 pub mod Stepping
 pub mod Running
+pub mod Ahead
 pub mod Bursts
 pub mod Dividing
 pub mod TakeLaws

@@ -10,7 +10,7 @@ use lib.ListN.{length}
 use Rattle.reader.specs.Hunting.{huntOf}
 use Rattle.reader.specs.Reading.{movedTo, manyCells, manyTo}
 use Rattle.reader.specs.declared.hunt.Halt.{Halt}
-use Rattle.reader.proofs.Bursts.{length-five, many-cells, many-to}
+use Rattle.reader.proofs.Ahead.{length-five, many-cells, many-to}
 use Rattle.reader.proofs.Steps.{step-wait}
 use Rattle.reader.proofs.advance.burst.Statement.{statement}
 use Rattle.reader.proofs.advance.burst.Tie as tie
@@ -31,7 +31,8 @@ module _ (c : tie.After-put-five) where
   cells-are =
       let a = start .args in
       let p = start .pre in
-      c .put-five .ensures ∙ sym (many-cells (now (a .cells)) (a .c) (p .0) (p .1) (p .2) (p .4) (p .5) (a .a) (a .b) (a .d) (a .e) (p .7) (p .8) (p .9) (a .f) (p .10))
+      c .put-five .ensures
+      ∙ sym (many-cells (now (a .cells)) (a .c) (p .0) (p .1) (p .2) (p .4) (p .5) (a .a) (a .b) (a .d) (a .e) (p .7) (p .8) (p .9) (a .f) (p .10))
 
   moved-is : (halt : Halt)
       → halt ≡ huntOf (c .put-five .last .0) (start .args .c .end + 30) (start .args .c .held + 30) (start .args .c .words) false (start .args .c .tally)
@@ -40,7 +41,8 @@ module _ (c : tie.After-put-five) where
   moved-is halt e =
       let a = start .args in
       let p = start .pre in
-      sym (many-to (now (a .cells)) (a .c) (p .0) (p .1) (p .2) (p .4) (p .5) (a .a) (a .b) (a .d) (a .e) (p .7) (p .8) (p .9) (a .f) (p .10) _ (c .put-five .ensures) halt e)
+      sym (many-to (now (a .cells)) (a .c) (p .0) (p .1) (p .2) (p .4) (p .5) (a .a) (a .b) (a .d) (a .e) (p .7) (p .8) (p .9) (a .f) (p .10)
+      _ (c .put-five .ensures) halt e)
 
 -- ---- the needs
 

@@ -2,7 +2,7 @@
 use mathlib.Core.Path.{sym, ap, _∙_}
 use native.Mathlib.Omega.{arith}
 use Rattle.reader.specs.Reading.{later}
-use Rattle.reader.proofs.Bursts.{later-some}
+use Rattle.reader.proofs.Ahead.{later-some}
 use Rattle.reader.proofs.advance.later.Statement.{statement}
 use Rattle.reader.proofs.advance.later.Tie as tie
 

@@ -12,7 +12,8 @@ use Rattle.line.proofs.LineLaws.{six-lt, six-bits, six-refused}
 use Rattle.reader.specs.Reading.{stepCells, stepTo, FiveIn, Run, spent, runTo}
 use Rattle.reader.proofs.Accepted.{Accepted, accept-free, room-free, length-step, accepted-step}
 use Rattle.reader.proofs.Running.{spent-none, loop-waits, loop-ends, loop-on, loop-over}
-use Rattle.reader.proofs.Bursts.{goes-many, many-quiet}
+use Rattle.reader.proofs.Ahead.{many-quiet}
+use Rattle.reader.proofs.Bursts.{goes-many}
 use Rattle.reader.proofs.advance.run.Statement.{statement}
 use Rattle.reader.proofs.advance.run.Tie as tie
 
@@ -108,7 +109,8 @@ loop-again c =
     let v = subst (FiveIn (h .c) (bytes turn) (h .used)) (there .ahead .given .1) (asked .five-of .ensures) in
     let cells = c .burst .ensures .1 in
     let next = c .burst .ensures .0 in
-    let quiet = many-quiet (h .cells) (h .c) (h .inv .0) (v .0) (k .low) (k .few) (v .1) _ _ _ _ (v .2 .4 .3) (v .2 .4 .4 .3) (v .2 .4 .4 .4 .3) 0 in
+    let quiet =
+    many-quiet (h .cells) (h .c) (h .inv .0) (v .0) (k .low) (k .few) (v .1) _ _ _ _ (v .2 .4 .3) (v .2 .4 .4 .3) (v .2 .4 .4 .4 .3) 0 in
     let g =
     goes-many (whole turn) (bytes turn) _ (h .cells) (h .c) (h .used) (h .passed) (record { long = h .inv .0; fine = k; is = h .inv .4 })
     (turn .if1 .left) (v .2) quiet in (
