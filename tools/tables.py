@@ -56,6 +56,8 @@ def equations(function):
             lent = re.fullmatch(r"now \(«?(\w+)»? \.exit\)", side)
             if sign and side == "r":
                 answer = plain(definition)
+            elif sign and side == "eqb r 0":
+                answer = plain(fact)
             elif sign and lent:
                 places.append((lent.group(1), plain(definition)))
     return answer, places
