@@ -6,6 +6,10 @@ const LENGTH: usize = 4_000_000;
 // Six line bits a byte, the first one lowest.
 const BITS: usize = 6 * LENGTH;
 
+// The first eight data bits of a header, and how many words a chain of false headers has.
+const PREAMBLE: u32 = 0b0110_0110;
+const CHAIN: usize = 32;
+
 // The data bits of each parity bit, D1 highest, and whether D30* is carried into it, else D29*.
 const PARITY: [(u32, bool); 6] = [
     (0xEC7CD2, false),
@@ -51,7 +55,7 @@ impl Line {
         let z = random.below(6000) as u32;
         let sequence = random.below(8) as u32;
         let health = random.below(8) as u32;
-        self.word(0b0110_0110 << 16 | kind << 10 | station);
+        self.word(PREAMBLE << 16 | kind << 10 | station);
         self.word(z << 11 | sequence << 8 | n << 3 | health);
     }
 
@@ -116,6 +120,31 @@ fn stray(line: &mut Line, random: &mut Random) {
     line.0.push(random.below(2) == 1);
 }
 
+// A frame of any type and length with random data.
+fn any_frame(line: &mut Line, random: &mut Random) {
+    let kind = random.below(64) as u32;
+    let n = random.below(32) as u32;
+    line.header(random, kind, n);
+    line.words(random, n as u64);
+}
+
+// What a harbour beacon sends: corrections of three satellites in most frames, else a reference station, a health or a null frame.
+fn beacon_frame(line: &mut Line, random: &mut Random) {
+    let (kind, n) = [(9, 5), (9, 5), (9, 5), (9, 5), (9, 5), (9, 5), (3, 4), (5, 1), (6, 0), (6, 1)][random.below(10) as usize];
+    line.header(random, kind, n);
+    line.words(random, n as u64);
+}
+
+// 32 right words, each of which could be both words of a header that says N 31; a stray bit, which none of these frames gets over, and a frame.
+fn headers(line: &mut Line, random: &mut Random) {
+    for _ in 0..CHAIN {
+        let rest = random.below(256) as u32;
+        line.word(PREAMBLE << 16 | rest << 8 | 31 << 3 | rest % 8);
+    }
+    stray(line, random);
+    short(line, random, &[2, 5]);
+}
+
 // Random line bits.
 fn noise() -> Vec<u8> {
     let mut random = Random(SEED);
@@ -144,6 +173,10 @@ fn main() {
         ("off_grid", stream(7, frame)),
         ("noise", noise()),
         ("cut_short", stream(6, cut_short)),
+        ("all_types", stream(6, any_frame)),
+        ("all_types_off", stream(7, any_frame)),
+        ("beacon", stream(6, beacon_frame)),
+        ("headers", stream(6, headers)),
         ("short_0", stream(6, |line, random| short(line, random, &[0]))),
         ("short_0_to_2", stream(6, |line, random| short(line, random, &[0, 1, 2]))),
         ("short_2", stream(6, |line, random| short(line, random, &[2]))),
