@@ -6,9 +6,9 @@ const LENGTH: usize = 4_000_000;
 // Six line bits a byte, the first one lowest.
 const BITS: usize = 6 * LENGTH;
 
-// The first eight data bits of a header, and how many words a chain of false headers has.
+// The first eight data bits of a header, and how many words a chain of false headers has: more of them would make a frame of the second ones.
 const PREAMBLE: u32 = 0b0110_0110;
-const CHAIN: usize = 32;
+const CHAIN: usize = 25;
 
 // The data bits of each parity bit, D1 highest, and whether D30* is carried into it, else D29*.
 const PARITY: [(u32, bool); 6] = [
@@ -137,12 +137,67 @@ fn beacon_frame(line: &mut Line, random: &mut Random) {
 
 // 32 right words, each of which could be both words of a header that says N 31; a stray bit, which none of these frames gets over, and a frame.
 fn headers(line: &mut Line, random: &mut Random) {
-    for _ in 0..CHAIN {
+    for _ in 0..32 {
         let rest = random.below(256) as u32;
         line.word(PREAMBLE << 16 | rest << 8 | 31 << 3 | rest % 8);
     }
     stray(line, random);
     short(line, random, &[2, 5]);
+}
+
+// A word's data bits with polarity undone, where the word that starts at a bit is right.
+fn right_at(line: &[bool], start: usize) -> Option<u32> {
+    let (before, word) = line[start - 2..start + 30].split_at(2);
+    let data = word[..24].iter().fold(0, |x, &bit| 2 * x + (bit ^ before[1]) as u32);
+    let right = |(&sent, (mask, with_d30)): (&bool, (u32, bool))| {
+        sent == ((data & mask).count_ones() % 2 == 1) ^ if with_d30 { before[1] } else { before[0] }
+    };
+    word[24..].iter().zip(PARITY).all(right).then_some(data)
+}
+
+// A word with a preamble stands behind so many: it fits when the word 28 bits after the start of the one before it is right and has a preamble too,
+// no header that either of them ends says so few words that its frame would stand within the chain, and its last bits can go on so.
+fn chains(line: &[bool], words: usize) -> bool {
+    let says = |data: u32| (data >> 3 & 31) as usize;
+    let end = line.len();
+    if line[end - 3] != line[end - 2] || line[end - 2] == line[end - 1] {
+        return false;
+    }
+    if words == 0 {
+        return true;
+    }
+    let last = right_at(line, end - 30).expect("a word");
+    let Some(between) = right_at(line, end - 32) else {
+        return false;
+    };
+    between >> 16 == PREAMBLE && says(last) + words >= CHAIN && (words == 1 || says(between) + words >= CHAIN)
+}
+
+// Such words to the end of the chain; false where there are none.
+fn chain(line: &mut Line, words: usize) -> bool {
+    if words == CHAIN {
+        return true;
+    }
+    for rest in 0..1 << 16 {
+        line.word(PREAMBLE << 16 | rest);
+        if chains(&line.0, words) && chain(line, words + 1) {
+            return true;
+        }
+        line.0.truncate(line.0.len() - 30);
+    }
+    false
+}
+
+// Two bits and a chain of right words, each of which starts a header; 28 bits after the start of each another header starts, whose words are right
+// too. Then a stray bit, which none of these frames gets over, and a frame.
+fn chained() -> Vec<u8> {
+    let mut made = Line(vec![false; 2]);
+    assert!(chain(&mut made, 0));
+    stream(6, |line, random| {
+        line.0.extend(&made.0);
+        stray(line, random);
+        short(line, random, &[2, 5]);
+    })
 }
 
 // Random line bits.
@@ -177,6 +232,7 @@ fn main() {
         ("all_types_off", stream(7, any_frame)),
         ("beacon", stream(6, beacon_frame)),
         ("headers", stream(6, headers)),
+        ("chained", chained()),
         ("short_0", stream(6, |line, random| short(line, random, &[0]))),
         ("short_0_to_2", stream(6, |line, random| short(line, random, &[0, 1, 2]))),
         ("short_2", stream(6, |line, random| short(line, random, &[2]))),
