@@ -9,7 +9,7 @@ use Rattle.answer.specs.Order.{Says, refuses, answers, Check, inOrder}
 use Rattle.bits.specs.Bits.{bits}
 use Rattle.frame.specs.Header.{nOf, preambled}
 use Rattle.frame.specs.Frames.{wordsOf, frameOf, blank}
-use Rattle.frame.specs.Widths.{outside}
+use Rattle.frame.specs.Widths.{headerOutside, outside}
 use Rattle.frame.specs.declared.Frame.{Frame}
 use Rattle.journal.specs.Forms.{recordWith, nByte, wordsAfter, startOrder}
 use Rattle.journal.specs.declared.Kept.{Kept}
@@ -23,6 +23,17 @@ use Rattle.journal.specs.declared.Recalled.{Recalled}
 -- the record of a frame: mark 0x52 0x32, N, three bytes a word; its pair is not kept
 unfoldable pub recordOf : Frame → List ℕ
 recordOf f = recordWith 0x32 3 (f .n) (wordsOf f)
+
+-- 5 of its header and N alone, 13
+abbrev pub recordOrder : Frame → List ℕ → List Check
+recordOrder f buffer = (headerOutside (f .header), 5) ∷ (ltb 31 (f .n), 5) ∷ (ltb (length buffer) (3 * f .n + 9), 13) ∷ []
+
+-- PUT: the record of a frame, 24 bits of each data word as it is; and what the lent buffer then holds
+abbrev pub recordedBy : Frame → List ℕ → Kept
+recordedBy f buffer = inOrder (recordOrder f buffer) kept.Refused (kept.Done (3 * f .n + 9))
+
+abbrev pub recordedTo : Frame → List ℕ → List ℕ
+recordedTo f buffer = inOrder (recordOrder f buffer) (λ n. buffer) (recordOf f ++ drop (3 * f .n + 9) buffer)
 
 -- 5, 13; any Z count is kept
 abbrev pub keepOrder : Frame → List ℕ → List Check

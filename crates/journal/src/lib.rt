@@ -8,7 +8,7 @@ ghost use lib.ListN.{length, take, drop, replicate};
 ghost use lib.Seq.{sets};
 ghost use Rattle.journal.specs.Bytes.{written, wordsFrom};
 ghost use Rattle.journal.specs.Forms.{recordWith};
-ghost use Rattle.journal.specs.Journal.{keptBy, heldBy, refusedRecall, frameIn, recalledBy};
+ghost use Rattle.journal.specs.Journal.{recordedBy, recordedTo, keptBy, heldBy, refusedRecall, frameIn, recalledBy};
 use crate::form::Start;
 use crate::form::put_start;
 use crate::form::put_word;
@@ -66,14 +66,11 @@ fn put_record(first: u32, second: u32, words: &[u32; 31], n: usize, buffer: &mut
     put_data(words, n, 9, buffer);
 }
 
-// Keeps a frame without its pair, as a record at the start of the buffer. Order 5, 13.
-pub fn keep(frame: Frame, buffer: &mut [u8]) -> Kept
-    ensures { λ r. ⌜ r ≡ keptBy frame (now (buffer .entry)) ⌝ }
-    ensures { λ _. ⌜ now (buffer .exit) ≡ heldBy frame (now (buffer .entry)) ⌝ }
+// Writes the record of a frame whose header and N are within their widths, 24 bits of each data word as it is. Order 5, 13.
+pub fn put_frame(frame: Frame, buffer: &mut [u8]) -> Kept
+    ensures { λ r. ⌜ r ≡ recordedBy frame (now (buffer .entry)) ⌝ }
+    ensures { λ _. ⌜ now (buffer .exit) ≡ recordedTo frame (now (buffer .entry)) ⌝ }
 {
-    let Widths::Within = frame::frame_widths(frame) else {
-        return Kept::Refused(5);
-    };
     let header = frame.header;
     let n = frame.n;
     let HeaderWords::Words(first, second) = frame::header_words(header, n) else {
@@ -86,6 +83,17 @@ pub fn keep(frame: Frame, buffer: &mut [u8]) -> Kept
     let words = frame.words;
     put_record(first, second, &words, n, buffer);
     Kept::Done(length)
+}
+
+// Keeps a frame without its pair, as a record at the start of the buffer. Order 5, 13.
+pub fn keep(frame: Frame, buffer: &mut [u8]) -> Kept
+    ensures { λ r. ⌜ r ≡ keptBy frame (now (buffer .entry)) ⌝ }
+    ensures { λ _. ⌜ now (buffer .exit) ≡ heldBy frame (now (buffer .entry)) ⌝ }
+{
+    let Widths::Within = frame::frame_widths(frame) else {
+        return Kept::Refused(5);
+    };
+    put_frame(frame, buffer)
 }
 
 // The n words from `at` on, three bytes each; zeros past them.

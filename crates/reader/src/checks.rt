@@ -21,7 +21,7 @@ fn most(waits: bool) -> usize
 }
 
 // The counts go past what a reader can hold.
-pub(crate) fn past(c: Candidate) -> bool
+pub fn past(c: Candidate) -> bool
     ensures { λ r. ⌜ r ≡ pastOf c ⌝ }
 {
     let held = c.held;

@@ -4,7 +4,7 @@ ghost use Rattle.reader.specs.Reading.{started, fedBy, fedAllBy, endedBy
 
 mod advance;
 mod cells;
-mod checks;
+pub mod checks;
 mod hunt;
 mod taking;
 

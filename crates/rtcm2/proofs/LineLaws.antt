@@ -1,17 +1,21 @@
 -- What the calls that read the line say, by what the reader's call and keeping the frame answer. Assumes nothing.
-use mathlib.Core.Path.{_≡_, sym, ap, _∙_}
-use mathlib.Core.Bool.{Bool, true, false, cond}
-use mathlib.Core.List.{List}
+use mathlib.Core.Path.{_≡_, sym, ap, subst, _∙_}
+use mathlib.Core.Bool.{Bool, true, false, cond, not}
+use mathlib.Core.List.{List, [], _∷_}
 use Prim.Native.Nat.{ℕ, _≤_, _<_}
+use native.Mathlib.Omega.{arith}
 use lib.ListN.{length}
 use borrow.Author.Tests.{lt-ltb, le-ltb}
-use Rattle.answer.specs.Order.{Says, refuses, answers}
-use Rattle.reader.specs.Reading.{started, takenBy}
+use Rattle.answer.specs.Order.{Says, refuses, answers, inOrder}
+use Rattle.stream.specs.Standing.{frameAt}
+use Rattle.stream.proofs.Data.{frame-within}
+use Rattle.reader.specs.Reading.{bitsOf, started, pastOf, past, frameWaits, takeTo, refusedTaking, takenBy}
 use Rattle.reader.specs.declared.Tally.{Tally}
 use Rattle.reader.specs.declared.Reader.{Reader}
 use Rattle.reader.specs.declared.Answer.{Answer}
 use Rattle.reader.specs.declared.Answer.the-variants as reads
 use Rattle.reader.specs.declared.Taken.{Taken}
+use Rattle.frame.specs.Widths.{outside}
 use Rattle.frame.specs.declared.Frame.{Frame}
 use Rattle.journal.specs.Journal.{keptBy, heldBy, saysKept}
 use Rattle.journal.specs.declared.Kept.the-variants as kept
@@ -102,3 +106,34 @@ module _ (state frame : List ℕ) where
 -- a frame that is not kept leaves the buffer as it was
 pub unkept-alone : (f : Frame) (frame : List ℕ) {n : ℕ} → keptBy f frame ≡ kept.Refused n → heldBy f frame ≡ frame
 unkept-alone f frame {n} k = refused-unchanged f frame n (ap saysKept k)
+
+-- ---- what taking answers by the reader's counts alone, and of what it hands out
+
+module _ (r : Reader) where
+  pub take-past : pastOf (r .candidate) ≡ true → takenBy r .answer ≡ reads.Refused 5
+  unfolding takenBy
+  take-past e = rw e
+
+  pub take-none : pastOf (r .candidate) ≡ false → r .candidate .waits ≡ false → takenBy r .answer ≡ reads.Refused 4
+  unfolding takenBy frameWaits
+  take-none e w = rw (e, w)
+
+  -- a frame that was taken is within its widths
+  pub taken-within : (t : Taken) → t ≡ takenBy r → t .answer ≡ reads.Done → outside (t .frame) ≡ false
+  unfolding takenBy
+  taken-within t e d =
+      subst (λ (x : Taken). outside (x .frame) ≡ false) (sym e) (go (past r) (not (frameWaits r)) (ap (λ (x : Taken). x .answer) (sym e) ∙ d))
+    where
+      next : Taken
+      next = record {
+        answer = reads.Done;
+        at = r .candidate .at;
+        frame = frameAt (bitsOf r);
+        reader = record { cells = r .cells; candidate = takeTo (r .cells) (r .candidate) (r .ended); ended = r .ended };
+      }
+
+      go : (p w : Bool) → inOrder ((p, 5) ∷ (w, 4) ∷ []) (refusedTaking r) next .answer ≡ reads.Done
+          → outside (inOrder ((p, 5) ∷ (w, 4) ∷ []) (refusedTaking r) next .frame) ≡ false
+      go true w h = absurd (let z : _≡_ {A = ℕ} 0 1 = cc in omega arith)
+      go false true h = absurd (let z : _≡_ {A = ℕ} 0 1 = cc in omega arith)
+      go false false h = frame-within (bitsOf r)

@@ -55,6 +55,9 @@ pub extern "C" fn rtcm2_feed(state: &mut [u8], byte: u8) -> u8
     if !rtcm2_state::holds_state(state) {
         return 5;
     }
+    if rtcm2_state::hold::hold(byte, state) {
+        return 0;
+    }
     let next = reader::feed(rtcm2_state::state_in(state), byte);
     let answer = next.answer;
     if let Answer::Refused(n) = answer {
@@ -137,6 +140,13 @@ pub extern "C" fn rtcm2_take(
     if !rtcm2_state::holds_state(state) {
         return 5;
     }
+    let there = rtcm2_state::candidate_in(state);
+    if !there.waits {
+        if reader::checks::past(there) {
+            return 5;
+        }
+        return 4;
+    }
     let taken = reader::take(rtcm2_state::state_in(state));
     let answer = taken.answer;
     if let Answer::Refused(n) = answer {
@@ -144,7 +154,7 @@ pub extern "C" fn rtcm2_take(
     }
     let found = taken.frame;
     let carried = found.carried;
-    match journal::keep(found, frame) {
+    match journal::put_frame(found, frame) {
         Kept::Refused(n) => n,
         Kept::Done(size) => {
             let candidate = taken.reader.candidate;

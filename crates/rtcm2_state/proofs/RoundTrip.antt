@@ -17,7 +17,7 @@ use Rattle.rtcm2_state.specs.Numbers.{lowBytes, numbersWritten, numbersI
 use Rattle.rtcm2_state.specs.State.{stateSize, stateCount, startSize, startOf, stateNumbers, readerOf, areState}
 use Rattle.rtcm2_state.specs.State.{holdsState, stateIn, tooWide, startPut, statePut}
 use Rattle.rtcm2_state.proofs.NumberLaws.{length-written, length-numbers, number-of, number-four, numbers-written, written-numbers}
-use Rattle.rtcm2_state.proofs.StateLaws.{held-long, narrow, start-is}
+use Rattle.rtcm2_state.proofs.StateLaws.{held-long, read-is, narrow, start-is}
 
 -- ---- a reader and its numbers
 
@@ -68,7 +68,7 @@ numbers-reader (a ∷ b ∷ c ∷ d ∷ e ∷ f ∷ g ∷ i ∷ j ∷ ns) l h =
 -- ---- put, then read
 
 -- where there are enough bytes
-put-is : (r : Reader) (bs : List ℕ) → tooWide (r .candidate) ≡ false → stateSize ≤ length bs
+pub put-is : (r : Reader) (bs : List ℕ) → tooWide (r .candidate) ≡ false → stateSize ≤ length bs
     → statePut r bs ≡ numbersWritten (stateNumbers r) ++ drop stateSize bs
 unfolding statePut
 put-is r bs w h = rw (w, le-ltb (length bs) stateSize h)
@@ -136,23 +136,22 @@ module _ (bs : List ℕ) (f : AreBytes bs) (e : holdsState bs ≡ true) where
   unfolding holdsState
   are-state = and-eq-true-iff (not (ltb (length bs) stateSize)) (areState (numbersIn stateCount bs)) .0 e .1
 
-  read-is : stateIn bs ≡ readerOf (numbersIn stateCount bs)
-  unfolding stateIn
-  read-is = rw e
-
   -- each of its numbers is four bytes
-  below : (i : ℕ) → i < stateCount → getD (numbersIn stateCount bs) i 0 < 2 ^ 32
+  pub below : (i : ℕ) → i < stateCount → getD (numbersIn stateCount bs) i 0 < 2 ^ 32
   below i l = subst (λ n. n < 2 ^ 32) (sym (number-of stateCount i bs l)) (number-four (drop (4 * i) bs) (fit-drop (4 * i) bs f))
 
   counts-read : tooWide (stateIn bs .candidate) ≡ false
   counts-read =
-      subst (λ r. tooWide (r .candidate) ≡ false) (sym read-is)
+      subst (λ r. tooWide (r .candidate) ≡ false) (sym (read-is bs e))
       (unfold readerOf in narrow (readerOf (numbersIn stateCount bs) .candidate) (below 1 (omega arith)) (below 2 (omega arith)) (below 3 (omega arith)))
 
-  pub read-put : statePut (stateIn bs) bs ≡ bs
-  read-put =
-      put-is (stateIn bs) bs counts-read (held-long bs e)
-      ∙ ap (λ r. numbersWritten (stateNumbers r) ++ drop stateSize bs) read-is
+  -- the bytes are its numbers
+  pub written-read : numbersWritten (stateNumbers (stateIn bs)) ++ drop stateSize bs ≡ bs
+  written-read =
+      ap (λ r. numbersWritten (stateNumbers r) ++ drop stateSize bs) (read-is bs e)
       ∙ ap (λ ns. numbersWritten ns ++ drop stateSize bs) (numbers-reader (numbersIn stateCount bs) (omega (arith, length-numbers stateCount bs)) are-state)
       ∙ ap (λ l. l ++ drop stateSize bs) (written-numbers stateCount bs f (held-long bs e))
       ∙ take-append-drop stateSize bs
+
+  pub read-put : statePut (stateIn bs) bs ≡ bs
+  read-put = put-is (stateIn bs) bs counts-read (held-long bs e) ∙ written-read

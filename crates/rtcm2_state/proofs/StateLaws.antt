@@ -56,26 +56,24 @@ pub read-none : (bs : List ℕ) → holdsState bs ≡ false → stateIn bs ≡ s
 unfolding stateIn
 read-none bs e = rw e
 
-pub read-held : (bs : List ℕ) → holdsState bs ≡ true → {end held words at waits ended odd even : ℕ} {cells : List ℕ}
+pub read-is : (bs : List ℕ) → holdsState bs ≡ true → stateIn bs ≡ readerOf (numbersIn stateCount bs)
+unfolding stateIn
+read-is bs e = rw e
+
+-- the counts, each as it is read
+pub read-counts : (bs : List ℕ) {end held words at waits odd even : ℕ}
     → end ≡ numberIn (take 4 (drop 4 bs)) → held ≡ numberIn (take 4 (drop 8 bs)) → words ≡ numberIn (take 4 (drop 12 bs)) → at ≡ numberIn (take 4 (drop 16 bs))
-    → waits ≡ numberIn (take 4 (drop 20 bs)) → ended ≡ numberIn (take 4 (drop 24 bs))
-    → odd ≡ numberIn (take 4 (drop 28 bs)) → even ≡ numberIn (take 4 (drop 32 bs)) → cells ≡ numbersIn 40 (drop startSize bs)
-    → _≡_ {A = Reader} (record {
-      cells = cells;
-      candidate = record { end = end; held = held; words = words; at = at; waits = eqb waits 1; tally = record { odd = odd; even = even } };
-      ended = eqb ended 1;
-    }) (stateIn bs)
-unfolding stateIn readerOf
-read-held bs e e₁ e₂ e₃ e₄ e₅ e₆ e₇ e₈ e₉ =
+    → waits ≡ numberIn (take 4 (drop 20 bs)) → odd ≡ numberIn (take 4 (drop 28 bs)) → even ≡ numberIn (take 4 (drop 32 bs))
+    → _≡_ {A = Candidate} (record { end = end; held = held; words = words; at = at; waits = eqb waits 1; tally = record { odd = odd; even = even } })
+    (readerOf (numbersIn stateCount bs) .candidate)
+unfolding readerOf
+read-counts bs e₁ e₂ e₃ e₄ e₅ e₆ e₇ =
     rw (
-      e,
-      numbers-from stateCount 40 9 bs (omega arith),
       number-of stateCount 1 bs (omega arith),
       number-of stateCount 2 bs (omega arith),
       number-of stateCount 3 bs (omega arith),
       number-of stateCount 4 bs (omega arith),
       number-of stateCount 5 bs (omega arith),
-      number-of stateCount 6 bs (omega arith),
       number-of stateCount 7 bs (omega arith),
       number-of stateCount 8 bs (omega arith),
       e₁,
@@ -85,9 +83,14 @@ read-held bs e e₁ e₂ e₃ e₄ e₅ e₆ e₇ e₈ e₉ =
       e₅,
       e₆,
       e₇,
-      e₈,
-      e₉,
     )
+
+-- the whole of it, each part as it is read
+pub read-held : (bs : List ℕ) → holdsState bs ≡ true → {cells : List ℕ} {c : Candidate} {ended : Bool}
+    → cells ≡ numbersIn 40 (drop startSize bs) → c ≡ readerOf (numbersIn stateCount bs) .candidate → ended ≡ readerOf (numbersIn stateCount bs) .ended
+    → _≡_ {A = Reader} (record { cells = cells; candidate = c; ended = ended }) (stateIn bs)
+unfolding readerOf
+read-held bs e e₁ e₂ e₃ = rw (read-is bs e, numbers-from stateCount 40 9 bs (omega arith), e₁, e₂, e₃)
 
 -- ---- what is put
 

@@ -1,4 +1,5 @@
 // A reader's state as bytes that a caller lends: 49 numbers of four bytes each, low byte first.
+pub mod hold;
 mod number;
 
 ghost use mathlib.Core.Path.{_≡_};
@@ -7,7 +8,8 @@ ghost use lib.ListN.{length, drop};
 ghost use lib.Seq.{sets};
 ghost use Rattle.bits.specs.Bits.{val};
 ghost use Rattle.rtcm2_state.specs.Numbers.{numbersWritten, numbersIn};
-ghost use Rattle.rtcm2_state.specs.State.{startSize, stateSize, countsOf, tallyOf, startOf, holdsState, stateIn, tooWide, storedBy, startPut, statePut};
+ghost use Rattle.rtcm2_state.specs.State.{startSize, stateSize, stateCount, countsOf, tallyOf, startOf, readerOf, holdsState, stateIn, tooWide};
+ghost use Rattle.rtcm2_state.specs.State.{storedBy, startPut, statePut};
 use crate::number::number_at;
 use crate::number::put_number;
 use crate::number::wide;
@@ -22,7 +24,7 @@ pub enum Stored {
 }
 
 // Where the cells start: past nine numbers of four bytes.
-const CELLS: usize = 4 * 9;
+pub(crate) const CELLS: usize = 4 * 9;
 
 // How many bytes a state takes.
 pub const SIZE: usize = CELLS + 4 * 40;
@@ -62,6 +64,47 @@ fn cells_in(bytes: &[u8]) -> [u32; 40]
     cells
 }
 
+// The counts that the first bytes of a state are.
+pub(crate) fn candidate_at(bytes: &[u8]) -> Candidate
+    requires { ⌜ stateSize ≤ length (now bytes) ⌝ }
+    ensures { λ r. ⌜ r ≡ readerOf (numbersIn stateCount (now (bytes .entry))) .candidate ⌝ }
+{
+    let end = number_at(4, bytes);
+    let held = number_at(8, bytes);
+    let words = number_at(12, bytes);
+    let at = number_at(16, bytes);
+    let waits = number_at(20, bytes);
+    let odd = number_at(28, bytes);
+    let even = number_at(32, bytes);
+    Candidate {
+        end: wide(end),
+        held: wide(held),
+        words: wide(words),
+        at,
+        waits: waits == 1,
+        tally: Tally { odd, even },
+    }
+}
+
+// Whether the input of such a state has ended.
+pub(crate) fn ended_at(bytes: &[u8]) -> bool
+    requires { ⌜ stateSize ≤ length (now bytes) ⌝ }
+    ensures { λ r. ⌜ r ≡ readerOf (numbersIn stateCount (now (bytes .entry))) .ended ⌝ }
+{
+    number_at(24, bytes) == 1
+}
+
+// The counts of the reader whose state the bytes hold, or of a fresh one where they hold none.
+pub fn candidate_in(bytes: &[u8]) -> Candidate
+    ensures { λ r. ⌜ r ≡ stateIn (now (bytes .entry)) .candidate ⌝ }
+{
+    if !holds_state(bytes) {
+        let fresh = reader::new();
+        return fresh.candidate;
+    }
+    candidate_at(bytes)
+}
+
 // The reader whose state the bytes hold, or a fresh one where they hold none.
 pub fn state_in(bytes: &[u8]) -> Reader
     ensures { λ r. ⌜ r ≡ stateIn (now (bytes .entry)) ⌝ }
@@ -69,26 +112,12 @@ pub fn state_in(bytes: &[u8]) -> Reader
     if !holds_state(bytes) {
         return reader::new();
     }
-    let end = number_at(4, bytes);
-    let held = number_at(8, bytes);
-    let words = number_at(12, bytes);
-    let at = number_at(16, bytes);
-    let waits = number_at(20, bytes);
-    let ended = number_at(24, bytes);
-    let odd = number_at(28, bytes);
-    let even = number_at(32, bytes);
     let cells = cells_in(bytes);
+    let candidate = candidate_at(bytes);
     Reader {
         cells,
-        candidate: Candidate {
-            end: wide(end),
-            held: wide(held),
-            words: wide(words),
-            at,
-            waits: waits == 1,
-            tally: Tally { odd, even },
-        },
-        ended: ended == 1,
+        candidate,
+        ended: ended_at(bytes),
     }
 }
 

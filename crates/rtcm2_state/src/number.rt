@@ -19,6 +19,13 @@ pub(crate) fn wide(x: u32) -> usize
     x as usize
 }
 
+// A number as a wider one, to put bits beside it.
+pub(crate) fn wider(x: u32) -> u64
+    ensures { λ r. ⌜ (r ≡ x) × (r < 4294967296) ⌝ }
+{
+    x as u64
+}
+
 // The number whose four bytes stand from `at` on.
 pub(crate) fn number_at(at: usize, bytes: &[u8]) -> u32
     requires { ⌜ at + 4 ≤ length (now bytes) ⌝ }

@@ -1,16 +1,11 @@
--- `keep` meets its contract: the refusals in the order of the definition, then the record. Assumes nothing.
-use mathlib.Core.Path.{_≡_, sym, ap, _∙_}
+-- `keep` meets its contract: 5 for a frame outside its widths, else as putting. Assumes nothing.
+use mathlib.Core.Path.{_≡_, sym, _∙_}
 use mathlib.Core.Bool.{false}
-use Prim.Native.Nat.{_≤_}
-use native.Mathlib.Omega.{arith}
-use lib.ListN.{length}
-use lib.Seq.{sets}
 use denote.Ref.{now}
 use borrow.Author.Needs.{needs}
 use Rattle.frame.specs.Widths.{outside}
 use Rattle.frame.proofs.WidthLaws.{told-outside, told-within}
-use Rattle.frame.proofs.FrameLaws.{n-within}
-use Rattle.journal.proofs.KeepLaws.{keep-outside, words-refused, keep-short, keep-whole, record-written}
+use Rattle.journal.proofs.KeepLaws.{keep-outside, keep-within}
 use Rattle.journal.proofs.keep.Statement.{statement}
 use Rattle.journal.proofs.keep.Tie as tie
 
@@ -20,58 +15,22 @@ returns c =
     keep-outside (s .args .frame) (now (s .args .buffer))
     (told-outside (outside (s .args .frame)) (sym (c .enum-told2 .given .1) ∙ c .before .before .frame-widths .ensures))
 
--- past the first refusal the frame is within its widths
+-- past the refusal the frame is within its widths
 abbrev entry : tie.After-enum-told → tie.Start
 entry c = c .before .before .before .before
 
 within : (c : tie.After-enum-told) → outside (entry c .args .frame) ≡ false
 within c = told-within (outside (entry c .args .frame)) (sym (c .enum-told .given .1) ∙ c .before .before .frame-widths .ensures)
 
-full : (c : tie.Start) → length (c .args .frame .words) ≡ 31
-full c = search needs
-
-few : (c : tie.After-enum-told) → entry c .args .frame .n ≤ 31
-few c = n-within (entry c .args .frame) (within c)
-
 returns-2 : tie.Need-returns-2
 returns-2 c =
-    let w = c .before .before in
-    let g = w .before .before in
-    absurd (words-refused (entry g .args .frame) (within g) (sym (w .header-words .ensures) ∙ c .enum-told3 .given .1))
-
-mul-length : tie.Need-mul-length
-mul-length c = omega (arith, few (c .before .before .before .before .before))
-
-add-length : tie.Need-add-length
-add-length c = omega (arith, few (c .before .before .before .before .before))
-
-returns-3 : tie.Need-returns-3
-returns-3 c =
-    let asked = c .before .before .before .before in
-    let g = asked .before .before in
-    keep-short (entry g .args .frame) (now (entry g .args .buffer)) (within g) (c .if1 .taken)
-
-put-record-requires : tie.Need-put-record-requires
-put-record-requires c κs =
-    let room = c .before .before .before in
-    let asked = room .before .before .before .before in
-    let g = asked .before .before in
-    (full (entry g), few g, search needs)
-
-returns-4 : tie.Need-returns-4
-returns-4 c =
     let p = c .before .before in
-    let h = p .before .before .before .before in
-    let w = h .before .before .before .before in
-    let g = w .before .before in
+    let g = p .before .before in
     let a = entry g .args in
-    keep-whole (a .frame) (now (a .buffer)) (within g) (full (entry g)) (h .if1 .left)
-    (p .put-record .ensures
-    ∙ ap (sets (now (a .buffer)) 0) (record-written (a .frame) (within g) (sym (w .header-words .ensures) ∙ h .before .before .first .given .1)))
+    let e = keep-within (a .frame) (now (a .buffer)) (within g) in
+    (p .put-frame .ensures .0 ∙ e .0, p .put-frame .ensures .1 ∙ e .1)
 
 pub keep-spec : {M : Type 1} → statement M
 keep-spec =
     tie.close
-    (tie.spec (λ c κs. search needs) (λ c. search needs) (λ c. search needs) returns (λ c κs. search needs)
-    (λ c. search needs) (λ c. search needs) returns-2 mul-length add-length returns-3 put-record-requires
-    (λ c. search needs) returns-4)
+    (tie.spec (λ c κs. search needs) (λ c. search needs) (λ c. search needs) returns (λ c κs. search needs) (λ c. search needs) returns-2)
