@@ -108,6 +108,7 @@ carries-its-number = record {
   make-text = λ h t. told saysMade refusedMade _ _ refl refl refl;
   write = λ f c buffer. told saysWritten written.Refused _ _ refl refl refl;
   writer-open = λ buffer. told saysOpened opened.Refused _ _ refl refl refl;
+  put-frame = λ f buffer. told saysKept kept.Refused _ _ refl refl refl;
   keep = λ f buffer. told saysKept kept.Refused _ _ refl refl refl;
   recall = λ bs. told saysRecalled refusedRecall _ _ refl refl refl;
   six-of = λ b. told saysSix six.Refused _ _ refl refl refl;

@@ -70,6 +70,7 @@ changes-neither = record {
   reader-take = λ r. keeps (carries-its-number .reader-take r) (λ (x : Taken). x .reader) (taken-none r) _ _ (λ n. refl);
   writer-open = λ buffer. keeps (carries-its-number .writer-open buffer) (λ b. b) (λ n. buffer) _ _ (λ n. refl);
   write = λ f c buffer. keeps (carries-its-number .write f c buffer) (λ b. b) (λ n. buffer) _ _ (λ n. refl);
+  put-frame = λ f buffer. keeps (carries-its-number .put-frame f buffer) (λ b. b) (λ n. buffer) _ _ (λ n. refl);
   keep = λ f buffer. keeps (carries-its-number .keep f buffer) (λ b. b) (λ n. buffer) _ _ (λ n. refl);
   read-text = λ f buffer. keeps (carries-its-number .read-text f buffer) (λ b. b) (λ n. buffer) _ _ (λ n. refl);
   print = λ text place buffer. keeps (carries-its-number .print text place buffer) (λ b. b) (λ n. buffer) _ _ (λ n. refl);

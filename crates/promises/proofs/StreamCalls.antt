@@ -13,8 +13,10 @@ stream-calls = record {
   feed-all = record { asks-nothing = λ κs a. tt; settles = λ κs a z e p. p; ends = reader.feed_all.Met.met };
   reader-end = record { asks-nothing = λ κs a. tt; settles = λ κs a z e p. p; ends = reader.end.Met.met };
   reader-take = record { asks-nothing = λ κs a. tt; settles = λ κs a z e p. p; ends = reader.take.Met.met };
+  past = record { asks-nothing = λ κs a. tt; settles = λ κs a z e p. p; ends = reader.checks.past.Met.met };
   writer-open = record { asks-nothing = λ κs a. tt; settles = λ κs a z e p. p .0; leaves = λ κs a z e p. p .1; ends = writer.open.Met.met };
   write = record { asks-nothing = λ κs a. tt; settles = λ κs a z e p. p .0; leaves = λ κs a z e p. p .1; ends = writer.write.Met.met };
+  put-frame = record { asks-nothing = λ κs a. tt; settles = λ κs a z e p. p .0; leaves = λ κs a z e p. p .1; ends = journal.put_frame.Met.met };
   keep = record { asks-nothing = λ κs a. tt; settles = λ κs a z e p. p .0; leaves = λ κs a z e p. p .1; ends = journal.keep.Met.met };
   recall = record { asks-nothing = λ κs a. tt; settles = λ κs a z e p. p; ends = journal.recall.Met.met };
   put-number = record { asks-nothing = λ κs a. tt; settles = λ κs a z e p. p .0; leaves = λ κs a z e p. p .1; ends = printing.put_number.Met.met };

@@ -25,7 +25,7 @@ use Rattle.reader.specs.Reading.{past, frameWaits, busy, fedBy, fedAllBy, ended
 use Rattle.reader.specs.declared.Reader.{Reader}
 use Rattle.writer.specs.Answer.{openChecks, openedBy, writeChecks, writtenBy, saysOpened, saysWritten}
 use Rattle.frame.specs.declared.Carried.{Carried}
-use Rattle.journal.specs.Journal.{keepOrder, keptBy, recallOrder, recalledBy, saysKept, saysRecalled}
+use Rattle.journal.specs.Journal.{recordOrder, recordedBy, keepOrder, keptBy, recallOrder, recalledBy, saysKept, saysRecalled}
 use Rattle.record_fields.specs.declared.Rows.{Rows}
 use Rattle.record_stages.specs.Stages.{wrongCount, otherLayout, misfit, wrongSize, askedOf, countIn, placeBy, sizeOf, entryRefusal, madeBy}
 use Rattle.record_stages.specs.Stages.{readOrder, entryOrder, makeOrder, madeOrder, saysAsked, saysSize, saysCount, saysPlace, saysMade}
@@ -111,6 +111,7 @@ pub record CarriesItsNumber : Type 0 where
       → Ordered (5 ∷ 5 ∷ 5 ∷ 7 ∷ 13 ∷ []) (writeChecks f c buffer) (saysWritten (writtenBy f c buffer))
   pub writer-open : (buffer : List ℕ) → Ordered (13 ∷ []) (openChecks buffer) (saysOpened (openedBy buffer))
   -- writing to the journal: 5, 13; reading from it: 14; 15, no byte for N; 16, N above 31; 15, words missing; 16, another N in word 2; 16, no preamble
+  pub put-frame : (f : Frame) (buffer : List ℕ) → Ordered (5 ∷ 5 ∷ 13 ∷ []) (recordOrder f buffer) (saysKept (recordedBy f buffer))
   pub keep : (f : Frame) (buffer : List ℕ) → Ordered (5 ∷ 13 ∷ []) (keepOrder f buffer) (saysKept (keptBy f buffer))
   pub recall : (bs : List ℕ) → Ordered (14 ∷ 15 ∷ 16 ∷ 15 ∷ 16 ∷ 16 ∷ []) (recallOrder bs) (saysRecalled (recalledBy bs))
   -- the parts: a byte, a word, a header, a frame, a layout asked for, a count, an entry's place, an N, a frame of rows

@@ -14,7 +14,7 @@ use Rattle.reader.specs.Reading.{fedBy, fedAllBy, endedBy, takenBy, saysAnswer}
 use Rattle.reader.specs.declared.Reader.{Reader}
 use Rattle.writer.specs.Answer.{openedBy, openedTo, writtenBy, writtenTo, saysOpened, saysWritten}
 use Rattle.frame.specs.declared.Carried.{Carried}
-use Rattle.journal.specs.Journal.{keptBy, heldBy, recalledBy, saysKept, saysRecalled}
+use Rattle.journal.specs.Journal.{recordedBy, recordedTo, keptBy, heldBy, recalledBy, saysKept, saysRecalled}
 use Rattle.record_stages.specs.Stages.{saysCount, saysMade}
 use Rattle.record_corrections.specs.Corrections.{makeCorrections}
 use Rattle.record_healths.specs.Healths.{makeHealths}
@@ -39,6 +39,7 @@ pub record ChangesNeither : Type 0 where
   pub reader-take : (r : Reader) → Keeps (saysAnswer (takenBy r .answer)) (takenBy r .reader) r
   pub writer-open : (buffer : List ℕ) → Keeps (saysOpened (openedBy buffer)) (openedTo buffer) buffer
   pub write : (f : Frame) (c : Carried) (buffer : List ℕ) → Keeps (saysWritten (writtenBy f c buffer)) (writtenTo f c buffer) buffer
+  pub put-frame : (f : Frame) (buffer : List ℕ) → Keeps (saysKept (recordedBy f buffer)) (recordedTo f buffer) buffer
   pub keep : (f : Frame) (buffer : List ℕ) → Keeps (saysKept (keptBy f buffer)) (heldBy f buffer) buffer
   pub read-text : (f : Frame) (buffer : List ℕ) → Keeps (saysCount (readText f buffer)) (bufferAfter f buffer) buffer
   pub print : (text : List ℕ) (place : ℕ) (buffer : List ℕ) → Keeps (saysPrinted (printedBy text place buffer)) (printedTo text place buffer) buffer

@@ -2,9 +2,9 @@
 use mathlib.Core.List.{_++_}
 use lib.ListN.{length}
 use denote.Ref.{now}
-use Rattle.reader.specs.Reading.{started, fedBy, fedAllBy, endedBy, takenBy}
+use Rattle.reader.specs.Reading.{started, pastOf, fedBy, fedAllBy, endedBy, takenBy}
 use Rattle.writer.specs.Answer.{openedBy, openedTo, writtenBy, writtenTo}
-use Rattle.journal.specs.Journal.{keptBy, heldBy, recalledBy}
+use Rattle.journal.specs.Journal.{recordedBy, recordedTo, keptBy, heldBy, recalledBy}
 use Rattle.printing.specs.Printing.{decimal, printedBy, printedTo}
 use Rattle.listing.specs.Listing.{begun, pieceBy, pieceText, finishBy, finishText}
 use Rattle.reader.proofs.new as reader-new
@@ -12,8 +12,10 @@ use Rattle.reader.proofs.feed
 use Rattle.reader.proofs.feed_all
 use Rattle.reader.proofs.end as reader-end
 use Rattle.reader.proofs.take as reader-take
+use Rattle.reader.proofs.checks.past
 use Rattle.writer.proofs.open as writer-open
 use Rattle.writer.proofs.write
+use Rattle.journal.proofs.put_frame
 use Rattle.journal.proofs.keep
 use Rattle.journal.proofs.recall
 use Rattle.printing.proofs.put_number
@@ -35,6 +37,8 @@ pub record StreamCalls : Type 2 where
       (λ κs (reader, _). endedBy reader)
   pub reader-take : Answered reader-take.Reads.Asked reader-take.Reads.Learnt reader-take.Statement.statement
       (λ κs (reader, _). takenBy reader)
+  pub past : Answered past.Reads.Asked past.Reads.Learnt past.Statement.statement
+      (λ κs (c, _). pastOf c)
   -- writer
   pub writer-open : AnsweredLent writer-open.Reads.Asked writer-open.Reads.Learnt writer-open.Statement.statement
       (λ κs (buffer, _). openedBy (now buffer))
@@ -43,6 +47,9 @@ pub record StreamCalls : Type 2 where
       (λ κs (frame, (carried, (buffer, _))). writtenBy frame carried (now buffer))
       (λ κs (_, (_, (buffer, _))). now buffer) (λ κs (frame, (carried, (buffer, _))). writtenTo frame carried (now buffer))
   -- journal
+  pub put-frame : AnsweredLent put_frame.Reads.Asked put_frame.Reads.Learnt put_frame.Statement.statement
+      (λ κs (frame, (buffer, _)). recordedBy frame (now buffer))
+      (λ κs (_, (buffer, _)). now buffer) (λ κs (frame, (buffer, _)). recordedTo frame (now buffer))
   pub keep : AnsweredLent keep.Reads.Asked keep.Reads.Learnt keep.Statement.statement
       (λ κs (frame, (buffer, _)). keptBy frame (now buffer))
       (λ κs (_, (buffer, _)). now buffer) (λ κs (frame, (buffer, _)). heldBy frame (now buffer))

@@ -9,6 +9,8 @@ pub library-calls : LibraryCalls
 library-calls = record {
   holds-state = record { asks-nothing = λ κs a. tt; settles = λ κs a z e p. p; ends = rtcm2_state.holds_state.Met.met };
   state-in = record { asks-nothing = λ κs a. tt; settles = λ κs a z e p. p; ends = rtcm2_state.state_in.Met.met };
+  candidate-in = record { asks-nothing = λ κs a. tt; settles = λ κs a z e p. p; ends = rtcm2_state.candidate_in.Met.met };
+  hold = record { asks-nothing = λ κs a. tt; settles = λ κs a z e p. p .0; leaves = λ κs a z e p. p .1; ends = rtcm2_state.hold.hold.Met.met };
   put-start = record { asks-nothing = λ κs a. tt; settles = λ κs a z e p. p .0; leaves = λ κs a z e p. p .1; ends = rtcm2_state.put_start.Met.met };
   put-state = record { asks-nothing = λ κs a. tt; settles = λ κs a z e p. p .0; leaves = λ κs a z e p. p .1; ends = rtcm2_state.put_state.Met.met };
   count-of = record { asks-nothing = λ κs a. tt; settles = λ κs a z e p. p; ends = rtcm2_rows.row.count_of.Met.met };

@@ -1,10 +1,13 @@
 -- DEMAND 1 of the library for C and Rust, call by call: states and entries as bytes, and the functions of the library. Assumes nothing.
+use mathlib.Core.Bool.{cond}
 use mathlib.Core.List.{List}
 use Prim.Native.Nat.{ℕ}
 use lib.IntN.{ℤ}
 use denote.Ref.{now}
 use Rattle.bits.specs.Bits.{val}
 use Rattle.frame.specs.declared.System.the-variants.{Gps}
+use Rattle.reader.specs.Reading.{fedBy}
+use Rattle.rtcm2_state.specs.Holding.{quietIn}
 use Rattle.rtcm2_state.specs.State.{stateSize, holdsState, stateIn, storedBy, startPut, statePut}
 use Rattle.rtcm2_rows.specs.Rows.{countOf, entriesFrom, putBy, rowAfter}
 use Rattle.rtcm2.specs.Answer.{numberOf, left}
@@ -32,6 +35,8 @@ use Rattle.rtcm2.specs.Nulls as nulls
 use Rattle.rtcm2.specs.Texts as texts
 use Rattle.rtcm2_state.proofs.holds_state
 use Rattle.rtcm2_state.proofs.state_in
+use Rattle.rtcm2_state.proofs.candidate_in
+use Rattle.rtcm2_state.proofs.hold.hold
 use Rattle.rtcm2_state.proofs.put_start
 use Rattle.rtcm2_state.proofs.put_state
 use Rattle.rtcm2_rows.proofs.row.count_of
@@ -77,6 +82,12 @@ pub record LibraryCalls : Type 2 where
       (λ κs (bytes, _). holdsState (now bytes))
   pub state-in : Answered state_in.Reads.Asked state_in.Reads.Learnt state_in.Statement.statement
       (λ κs (bytes, _). stateIn (now bytes))
+  pub candidate-in : Answered candidate_in.Reads.Asked candidate_in.Reads.Learnt candidate_in.Statement.statement
+      (λ κs (bytes, _). stateIn (now bytes) .candidate)
+  pub hold : AnsweredLent hold.Reads.Asked hold.Reads.Learnt hold.Statement.statement
+      (λ κs (byte, (bytes, _)). quietIn (now bytes) byte)
+      (λ κs (_, (bytes, _)). now bytes)
+      (λ κs (byte, (bytes, _)). cond (quietIn (now bytes) byte) (statePut (fedBy (stateIn (now bytes)) byte .reader) (now bytes)) (now bytes))
   pub put-start : AnsweredLent put_start.Reads.Asked put_start.Reads.Learnt put_start.Statement.statement
       (λ κs (c, (_, (bytes, _))). storedBy c (now bytes))
       (λ κs (_, (_, (bytes, _))). now bytes) (λ κs (c, (ended, (bytes, _))). startPut c ended (now bytes))
