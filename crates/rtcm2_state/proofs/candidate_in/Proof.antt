@@ -15,11 +15,11 @@ returns c =
     let fresh = c .before in
     let h = fresh .before .before in
     ap (λ (r : Reader). r .candidate)
-    (fresh .new .ensures ∙ sym (read-none (now (h .before .before .args .bytes)) (sym (h .holds-state .ensures) ∙ not-true _ (fresh .before .if1 .taken))))
+    (fresh .new .ensures ∙ sym (read-none (now (h .before .before .args .bytes)) (sym (h .holds-state .ensures) ∙ not-true (h .holds-state .result) (fresh .before .if1 .taken))))
 
 -- past the test a state is held
 held : (c : tie.Else1) → holdsState (now (c .before .before .before .args .bytes)) ≡ true
-held c = sym (c .before .holds-state .ensures) ∙ not-false _ (c .if1 .left)
+held c = sym (c .before .holds-state .ensures) ∙ not-false (c .before .holds-state .result) (c .if1 .left)
 
 returns-2 : tie.Need-returns-2
 returns-2 c =

@@ -50,7 +50,7 @@ returns-2 : tie.Need-returns-2
 returns-2 c =
     let q = c .before in
     let a = start (past q) .args in
-    not-quiet (now (a .bytes)) (a .byte) (held (past q)) (sym (asked q) ∙ not-true _ (c .if2 .taken))
+    not-quiet (now (a .bytes)) (a .byte) (held (past q)) (sym (asked q) ∙ not-true (q .quiet .result) (c .if2 .taken))
 
 returns-3 : tie.Need-returns-3
 returns-3 c =
@@ -61,7 +61,7 @@ returns-3 c =
 -- past all tests
 quiet : (c : tie.Else2)
     → quietOf (stateIn (now (start (past (c .before)) .args .bytes)) .candidate) (stateIn (now (start (past (c .before)) .args .bytes)) .ended) ≡ true
-quiet c = sym (asked (c .before)) ∙ not-false _ (c .if2 .left)
+quiet c = sym (asked (c .before)) ∙ not-false (c .before .quiet .result) (c .if2 .left)
 
 put-six-requires : tie.Need-put-six-requires
 put-six-requires c κs =
