@@ -50,7 +50,8 @@ enum {
     RTCM2_TOO_SHORT = 13,     /* lent buffer too short */
     RTCM2_NO_MARK = 14,       /* the bytes do not begin with the journal mark */
     RTCM2_CUT_SHORT = 15,     /* journal record cut short */
-    RTCM2_BAD_RECORD = 16     /* N of a journal record over 31 or not that of word 2, or its preamble wrong */
+    RTCM2_BAD_RECORD = 16,    /* N of a journal record over 31 or not that of word 2, or its preamble wrong */
+    RTCM2_BROKEN = 17         /* a kept word fails parity, or its carried bits are not the last two of the word before */
 };
 
 /* Sizes in bytes. */
@@ -58,6 +59,7 @@ enum {
     RTCM2_STATE_SIZE = 196,     /* a reader's state; rtcm2_state_size answers the same */
     RTCM2_FRAME_MAX = 102,      /* the longest frame, 31 data words */
     RTCM2_LINE_MAX = 165,       /* the longest frame on the line */
+    RTCM2_WORDS_MAX = 135,      /* the longest record that keeps the words */
     RTCM2_CORRECTION_SIZE = 7,  /* one correction */
     RTCM2_HEALTH_SIZE = 10,     /* one satellite's health */
     RTCM2_TEXT_MAX = 90         /* the longest text */
@@ -118,6 +120,21 @@ uint8_t rtcm2_keep(uint8_t type, uint16_t station, uint16_t z, uint8_t sequence,
  * tenth on. Refusals: 14, 15, 16, 15, 16. */
 uint8_t rtcm2_recall(const uint8_t *frame, size_t frame_size, uint8_t *type, uint16_t *station, uint16_t *z, uint8_t *sequence,
                      uint8_t *health, uint8_t *n, size_t *length);
+
+/* ---- The journal that keeps the words. A record is the mark 0x52 0x34, one byte N, then each of the N + 2 words in four bytes:
+ * the two carried bits before it and its thirty bits, the first sent highest; 4N + 11 bytes, at most RTCM2_WORDS_MAX. */
+
+/* Keeps the words of a frame, which start from the two carried bits (as rtcm2_take gives them; 0 and 0 for a frame that was
+ * kept without): `length` bytes at the start of `words`. Refusals: 14, 15, 16, 15, 16 of `frame`, then 5 (a carried bit not 0
+ * or 1), 13. */
+uint8_t rtcm2_keep_words(const uint8_t *frame, size_t frame_size, uint8_t d29, uint8_t d30, uint8_t *words, size_t words_size,
+                         size_t *length);
+
+/* Recalls the record at the start of `words`, of which `read` bytes are used; what follows is ignored. Its frame goes to the
+ * start of `frame`, `length` bytes, its two carried bits to `d29` and `d30`. Refusals: 14, 15, 16, 15, 16, 17 of `words`, then
+ * 13. */
+uint8_t rtcm2_recall_words(const uint8_t *words, size_t words_size, uint8_t *frame, size_t frame_size, uint8_t *d29, uint8_t *d30,
+                           size_t *read, size_t *length);
 
 /* ---- Corrections, types 1, 9, 31 and 34. A correction is RTCM2_CORRECTION_SIZE bytes: scale 0 to 1, UDRE 0 to 3, satellite 1 to
  * 32, PRC in two bytes (two's complement, low byte first), RRC (two's complement), and a last byte. This is IOD in types 1 and 9;

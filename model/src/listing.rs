@@ -6,10 +6,12 @@ use crate::line::{bits_of_bytes, is_data_byte};
 use crate::reader::Reader;
 use crate::refusal::{Answer, Refusal};
 use crate::scan::{faults, odd_and_even, scan};
+use std::fmt::Display;
 use std::io::{self, Read, Write};
 
-/// The line of a frame: its first bit position, its numbers, the two bits before it.
-fn frame_line(position: u32, frame: &Frame) -> String {
+/// The line of a frame: its first bit position, or where else it stands, its numbers,
+/// the two bits before it.
+pub fn frame_line(position: impl Display, frame: &Frame) -> String {
     let header = &frame.header;
     format!(
         "{} {} {} {} {} {} {} {}{}\n",

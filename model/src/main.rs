@@ -1,15 +1,15 @@
-//! The model's program: makes the trials and the examples' files and checks them,
-//! and lists a stream from standard input.
+//! The model's program: makes the trials, the journals and the examples' files,
+//! checks the trials, and lists a stream from standard input.
 
 use rtcm2_model::trials::{self, File};
-use rtcm2_model::{example, listing, streams};
+use rtcm2_model::{example, journals, listing, streams};
 use std::fs;
 use std::io::{self, BufWriter, Read};
 use std::path::Path;
 use std::process::ExitCode;
 
 const USAGE: &str =
-    "usage: rtcm2-model trials DIR | check DIR | long DIR | example DIR | corrections | list";
+    "usage: rtcm2-model trials DIR | check DIR | long DIR | journals DIR | example DIR | corrections | list";
 
 fn main() -> ExitCode {
     let arguments: Vec<String> = std::env::args().skip(1).collect();
@@ -18,6 +18,7 @@ fn main() -> ExitCode {
         ["trials", dir] => write_trials(Path::new(dir)),
         ["check", dir] => check_trials(Path::new(dir)),
         ["long", dir] => write_long(Path::new(dir)),
+        ["journals", dir] => write_journals(Path::new(dir)),
         ["example", dir] => write_example(Path::new(dir)),
         ["corrections"] => corrections(),
         ["list"] => list(),
@@ -61,6 +62,14 @@ fn write_long(dir: &Path) -> io::Result<bool> {
     let stream = streams::long();
     fs::write(dir.join("long.bin"), &stream.bytes)?;
     fs::write(dir.join("long.txt"), stream.expected())?;
+    Ok(true)
+}
+
+/// Writes a line, journals, and what the programs on journals must make of them.
+fn write_journals(dir: &Path) -> io::Result<bool> {
+    for file in journals::files() {
+        fs::write(dir.join(&file.path), &file.bytes)?;
+    }
     Ok(true)
 }
 

@@ -1,4 +1,4 @@
-//! The sixteen refusal numbers of the rules' table.
+//! The refusal numbers of the rules' table.
 
 /// Why a call was refused; the discriminant is the rules' number.
 #[derive(Clone, Copy, Debug, PartialEq, Eq)]
@@ -36,6 +36,9 @@ pub enum Refusal {
     RecordCutShort = 15,
     /// N of a journal record over 31 or not that of word 2, or its preamble wrong.
     JournalHeader = 16,
+    /// A word kept in a journal fails parity, or its carried bits do not repeat the
+    /// word before.
+    BrokenWord = 17,
 }
 
 impl Refusal {

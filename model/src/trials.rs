@@ -58,7 +58,8 @@ fn value(unit: &str, answer: Answer<impl Into<u16>>) -> String {
     }
 }
 
-fn file(path: &str, bytes: Vec<u8>) -> File {
+/// A file of these bytes.
+pub fn file(path: &str, bytes: Vec<u8>) -> File {
     File {
         path: path.to_string(),
         bytes,

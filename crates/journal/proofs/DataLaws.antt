@@ -2,7 +2,7 @@
 use mathlib.Core.Path.{_≡_, sym, ap, ap₂, _∙_}
 use mathlib.Core.Bool.{true, false}
 use mathlib.Core.List.{List, _∷_, _++_}
-use Prim.Native.Nat.{ℕ, suc, _-_}
+use Prim.Native.Nat.{ℕ, suc, _+_, _-_}
 use lib.ListN.{length, take, drop, replicate}
 use lib.Seq.{drop-drop}
 use borrow.Author.Tests.{eq-eqb, ne-eqb}
@@ -12,18 +12,18 @@ use Rattle.frame.specs.Frames.{builtOf, framed, frameOf}
 use Rattle.journal.specs.Bytes.{wordIn, wordsFrom}
 use Rattle.journal.specs.Journal.{refusedRecall, recalled, frameIn}
 
--- word 1 from byte 3, word 2 from byte 6, the data words from byte 9
-words-at : (n : ℕ) (bs : List ℕ)
-    → wordsFrom 3 (suc (suc n)) (drop 3 bs) ≡ wordIn (take 3 (drop 3 bs)) ∷ wordIn (take 3 (drop 6 bs)) ∷ wordsFrom 3 n (drop 9 bs)
+-- word 1 from byte 3, word 2 behind it, then the data words
+pub words-at : (k n : ℕ) (bs : List ℕ)
+    → wordsFrom k (suc (suc n)) (drop 3 bs) ≡ wordIn (take k (drop 3 bs)) ∷ wordIn (take k (drop (3 + k) bs)) ∷ wordsFrom k n (drop (3 + k + k) bs)
 unfolding wordsFrom
-words-at n bs =
-    ap (λ ws. wordIn (take 3 (drop 3 bs)) ∷ ws)
-    (ap₂ (λ l m. wordIn (take 3 l) ∷ wordsFrom 3 n m) (drop-drop 3 3 bs) (ap (drop 3) (drop-drop 3 3 bs) ∙ drop-drop 3 6 bs))
+words-at k n bs =
+    ap (λ ws. wordIn (take k (drop 3 bs)) ∷ ws)
+    (ap₂ (λ l m. wordIn (take k l) ∷ wordsFrom k n m) (drop-drop k 3 bs) (ap (drop k) (drop-drop k 3 bs) ∙ drop-drop k (3 + k) bs))
 
 -- the last number of the order, by word 1 and word 2 as they are read
 module _ (n : ℕ) (bs : List ℕ) {first second : ℕ} (e₁ : first ≡ wordIn (take 3 (drop 3 bs))) (e₂ : second ≡ wordIn (take 3 (drop 6 bs))) where
   frame-at : frameIn n (wordsFrom 3 (suc (suc n)) (drop 3 bs)) ≡ frameIn n (first ∷ second ∷ wordsFrom 3 n (drop 9 bs))
-  frame-at = ap (frameIn n) (words-at n bs ∙ sym (ap₂ (λ a b. a ∷ b ∷ wordsFrom 3 n (drop 9 bs)) e₁ e₂))
+  frame-at = ap (frameIn n) (words-at 3 n bs ∙ sym (ap₂ (λ a b. a ∷ b ∷ wordsFrom 3 n (drop 9 bs)) e₁ e₂))
 
   pub n-unequal : (n ≡ nOf (bits 24 second) → ⊥) → frameIn n (wordsFrom 3 (suc (suc n)) (drop 3 bs)) ≡ refusedRecall 16
   n-unequal h = frame-at ∙ rw (ne-eqb n (nOf (bits 24 second)) h)

@@ -2,6 +2,10 @@ pub mod ByteLaws
 pub mod WordLaws
 pub mod TurnLaws
 pub mod FormLaws
+pub mod WindowLaws
 pub mod DataLaws
+pub mod PutLaws
 pub mod KeepLaws
+pub mod LiveLaws
 pub mod RoundTrip
+pub mod WordsTrip

@@ -8,7 +8,7 @@ use native.Mathlib.Omega.{arith}
 use lib.Dec.{eqb}
 use lib.ListN.{length, take, drop, replicate}
 use borrow.Author.Tests.{eqb-true, not-false, le-ltb, eq-eqb}
-use Rattle.answer.specs.Order.{answers, refuses, NoneApplies}
+use Rattle.answer.specs.Order.{answers, refuses, Check, inOrder, NoneApplies}
 use Rattle.answer.proofs.OrderLaws.{order-answers, order-map, none-append, none-parts, says-none}
 use Rattle.bits.specs.Bits.{bits, number}
 use Rattle.bits.specs.Fields.{Fit, AreBytes}
@@ -46,7 +46,7 @@ below-fit (suc n) (w ∷ ws) b = (b .0, below-fit n ws (b .1))
 
 module _ (f : Frame) (full : length (f .words) ≡ 31) (e : outside f ≡ false) where
   -- the words of a frame within its widths have its N and the preamble
-  own-data : NoneApplies (dataOrder (f .n) (wordsOf f))
+  pub own-data : NoneApplies (dataOrder (f .n) (wordsOf f))
   unfolding wordsOf
   own-data = (ap not (eq-eqb (f .n) _ (sym own-n)), (ap not own-preamble, tt))
     where
@@ -59,13 +59,13 @@ module _ (f : Frame) (full : length (f .words) ≡ 31) (e : outside f ≡ false)
       own-preamble = ap preambled (bits-number 24 (firstWord (f .header)) (length-first (f .header))) ∙ first-preambled (f .header) (header-within f e)
 
   module _ (rest : List ℕ) where
-    words-back : wordsAfter 3 (recordOf f ++ rest) ≡ wordsOf f
+    pub words-back : wordsAfter 3 (recordOf f ++ rest) ≡ wordsOf f
     unfolding recordOf
     words-back = record-words 0x32 3 (f .n) (wordsOf f) rest (count-words f e full) (fit-below (wordsOf f) (below-words f e))
 
-    clear : NoneApplies (recallOrder (recordOf f ++ rest))
+    pub recall-clear : NoneApplies (recallOrder (recordOf f ++ rest))
     unfolding recordOf
-    clear =
+    recall-clear =
         none-append (startOrder 0x32 3 (recordOf f ++ rest)) (dataOrder (f .n) (wordsAfter 3 (recordOf f ++ rest)))
         (record-starts 0x32 3 (f .n) (wordsOf f) rest (count-words f e full) (n-within f e))
         (subst (λ ws. NoneApplies (dataOrder (f .n) ws)) (sym words-back) own-data)
@@ -74,20 +74,20 @@ module _ (f : Frame) (full : length (f .words) ≡ 31) (e : outside f ≡ false)
     pub recall-record : recalledBy (recordOf f ++ rest) ≡ record { answer = Record (3 * f .n + 9); frame = bare f }
     unfolding recordOf
     recall-record =
-        order-answers refusedRecall (recalled (f .n) (wordsAfter 3 (recordOf f ++ rest))) (recallOrder (recordOf f ++ rest)) clear
+        order-answers refusedRecall (recalled (f .n) (wordsAfter 3 (recordOf f ++ rest))) (recallOrder (recordOf f ++ rest)) recall-clear
         ∙ ap (λ ws. recalled (f .n) ws) words-back
         ∙ ap (λ g. record { answer = Record (3 * f .n + 9); frame = g }) (frame-words f e full)
 
 -- ---- keep after recall
 
 -- these are the words of the frame that they give, which is within its widths
-record OwnWords (n : ℕ) (ws : List ℕ) : Type 0 where
-  words : wordsOf (frameOf ws) ≡ ws
-  count : frameOf ws .n ≡ n
-  full : length (frameOf ws .words) ≡ 31
-  inside : outside (frameOf ws) ≡ false
+pub record OwnWords (n : ℕ) (ws : List ℕ) : Type 0 where
+  pub words : wordsOf (frameOf ws) ≡ ws
+  pub count : frameOf ws .n ≡ n
+  pub full : length (frameOf ws .words) ≡ 31
+  pub inside : outside (frameOf ws) ≡ false
 
-frame-again : (n : ℕ) (ws : List ℕ) → length ws ≡ suc (suc n) → Below ws → n ≤ 31 → NoneApplies (dataOrder n ws) → OwnWords n ws
+pub frame-again : (n : ℕ) (ws : List ℕ) → length ws ≡ suc (suc n) → Below ws → n ≤ 31 → NoneApplies (dataOrder n ws) → OwnWords n ws
 unfolding frameOf framed
 frame-again n [] l b h d = absurd (omega arith)
 frame-again n (a ∷ []) l b h d = absurd (omega arith)
@@ -101,6 +101,14 @@ frame-again n (a ∷ c ∷ ws) l b h d =
       full = length-framed (headerOf (bits 24 a) (bits 24 c)) ws m;
       inside = frame-inside a c ws (b .1 .1) m;
     }
+
+-- bytes that are not refused hold such words
+pub read-own : (bs : List ℕ) → NoneApplies (recallOrder bs) → OwnWords (nByte bs) (wordsAfter 3 bs)
+read-own bs passed =
+    let parts = none-parts (startOrder 0x32 3 bs) (dataOrder (nByte bs) (wordsAfter 3 bs)) passed in
+    let m = suc (suc (nByte bs)) in
+    frame-again (nByte bs) (wordsAfter 3 bs) (length-read 3 m (drop 3 bs)) (below-fit m (wordsAfter 3 bs) (fit-words 3 m (drop 3 bs)))
+    (start-few 0x32 3 bs (parts .0)) (parts .1)
 
 -- A frame that was recalled with a length: it is within its widths, the length is that of its record, and its record is the bytes that were read.
 pub record Reread (bs : List ℕ) (f : Frame) (size : ℕ) : Type 0 where
@@ -120,13 +128,7 @@ module _ (bs : List ℕ) (fits : AreBytes bs) (f : Frame) (size : ℕ) (h : says
   values = let a = ap saysRecalled (order-answers refusedRecall (recalled (nByte bs) (wordsAfter 3 bs)) (recallOrder bs) passed) in cc (a, h)
 
   again : OwnWords (nByte bs) (wordsAfter 3 bs)
-  again = frame-again (nByte bs) (wordsAfter 3 bs) (length-read 3 m (drop 3 bs)) narrow (start-few 0x32 3 bs (parts .0)) (parts .1)
-    where
-      m : ℕ
-      m = suc (suc (nByte bs))
-
-      narrow : Below (wordsAfter 3 bs)
-      narrow = below-fit (suc (suc (nByte bs))) (wordsAfter 3 bs) (fit-words 3 (suc (suc (nByte bs))) (drop 3 bs))
+  again = read-own bs passed
 
   own : Reread bs (frameOf (wordsAfter 3 bs)) (3 * nByte bs + 9)
   unfolding recordOf
@@ -158,18 +160,22 @@ module _ (bs : List ℕ) (fits : AreBytes bs) (f : Frame) (size : ℕ) (h : says
 
 -- ---- through the lent buffer
 
-module _ (f : Frame) (buffer : List ℕ) where
-  -- a refusal leaves the buffer as it was
-  pub refused-unchanged : (number : ℕ) → saysKept (keptBy f buffer) ≡ refuses number → heldBy f buffer ≡ buffer
-  refused-unchanged number h = sym (order-map held (keepOrder f buffer) kept.Refused (kept.Done (3 * f .n + 9))) ∙ go (keptBy f buffer) h
-    where
-      held : Kept → List ℕ
-      held (kept.Done n) = recordOf f ++ drop (3 * f .n + 9) buffer
-      held (kept.Refused n) = buffer
+-- a refusal leaves the buffer as it was, whatever the order and the record
+pub refused-stays : (cs : List Check) (size : ℕ) (whole buffer : List ℕ) (number : ℕ)
+    → saysKept (inOrder cs kept.Refused (kept.Done size)) ≡ refuses number → inOrder cs (λ n. buffer) whole ≡ buffer
+refused-stays cs size whole buffer number h = sym (order-map held cs kept.Refused (kept.Done size)) ∙ go (inOrder cs kept.Refused (kept.Done size)) h
+  where
+    held : Kept → List ℕ
+    held (kept.Done n) = whole
+    held (kept.Refused n) = buffer
 
-      go : (k : Kept) → saysKept k ≡ refuses number → held k ≡ buffer
-      go (kept.Done n) e = let z : _≡_ {A = ℕ} 0 1 = cc in absurd (omega arith)
-      go (kept.Refused n) e = refl
+    go : (k : Kept) → saysKept k ≡ refuses number → held k ≡ buffer
+    go (kept.Done n) e = let z : _≡_ {A = ℕ} 0 1 = cc in absurd (omega arith)
+    go (kept.Refused n) e = refl
+
+pub refused-unchanged : (f : Frame) (buffer : List ℕ) (number : ℕ) → saysKept (keptBy f buffer) ≡ refuses number → heldBy f buffer ≡ buffer
+refused-unchanged f buffer number h =
+    refused-stays (keepOrder f buffer) (3 * f .n + 9) (recordOf f ++ drop (3 * f .n + 9) buffer) buffer number h
 
 -- ---- the frame's own pair is not looked at
 

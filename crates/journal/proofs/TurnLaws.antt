@@ -28,34 +28,32 @@ store-byte l next (suc k) w h =
     lower : k ≡ suc k - 1
     lower = omega arith
 
+-- word i of the first n, and those after it
+pub word-next : (ws : List ℕ) (i n : ℕ) → i < n → n ≤ length ws → drop i (take n ws) ≡ getD ws i 0 ∷ drop (i + 1) (take n ws)
+word-next ws i n h m = drop-cons (take n ws) i 0 inside ∙ rw (getD-take n ws i 0 h, add-one i)
+  where
+    inside : i < length (take n ws)
+    inside = omega (arith, length-take-le n ws m)
+
+-- the bytes of a word, and what comes behind them
+pub store-next : (k : ℕ) (l rest : List ℕ) (i w : ℕ) → sets l i (bytesOf k w ++ rest) ≡ sets (sets l i (bytesOf k w)) (i + k) rest
+store-next k l rest i w = sets-append (bytesOf k w) rest l i ∙ ap (λ j. sets (sets l i (bytesOf k w)) (i + j) rest) (length-bytes k w)
+
 -- the bytes of word i of the first n
 pub store-word : (k : ℕ) (l ws : List ℕ) (next i n : ℕ) → i < n → n ≤ length ws
     → sets l next (written k (drop i (take n ws))) ≡ sets (sets l next (bytesOf k (getD ws i 0))) (next + k) (written k (drop (i + 1) (take n ws)))
 unfolding written
 store-word k l ws next i n h m =
-    ap (λ r. sets l next (written k r)) first
-    ∙ sets-append (bytesOf k (getD ws i 0)) (written k (drop (i + 1) (take n ws))) l next
-    ∙ ap (λ j. sets (sets l next (bytesOf k (getD ws i 0))) (next + j) (written k (drop (i + 1) (take n ws)))) (length-bytes k (getD ws i 0))
-  where
-    inside : i < length (take n ws)
-    inside = omega (arith, length-take-le n ws m)
-
-    first : drop i (take n ws) ≡ getD ws i 0 ∷ drop (i + 1) (take n ws)
-    first = drop-cons (take n ws) i 0 inside ∙ rw (getD-take n ws i 0 h, add-one i)
+    ap (λ r. sets l next (written k r)) (word-next ws i n h m) ∙ store-next k l (written k (drop (i + 1) (take n ws))) next (getD ws i 0)
 
 -- a record: its mark and N, word 1, word 2 and the data words, each where the one before ends
-pub store-record : (l : List ℕ) (form n first second : ℕ) (ws : List ℕ)
-    → sets (sets (sets (sets l 0 (mark form ++ (n ∷ []))) 3 (bytesOf 3 first)) 6 (bytesOf 3 second)) 9 (written 3 ws)
-    ≡ sets l 0 (recordWith form 3 n (first ∷ second ∷ ws))
+pub store-record : (k : ℕ) (l : List ℕ) (form n first second : ℕ) (ws : List ℕ)
+    → sets (sets (sets (sets l 0 (mark form ++ (n ∷ []))) 3 (bytesOf k first)) (3 + k) (bytesOf k second)) (3 + k + k) (written k ws)
+    ≡ sets l 0 (recordWith form k n (first ∷ second ∷ ws))
 unfolding written
-store-record l form n first second ws =
-    sym (after 3 first (bytesOf 3 second ++ written 3 ws) start ∙ after 6 second (written 3 ws) (sets start 3 (bytesOf 3 first)))
-  where
-    start : List ℕ
-    start = sets l 0 (mark form ++ (n ∷ []))
-
-    after : (i w : ℕ) (rest m : List ℕ) → sets m i (bytesOf 3 w ++ rest) ≡ sets (sets m i (bytesOf 3 w)) (i + 3) rest
-    after i w rest m = sets-append (bytesOf 3 w) rest m i ∙ ap (λ j. sets (sets m i (bytesOf 3 w)) (i + j) rest) (length-bytes 3 w)
+store-record k l form n first second ws =
+    let start = sets l 0 (mark form ++ (n ∷ [])) in
+    sym (store-next k start (bytesOf k second ++ written k ws) 3 first ∙ store-next k (sets start 3 (bytesOf k first)) (written k ws) (3 + k) second)
 
 -- ---- reads
 
@@ -78,14 +76,17 @@ word-small i bs h = lt-of-lt-of-le (word-lt (take i bs)) (pow-mono short)
     short : 8 * length (take i bs) ≤ 24
     short = omega (arith, length-take i bs)
 
--- the next word of an array that is 0 from there on
-pub word-filled : (k m i : ℕ) (bs : List ℕ) → i < m
-    → set (wordsFrom k i bs ++ replicate (m - i) 0) i (wordIn (take k (drop (k * i) bs))) ≡ wordsFrom k (i + 1) bs ++ replicate (m - (i + 1)) 0
-word-filled k m i bs h =
-    ap (λ j. set (wordsFrom k i bs ++ replicate j 0) i (wordIn (take k (drop (k * i) bs)))) lower
-    ∙ set-at (wordsFrom k i bs) 0 (replicate (m - (i + 1)) 0) (wordIn (take k (drop (k * i) bs))) i (length-words k i bs)
-    ∙ sym (append-snoc (wordsFrom k i bs) (wordIn (take k (drop (k * i) bs))) (replicate (m - (i + 1)) 0))
-    ∙ ap (λ ws. ws ++ replicate (m - (i + 1)) 0) (sym (words-snoc k i bs) ∙ ap (λ j. wordsFrom k j bs) (sym (add-one i)))
+-- the next number of an array that is 0 from there on
+pub filled : (ws : List ℕ) (m i v : ℕ) → length ws ≡ i → i < m → set (ws ++ replicate (m - i) 0) i v ≡ (ws ++ (v ∷ [])) ++ replicate (m - (i + 1)) 0
+filled ws m i v l h =
+    ap (λ j. set (ws ++ replicate j 0) i v) lower ∙ set-at ws 0 (replicate (m - (i + 1)) 0) v i l ∙ sym (append-snoc ws v (replicate (m - (i + 1)) 0))
   where
     lower : m - i ≡ suc (m - (i + 1))
     lower = omega arith
+
+-- the next word of such an array
+pub word-filled : (k m i : ℕ) (bs : List ℕ) → i < m
+    → set (wordsFrom k i bs ++ replicate (m - i) 0) i (wordIn (take k (drop (k * i) bs))) ≡ wordsFrom k (i + 1) bs ++ replicate (m - (i + 1)) 0
+word-filled k m i bs h =
+    filled (wordsFrom k i bs) m i (wordIn (take k (drop (k * i) bs))) (length-words k i bs) h
+    ∙ ap (λ ws. ws ++ replicate (m - (i + 1)) 0) (sym (words-snoc k i bs) ∙ ap (λ j. wordsFrom k j bs) (sym (add-one i)))

@@ -1,3 +1,4 @@
 pub mod Bytes
 pub mod Forms
 pub mod Journal
+pub mod Words

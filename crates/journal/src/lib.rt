@@ -1,5 +1,6 @@
 // The journal: frames kept as records of bytes, and read back.
 mod form;
+mod words;
 
 ghost use mathlib.Core.Path.{_≡_};
 ghost use mathlib.Core.List.{_∷_, _++_};
@@ -9,11 +10,16 @@ ghost use lib.Seq.{sets};
 ghost use Rattle.journal.specs.Bytes.{written, wordsFrom};
 ghost use Rattle.journal.specs.Forms.{recordWith};
 ghost use Rattle.journal.specs.Journal.{recordedBy, recordedTo, keptBy, heldBy, refusedRecall, frameIn, recalledBy};
+ghost use Rattle.journal.specs.Words.{keptWords, heldWords, recalledWords};
 use crate::form::Start;
 use crate::form::put_start;
 use crate::form::put_word;
 use crate::form::start_of;
 use crate::form::word_at;
+use crate::words::WORDS;
+use crate::words::WORDS_SIZE;
+use crate::words::live_in;
+use crate::words::put_live;
 use frame::Frame;
 use frame::HeaderWords;
 use frame::Widths;
@@ -113,7 +119,7 @@ fn data_at(n: usize, at: usize, bytes: &[u8]) -> [u32; 31]
 }
 
 // A refusal's number beside the blank frame.
-fn refusal(number: u8) -> Recalled
+pub(crate) fn refusal(number: u8) -> Recalled
     ensures { λ r. ⌜ r ≡ refusedRecall number ⌝ }
 {
     Recalled {
@@ -150,6 +156,39 @@ pub fn recall(bytes: &[u8]) -> Recalled
 {
     match start_of(DATA, DATA_SIZE, bytes) {
         Start::N(n) => frame_in(n, bytes),
+        Start::Refused(number) => refusal(number),
+    }
+}
+
+// Keeps a frame's words, which start from its own pair, as a record at the start of the buffer. Order 5, 13.
+pub fn keep_words(frame: Frame, buffer: &mut [u8]) -> Kept
+    ensures { λ r. ⌜ r ≡ keptWords frame (now (buffer .entry)) ⌝ }
+    ensures { λ _. ⌜ now (buffer .exit) ≡ heldWords frame (now (buffer .entry)) ⌝ }
+{
+    let Widths::Within = frame::frame_widths(frame) else {
+        return Kept::Refused(5);
+    };
+    let header = frame.header;
+    let n = frame.n;
+    let HeaderWords::Words(first, second) = frame::header_words(header, n) else {
+        return Kept::Refused(5);
+    };
+    let length = 4 * n + 11;
+    if buffer.len() < length {
+        return Kept::Refused(13);
+    }
+    let words = frame.words;
+    let pair = frame.carried.d29 as u32 * 2 + frame.carried.d30 as u32;
+    put_live(pair, first, second, &words, n, buffer);
+    Kept::Done(length)
+}
+
+// Recalls the record of words at the start of the bytes, its frame after its own pair; what follows it is ignored. Order 14, 15, 16, 15, 16, 17.
+pub fn recall_words(bytes: &[u8]) -> Recalled
+    ensures { λ r. ⌜ r ≡ recalledWords (now (bytes .entry)) ⌝ }
+{
+    match start_of(WORDS, WORDS_SIZE, bytes) {
+        Start::N(n) => live_in(n, bytes),
         Start::Refused(number) => refusal(number),
     }
 }

@@ -5,10 +5,14 @@ use lib.Dec.{ltb}
 use lib.ListN.{length, drop}
 use lib.Seq.{sets}
 use Rattle.answer.specs.Order.{Says, Check, inOrder}
+use Rattle.frame.specs.Widths.{outside}
+use Rattle.frame.specs.declared.Frame.{Frame}
 use Rattle.reader.specs.Reading.{started, past, busy, fedAllBy, endedBy, takenBy, saysAnswer, carrying}
 use Rattle.reader.specs.declared.Reader.{Reader}
 use Rattle.reader.specs.declared.Answer.{Answer}
 use Rattle.reader.specs.declared.Answer.the-variants.{Done, Refused}
+use Rattle.printing.specs.declared.Printed.{Printed}
+use Rattle.printing.specs.declared.Printed.the-variants as printed
 use Rattle.listing.specs.Text.{frameLine, oddLine, lastLine}
 use Rattle.listing.specs.declared.Listing.{Listing}
 use Rattle.listing.specs.declared.Listed.{Listed}
@@ -122,6 +126,18 @@ finishBy l room = inOrder (endOrder l room) (refusedListing l) (listed (finalLin
 
 unfoldable pub finishText : Listing → List ℕ → List ℕ
 finishText l out = inOrder (endOrder l (length out)) (λ n. out) (sets out 0 (finalLines l .text))
+
+-- ---- A LINE ALONE, of a frame found elsewhere than on the line: 5, 13
+
+abbrev pub lineOrder : Frame → List ℕ → List Check
+lineOrder f out = (outside f, 5) ∷ (ltb (length out) lineRoom, 13) ∷ []
+
+unfoldable pub linePut : ℕ → Frame → List ℕ → Printed
+linePut at f out = inOrder (lineOrder f out) printed.Refused (printed.At (length (frameLine at f)))
+
+-- the output buffer after it
+unfoldable pub lineTo : ℕ → Frame → List ℕ → List ℕ
+lineTo at f out = inOrder (lineOrder f out) (λ n. out) (sets out 0 (frameLine at f))
 
 -- ---- an answer in the table's terms: how many bytes were used, and how many written
 abbrev pub saysListed : Listed → Says (ℕ × ℕ)

@@ -4,10 +4,14 @@ ghost use Prim.Native.Nat.{_+_, _*_, _≤_};
 ghost use lib.ListN.{length};
 ghost use lib.Seq.{sets};
 ghost use Rattle.listing.specs.Listing.{begun, fedOn, handedOn, endedOn, linesOf, linedBy, lineRoom, totalLines};
+ghost use Rattle.listing.specs.Listing.{linePut, lineTo};
 ghost use Rattle.listing.specs.Listing.{readyBy, refusedListing, pieceBy, pieceText, finishBy, finishText};
 
 mod text;
 
+use frame::Frame;
+use frame::Widths;
+use printing::Printed;
 use reader::Answer;
 use reader::Reader;
 
@@ -128,7 +132,7 @@ fn put_lines(listing: Listing, input: &[u8], lines: usize, output: &mut [u8]) ->
                 listing: state,
             };
         };
-        written = text::put_frame(took.at, took.frame, written, output);
+        written = text::put_frame(took.at as u64, took.frame, written, output);
         state = handed_on(state, took.reader);
     }
     Lined {
@@ -224,4 +228,19 @@ pub fn finish(listing: Listing, output: &mut [u8]) -> Listed
         written,
         listing: end,
     }
+}
+
+// Writes the line of a frame at the start of the output, where it was found in place of the bit position: 5, 13.
+pub fn put_line(at: u64, frame: Frame, output: &mut [u8]) -> Printed
+    ensures { λ r. ⌜ r ≡ linePut at frame (now (output .entry)) ⌝ }
+    ensures { λ _. ⌜ now (output .exit) ≡ lineTo at frame (now (output .entry)) ⌝ }
+{
+    let Widths::Within = frame::frame_widths(frame) else {
+        return Printed::Refused(5);
+    };
+    if output.len() < LINE_ROOM {
+        return Printed::Refused(13);
+    }
+    let end = text::put_frame(at, frame, 0, output);
+    Printed::At(end)
 }

@@ -46,7 +46,7 @@ fn put_pair(carried: Carried, place: usize, buffer: &mut [u8]) -> usize
 }
 
 // Writes a frame's line from `place` on, and answers the place after it.
-pub(crate) fn put_frame(at: u32, frame: Frame, place: usize, buffer: &mut [u8]) -> usize
+pub(crate) fn put_frame(at: u64, frame: Frame, place: usize, buffer: &mut [u8]) -> usize
     requires { ⌜ (stateOutside (frame .header .state) ≡ false) × (pairOutside (frame .carried) ≡ false) × (place + lineRoom ≤ length (now buffer)) ⌝ }
     ensures { λ r. ⌜ (r ≡ place + length (frameLine at frame)) × (r ≤ place + lineRoom) ⌝ }
     ensures { λ _. ⌜ now (buffer .exit) ≡ sets (now (buffer .entry)) place (frameLine at frame) ⌝ }
@@ -58,7 +58,7 @@ pub(crate) fn put_frame(at: u32, frame: Frame, place: usize, buffer: &mut [u8]) 
         return place;
     };
     let numbers = [
-        at as u64,
+        at,
         header.kind as u64,
         header.station as u64,
         header.z as u64,

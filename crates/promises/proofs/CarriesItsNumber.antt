@@ -31,6 +31,8 @@ use Rattle.writer.specs.declared.Opened.the-variants as opened
 use Rattle.writer.specs.declared.Written.the-variants as written
 use Rattle.journal.specs.Journal.{refusedRecall, saysKept, saysRecalled}
 use Rattle.journal.specs.declared.Kept.the-variants as kept
+use Rattle.journal_moves.specs.Moving.{saysMoved}
+use Rattle.journal_moves.specs.declared.Moved.the-variants as moved
 use Rattle.record_stages.specs.Stages.{layoutNumber, entryRefusal, refusedMade, doneMade, saysAsked, saysSize, saysCount, saysPlace, saysMade}
 use Rattle.record_corrections.specs.Corrections.{countCorrections, correctionAt, makeCorrections, saysCorrectionRead}
 use Rattle.record_healths.specs.Healths.{countHealths, healthAt, makeHealths, saysHealthRead}
@@ -49,7 +51,7 @@ use Rattle.record_values.specs.Values.{prcValue, rrcValue, udreValue, cn0Value,
 use Rattle.record_values.proofs.AnswerLaws.{prc-says, rrc-says, udre-says, cn0-says, minutes-says, z-says, letter-says}
 use Rattle.printing.specs.Printing.{printedBy, saysPrinted}
 use Rattle.printing.specs.declared.Printed.the-variants as printed
-use Rattle.listing.specs.Listing.{pieceBy, finishBy}
+use Rattle.listing.specs.Listing.{pieceBy, finishBy, linePut}
 use Rattle.listing.specs.Listing as listing
 use Rattle.listing.specs.declared.Listed.{Listed}
 use Rattle.promises.specs.CarriesItsNumber.{checkNumbers, outsideTable, Ordered, CarriesItsNumber}
@@ -88,7 +90,7 @@ entry-numbered l = go (eqb (layoutNumber l) (layoutNumber layout.Text))
 
 pub carries-its-number : CarriesItsNumber
 unfolding fedBy fedAllBy endedBy takenBy countCorrections correctionAt makeCorrections countHealths healthAt makeHealths readPosition makePosition
-    readNull makeNull readText makeText refusedMade doneMade printedBy pieceBy finishBy
+    readNull makeNull readText makeText refusedMade doneMade printedBy pieceBy finishBy linePut
 carries-its-number = record {
   feed = λ r b. told (λ (x : Next). saysAnswer (x .answer)) (λ n. record { answer = Refused n; reader = r }) _ tt refl refl refl;
   feed-all = λ r bs. told (λ (x : FedAll). saysAnswer (x .answer)) (λ n. record { answer = Refused n; used = 0; passed = 0; reader = r }) _ tt refl refl refl;
@@ -111,6 +113,10 @@ carries-its-number = record {
   put-frame = λ f buffer. told saysKept kept.Refused _ _ refl refl refl;
   keep = λ f buffer. told saysKept kept.Refused _ _ refl refl refl;
   recall = λ bs. told saysRecalled refusedRecall _ _ refl refl refl;
+  keep-words = λ f buffer. told saysKept kept.Refused _ _ refl refl refl;
+  recall-words = λ bs. told saysRecalled refusedRecall _ _ refl refl refl;
+  renew = λ bs room. told saysMoved moved.Refused _ _ refl refl refl;
+  restore = λ bs room. told saysMoved moved.Refused _ _ refl refl refl;
   six-of = λ b. told saysSix six.Refused _ _ refl refl refl;
   word-of = λ c d. told saysSent sent.Refused _ _ refl refl refl;
   health-of = λ s. told saysHealthCode health.Refused _ _ refl refl refl;
@@ -131,6 +137,7 @@ carries-its-number = record {
   z-tenths = λ z. ordered ((ltb 8191 z, 5) ∷ (late z, 7) ∷ []) (6 * z) (z-says z) refl refl;
   letter-of = λ code. ordered ((noLetter code, 11) ∷ []) (letterValue code) (letter-says code) refl refl;
   print = λ text place buffer. told saysPrinted printed.Refused _ _ refl refl refl;
+  put-line = λ at f out. told saysPrinted printed.Refused _ _ refl refl refl;
   list-piece = λ l bs room. told (λ (x : Listed). saysAnswer (x .answer)) (listing.refusedListing l) _ _ refl refl refl;
   finish = λ l room. told (λ (x : Listed). saysAnswer (x .answer)) (listing.refusedListing l) _ _ refl refl refl;
 }

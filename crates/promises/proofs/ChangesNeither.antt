@@ -7,7 +7,7 @@ use native.Mathlib.Nat.{zero-add}
 use lib.ListN.{length, take, drop, length-append, length-drop}
 use lib.Seq.{sets, sets-eq, length-sets, take-at, drop-at, length-take-le}
 use borrow.Author.Tests.{ltb-false}
-use Rattle.answer.specs.Order.{Says, answers, Check, inOrder, NoneApplies}
+use Rattle.answer.specs.Order.{Says, refuses, answers, Check, inOrder, NoneApplies}
 use Rattle.answer.proofs.OrderLaws.{order-answers, order-refuses}
 use Rattle.frame.specs.Frames.{blank}
 use Rattle.frame.specs.Widths.{numbersOutside, headerOutside, outside}
@@ -27,6 +27,12 @@ use Rattle.journal.specs.Journal.{refusedRecall as unrecalled}
 use Rattle.journal.specs.declared.Recalled.{Recalled}
 use Rattle.journal.specs.declared.Kept.the-variants as kept
 use Rattle.journal.proofs.KeepLaws.{length-record}
+use Rattle.journal.proofs.LiveLaws.{length-live}
+use Rattle.journal.specs.Words.{wordsRecord}
+use Rattle.journal_moves.specs.Moving.{otherRecord, movedBy, saysMoved}
+use Rattle.journal_moves.specs.declared.Moved.{Moved}
+use Rattle.journal_moves.specs.declared.Moved.the-variants as moved
+use Rattle.journal_moves.proofs.RunLaws.{step-of, moved-held, moved-unchanged}
 use Rattle.record_fields.specs.Coding.{frameBits}
 use Rattle.record_texts.proofs.TextCode.{length-characters}
 use Rattle.record_stages.specs.Stages.{refusedMade, saysCount}
@@ -39,7 +45,8 @@ use Rattle.record_stages.specs.declared.Count.the-variants as count
 use Rattle.record_texts.specs.Texts.{lengthIn, textIn, readText, bufferAfter, makeText}
 use Rattle.printing.specs.Printing.{printOrder, printedBy, printedTo, saysPrinted}
 use Rattle.printing.specs.declared.Printed.the-variants as printed
-use Rattle.listing.specs.Listing.{Lines, lineRoom, endRoom, refusedListing, listed, linesOf, finalLines, pieceBy, pieceText, finishBy, finishText}
+use Rattle.listing.specs.Listing.{Lines, lineRoom, endRoom, refusedListing, listed, linesOf}
+use Rattle.listing.specs.Listing.{finalLines, pieceBy, pieceText, finishBy, finishText, linePut, lineTo}
 use Rattle.listing.specs.declared.Listing.{Listing}
 use Rattle.listing.specs.declared.Listed.{Listed}
 use Rattle.listing.proofs.Lengths.{lines-le, final-le}
@@ -61,8 +68,17 @@ pub keeps : {A X B : Type 0} {numbers : List ℕ} {cs : List Check} {s : Says A}
     → (of : X → B) (refuse : ℕ → X) (answer : X) (was : B) → ((n : ℕ) → of (refuse n) ≡ was) → Keeps s (of (inOrder cs refuse answer)) was
 keeps {cs} o of refuse answer was same n e = ap of (order-refuses refuse answer cs n (o .only n e)) ∙ same n
 
+-- what a move answered, from what it says
+moved-refused : (m : Moved) (n : ℕ) → saysMoved m ≡ refuses n → m ≡ moved.Refused n
+moved-refused (moved.Done read written) n e = let z : _≡_ {A = ℕ} 0 1 = cc in absurd (omega arith)
+moved-refused (moved.Refused k) n e = cc
+
+moved-done : (m : Moved) (v : ℕ × ℕ) → saysMoved m ≡ answers v → m ≡ moved.Done (v .0) (v .1)
+moved-done (moved.Done read written) v e = cc
+moved-done (moved.Refused k) v e = let z : _≡_ {A = ℕ} 0 1 = cc in absurd (omega arith)
+
 pub changes-neither : ChangesNeither
-unfolding fedBy fedAllBy endedBy takenBy readText bufferAfter printedBy printedTo pieceBy pieceText finishBy finishText
+unfolding fedBy fedAllBy endedBy takenBy readText bufferAfter printedBy printedTo pieceBy pieceText finishBy finishText linePut lineTo
 changes-neither = record {
   feed = λ r b. keeps (carries-its-number .feed r b) (λ (x : Next). x .reader) (λ n. record { answer = Refused n; reader = r }) _ _ (λ n. refl);
   feed-all = λ r bs. keeps (carries-its-number .feed-all r bs) (λ (x : FedAll). x .reader) (fed-none r) _ _ (λ n. refl);
@@ -72,8 +88,11 @@ changes-neither = record {
   write = λ f c buffer. keeps (carries-its-number .write f c buffer) (λ b. b) (λ n. buffer) _ _ (λ n. refl);
   put-frame = λ f buffer. keeps (carries-its-number .put-frame f buffer) (λ b. b) (λ n. buffer) _ _ (λ n. refl);
   keep = λ f buffer. keeps (carries-its-number .keep f buffer) (λ b. b) (λ n. buffer) _ _ (λ n. refl);
+  keep-words = λ f buffer. keeps (carries-its-number .keep-words f buffer) (λ b. b) (λ n. buffer) _ _ (λ n. refl);
+  move = λ w bs buffer n e. moved-unchanged w bs buffer (moved-refused (movedBy w bs (length buffer)) n e);
   read-text = λ f buffer. keeps (carries-its-number .read-text f buffer) (λ b. b) (λ n. buffer) _ _ (λ n. refl);
   print = λ text place buffer. keeps (carries-its-number .print text place buffer) (λ b. b) (λ n. buffer) _ _ (λ n. refl);
+  put-line = λ at f out. keeps (carries-its-number .put-line at f out) (λ b. b) (λ n. out) _ _ (λ n. refl);
   list-piece = λ l bs room. keeps (carries-its-number .list-piece l bs room) (λ (x : Listed). x .listing) (refusedListing l) _ _ (λ n. refl);
   list-piece-output = λ l bs out. keeps (carries-its-number .list-piece l bs (length out)) (λ b. b) (λ n. out) _ _ (λ n. refl);
   finish = λ l room. keeps (carries-its-number .finish l room) (λ (x : Listed). x .listing) (refusedListing l) _ _ (λ n. refl);
@@ -87,6 +106,7 @@ number-alone = record {
   feed-all = λ r bs. keeps (carries-its-number .feed-all r bs) (λ (x : FedAll). (x .used, x .passed)) (fed-none r) _ _ (λ n. refl);
   reader-take = λ r. keeps (carries-its-number .reader-take r) (λ (x : Taken). (x .at, x .frame)) (taken-none r) _ _ (λ n. refl);
   recall = λ bs. keeps (carries-its-number .recall bs) (λ (x : Recalled). x .frame) unrecalled _ _ (λ n. refl);
+  recall-words = λ bs. keeps (carries-its-number .recall-words bs) (λ (x : Recalled). x .frame) unrecalled _ _ (λ n. refl);
   make-corrections = λ h es c. keeps (carries-its-number .make-corrections h es c) (λ (x : Made). x .frame) refusedMade _ _ (λ n. refl);
   make-healths = λ h es c. keeps (carries-its-number .make-healths h es c) (λ (x : Made). x .frame) refusedMade _ _ (λ n. refl);
   make-position = λ h p. keeps (carries-its-number .make-position h p) (λ (x : Made). x .frame) refusedMade _ _ (λ n. refl);
@@ -197,6 +217,14 @@ only-its-bytes = record {
       owns saysKept kept.Refused (kept.Done (3 * f .n + 9)) _ (carries-its-number .keep f buffer) refl (λ v. v) buffer
       (recordOf f ++ drop (3 * f .n + 9) buffer)
       (λ none. first-bytes (recordOf f) buffer (3 * f .n + 9) (length-record f (none .0) full) (ltb-false (length buffer) (3 * f .n + 9) (none .1 .0)));
+  keep-words = λ f buffer full.
+      owns saysKept kept.Refused (kept.Done (4 * f .n + 11)) _ (carries-its-number .keep-words f buffer) refl (λ v. v) buffer
+      (wordsRecord f ++ drop (4 * f .n + 11) buffer)
+      (λ none. first-bytes (wordsRecord f) buffer (4 * f .n + 11) (length-live f (none .0) full) (ltb-false (length buffer) (4 * f .n + 11) (none .1 .0)));
+  move = λ w bs buffer v e.
+      let done = moved-done (movedBy w bs (length buffer)) v e in
+      let s = step-of w bs (length buffer) done in
+      subst (λ b. OnlyFirst (v .1) b buffer) (sym (moved-held w bs buffer done)) (first-bytes (otherRecord w bs) buffer (v .1) (s .long) (s .fits));
   read-text = λ f buffer.
       owns saysCount count.Refused (count.Of (lengthIn f)) _ (carries-its-number .read-text f buffer) refl (λ v. v) buffer
       (textIn f ++ drop (lengthIn f) buffer)

@@ -4,6 +4,7 @@ use Rattle.promises.proofs.Answered.{settled-once}
 use Rattle.promises.proofs.PartCalls.{part-calls}
 use Rattle.promises.proofs.StreamCalls.{stream-calls}
 use Rattle.promises.proofs.RecordCalls.{record-calls}
+use Rattle.promises.proofs.JournalCalls.{journal-calls}
 use Rattle.promises.proofs.CarriesItsNumber.{carries-its-number}
 use Rattle.promises.proofs.ChangesNeither.{changes-neither, number-alone, only-its-bytes}
 use Rattle.promises.proofs.EveryReader.{next-is-accepted, takes-only-frames}
@@ -13,6 +14,7 @@ demand-1 = record {
   parts = part-calls;
   streams = stream-calls;
   records = record-calls;
+  journals = journal-calls;
   once = settled-once;
   carries = carries-its-number;
   changes = changes-neither;

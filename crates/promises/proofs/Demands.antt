@@ -6,6 +6,7 @@ use Rattle.promises.proofs.Demand2.{demand-2}
 use Rattle.promises.proofs.Demand3.{handed-out, one-by-one, damage-begins-nothing, only-frames, nothing-lost, as-soon-as, never-five}
 use Rattle.promises.proofs.Slices.{in-slices}
 use Rattle.promises.proofs.LateJoiners.{late-joiners}
+use Rattle.promises.proofs.WordsKept.{words-kept}
 use Rattle.promises.proofs.Turned.{turned-is-same}
 use Rattle.promises.proofs.Counters.{counters}
 use Rattle.promises.proofs.EveryReader.{feed-all-is-feed}
@@ -35,6 +36,7 @@ demands = record {
   third = demand-3;
   counters = counters;
   late = late-joiners;
+  words = words-kept;
   text = text-is-whole;
   nothing-left = nothing-left;
   taken = piece-taken;

@@ -13,6 +13,7 @@ pub mod Answered
 pub mod PartCalls
 pub mod StreamCalls
 pub mod RecordCalls
+pub mod JournalCalls
 pub mod CarriesItsNumber
 pub mod ChangesNeither
 pub mod Demand1
@@ -26,6 +27,7 @@ pub mod LateJoiners
 pub mod Pieces
 pub mod Whole
 pub mod Progress
+pub mod WordsKept
 pub mod XorLaw
 pub mod Worked
 pub mod Demands

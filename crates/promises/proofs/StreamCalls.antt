@@ -23,5 +23,6 @@ stream-calls = record {
   put-labelled = record { asks-nothing = λ κs a. tt; settles = λ κs a z e p. p .0; leaves = λ κs a z e p. p .1; ends = printing.put_labelled.Met.met };
   listing-new = record { asks-nothing = λ κs a. tt; settles = λ κs a z e p. p; ends = listing.new.Met.met };
   list-piece = record { asks-nothing = λ κs a. tt; settles = λ κs a z e p. p .0; leaves = λ κs a z e p. p .1 .0; ends = listing.list_piece.Met.met };
+  put-line = record { asks-nothing = λ κs a. tt; settles = λ κs a z e p. p .0; leaves = λ κs a z e p. p .1; ends = listing.put_line.Met.met };
   finish = record { asks-nothing = λ κs a. tt; settles = λ κs a z e p. p .0; leaves = λ κs a z e p. p .1 .0; ends = listing.finish.Met.met };
 }

@@ -26,6 +26,9 @@ use Rattle.reader.specs.declared.Reader.{Reader}
 use Rattle.writer.specs.Answer.{openChecks, openedBy, writeChecks, writtenBy, saysOpened, saysWritten}
 use Rattle.frame.specs.declared.Carried.{Carried}
 use Rattle.journal.specs.Journal.{recordOrder, recordedBy, keepOrder, keptBy, recallOrder, recalledBy, saysKept, saysRecalled}
+use Rattle.journal.specs.Words.{keepWordsOrder, keptWords, recallWordsOrder, recalledWords}
+use Rattle.journal_moves.specs.Moving.{moveOrder, movedBy, saysMoved}
+use Rattle.journal_moves.specs.declared.Way.the-variants.{New, Old}
 use Rattle.record_fields.specs.declared.Rows.{Rows}
 use Rattle.record_stages.specs.Stages.{wrongCount, otherLayout, misfit, wrongSize, askedOf, countIn, placeBy, sizeOf, entryRefusal, madeBy}
 use Rattle.record_stages.specs.Stages.{readOrder, entryOrder, makeOrder, madeOrder, saysAsked, saysSize, saysCount, saysPlace, saysMade}
@@ -41,7 +44,7 @@ use Rattle.record_values.specs.Values.{noLetter}
 use Rattle.record_values.specs.Answer.{prcMm, rrcMmS, udreLimit, cn0DbHz, minutesOf, zTenths, letterOf}
 use Rattle.record_values.specs.Answer.{saysDistance, saysRate, saysLimit, saysStrength, saysTime, saysSinceHour, saysLetter}
 use Rattle.printing.specs.Printing.{printOrder, printedBy, saysPrinted}
-use Rattle.listing.specs.Listing.{pieceOrder, pieceBy, endOrder, finishBy}
+use Rattle.listing.specs.Listing.{pieceOrder, pieceBy, endOrder, finishBy, lineOrder, linePut}
 use Rattle.listing.specs.declared.Listing.{Listing}
 
 -- the numbers of checks, in their order
@@ -114,6 +117,12 @@ pub record CarriesItsNumber : Type 0 where
   pub put-frame : (f : Frame) (buffer : List ℕ) → Ordered (5 ∷ 5 ∷ 13 ∷ []) (recordOrder f buffer) (saysKept (recordedBy f buffer))
   pub keep : (f : Frame) (buffer : List ℕ) → Ordered (5 ∷ 13 ∷ []) (keepOrder f buffer) (saysKept (keptBy f buffer))
   pub recall : (bs : List ℕ) → Ordered (14 ∷ 15 ∷ 16 ∷ 15 ∷ 16 ∷ 16 ∷ []) (recallOrder bs) (saysRecalled (recalledBy bs))
+  -- the journal that keeps the words: 17 last, for parity or carried bits; when moving, 13 after these
+  pub keep-words : (f : Frame) (buffer : List ℕ) → Ordered (5 ∷ 13 ∷ []) (keepWordsOrder f buffer) (saysKept (keptWords f buffer))
+  pub recall-words : (bs : List ℕ) → Ordered (14 ∷ 15 ∷ 16 ∷ 15 ∷ 16 ∷ 16 ∷ 17 ∷ []) (recallWordsOrder bs) (saysRecalled (recalledWords bs))
+  pub renew : (bs : List ℕ) (room : ℕ) → Ordered (14 ∷ 15 ∷ 16 ∷ 15 ∷ 16 ∷ 16 ∷ 13 ∷ []) (moveOrder New bs room) (saysMoved (movedBy New bs room))
+  pub restore : (bs : List ℕ) (room : ℕ)
+      → Ordered (14 ∷ 15 ∷ 16 ∷ 15 ∷ 16 ∷ 16 ∷ 17 ∷ 13 ∷ []) (moveOrder Old bs room) (saysMoved (movedBy Old bs room))
   -- the parts: a byte, a word, a header, a frame, a layout asked for, a count, an entry's place, an N, a frame of rows
   pub six-of : (b : ℕ) → Ordered (1 ∷ []) ((not (isData b), 1) ∷ []) (saysSix (sixOf b))
   pub word-of : (c d : ℕ) → Ordered (5 ∷ 5 ∷ []) ((leb 4 c, 5) ∷ (leb (2 ^ 24) d, 5) ∷ []) (saysSent (wordOf c d))
@@ -139,5 +148,6 @@ pub record CarriesItsNumber : Type 0 where
   -- text put into a buffer: 13
   pub print : (text : List ℕ) (place : ℕ) (buffer : List ℕ) → Ordered (13 ∷ []) (printOrder text place buffer) (saysPrinted (printedBy text place buffer))
   -- the listing
+  pub put-line : (at : ℕ) (f : Frame) (out : List ℕ) → Ordered (5 ∷ 13 ∷ []) (lineOrder f out) (saysPrinted (linePut at f out))
   pub list-piece : (l : Listing) (bs : List ℕ) (room : ℕ) → Ordered (5 ∷ 3 ∷ 13 ∷ []) (pieceOrder l room) (saysAnswer (pieceBy l bs room .answer))
   pub finish : (l : Listing) (room : ℕ) → Ordered (5 ∷ 3 ∷ 2 ∷ 13 ∷ []) (endOrder l room) (saysAnswer (finishBy l room .answer))

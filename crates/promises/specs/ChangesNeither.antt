@@ -15,6 +15,9 @@ use Rattle.reader.specs.declared.Reader.{Reader}
 use Rattle.writer.specs.Answer.{openedBy, openedTo, writtenBy, writtenTo, saysOpened, saysWritten}
 use Rattle.frame.specs.declared.Carried.{Carried}
 use Rattle.journal.specs.Journal.{recordedBy, recordedTo, keptBy, heldBy, recalledBy, saysKept, saysRecalled}
+use Rattle.journal.specs.Words.{keptWords, heldWords, recalledWords}
+use Rattle.journal_moves.specs.Moving.{movedBy, movedTo, saysMoved}
+use Rattle.journal_moves.specs.declared.Way.{Way}
 use Rattle.record_stages.specs.Stages.{saysCount, saysMade}
 use Rattle.record_corrections.specs.Corrections.{makeCorrections}
 use Rattle.record_healths.specs.Healths.{makeHealths}
@@ -25,7 +28,7 @@ use Rattle.record_corrections.specs.declared.Correction.{Correction}
 use Rattle.record_healths.specs.declared.SatelliteHealth.{SatelliteHealth}
 use Rattle.record_positions.specs.declared.Position.{Position}
 use Rattle.printing.specs.Printing.{printedBy, printedTo, saysPrinted}
-use Rattle.listing.specs.Listing.{pieceBy, pieceText, finishBy, finishText}
+use Rattle.listing.specs.Listing.{pieceBy, pieceText, finishBy, finishText, linePut, lineTo}
 use Rattle.listing.specs.declared.Listing.{Listing}
 
 -- where the call refuses, what it leaves is what was there
@@ -41,8 +44,11 @@ pub record ChangesNeither : Type 0 where
   pub write : (f : Frame) (c : Carried) (buffer : List ℕ) → Keeps (saysWritten (writtenBy f c buffer)) (writtenTo f c buffer) buffer
   pub put-frame : (f : Frame) (buffer : List ℕ) → Keeps (saysKept (recordedBy f buffer)) (recordedTo f buffer) buffer
   pub keep : (f : Frame) (buffer : List ℕ) → Keeps (saysKept (keptBy f buffer)) (heldBy f buffer) buffer
+  pub keep-words : (f : Frame) (buffer : List ℕ) → Keeps (saysKept (keptWords f buffer)) (heldWords f buffer) buffer
+  pub move : (w : Way) (bs buffer : List ℕ) → Keeps (saysMoved (movedBy w bs (length buffer))) (movedTo w bs buffer) buffer
   pub read-text : (f : Frame) (buffer : List ℕ) → Keeps (saysCount (readText f buffer)) (bufferAfter f buffer) buffer
   pub print : (text : List ℕ) (place : ℕ) (buffer : List ℕ) → Keeps (saysPrinted (printedBy text place buffer)) (printedTo text place buffer) buffer
+  pub put-line : (at : ℕ) (f : Frame) (out : List ℕ) → Keeps (saysPrinted (linePut at f out)) (lineTo at f out) out
   pub list-piece : (l : Listing) (bs : List ℕ) (room : ℕ) → Keeps (saysAnswer (pieceBy l bs room .answer)) (pieceBy l bs room .listing) l
   pub list-piece-output : (l : Listing) (bs out : List ℕ) → Keeps (saysAnswer (pieceBy l bs (length out) .answer)) (pieceText l bs out) out
   pub finish : (l : Listing) (room : ℕ) → Keeps (saysAnswer (finishBy l room .answer)) (finishBy l room .listing) l
@@ -55,6 +61,7 @@ pub record NumberAlone : Type 0 where
   pub feed-all : (r : Reader) (bs : List ℕ) → Keeps {B = ℕ × ℕ} (saysAnswer (fedAllBy r bs .answer)) (fedAllBy r bs .used, fedAllBy r bs .passed) (0, 0)
   pub reader-take : (r : Reader) → Keeps {B = ℕ × Frame} (saysAnswer (takenBy r .answer)) (takenBy r .at, takenBy r .frame) (0, blank)
   pub recall : (bs : List ℕ) → Keeps (saysRecalled (recalledBy bs)) (recalledBy bs .frame) blank
+  pub recall-words : (bs : List ℕ) → Keeps (saysRecalled (recalledWords bs)) (recalledWords bs .frame) blank
   pub make-corrections : (h : Header) (es : List Correction) (c : ℕ) → Keeps (saysMade (makeCorrections h es c)) (makeCorrections h es c .frame) blank
   pub make-healths : (h : Header) (es : List SatelliteHealth) (c : ℕ) → Keeps (saysMade (makeHealths h es c)) (makeHealths h es c .frame) blank
   pub make-position : (h : Header) (p : Position) → Keeps (saysMade (makePosition h p)) (makePosition h p .frame) blank
@@ -87,6 +94,8 @@ pub record OnlyItsBytes : Type 0 where
   pub writer-open : (buffer : List ℕ) → Owns (saysOpened (openedBy buffer)) (λ v. 1) (openedTo buffer) buffer
   pub write : (f : Frame) (c : Carried) (buffer : List ℕ) → Owns (saysWritten (writtenBy f c buffer)) (λ v. v .0) (writtenTo f c buffer) buffer
   pub keep : (f : Frame) (buffer : List ℕ) → length (f .words) ≡ 31 → Owns (saysKept (keptBy f buffer)) (λ v. v) (heldBy f buffer) buffer
+  pub keep-words : (f : Frame) (buffer : List ℕ) → length (f .words) ≡ 31 → Owns (saysKept (keptWords f buffer)) (λ v. v) (heldWords f buffer) buffer
+  pub move : (w : Way) (bs buffer : List ℕ) → Owns (saysMoved (movedBy w bs (length buffer))) (λ v. v .1) (movedTo w bs buffer) buffer
   pub read-text : (f : Frame) (buffer : List ℕ) → Owns (saysCount (readText f buffer)) (λ v. v) (bufferAfter f buffer) buffer
   pub print : (text : List ℕ) (place : ℕ) (buffer : List ℕ) (next : ℕ)
       → saysPrinted (printedBy text place buffer) ≡ answers next → OnlyBetween place next (printedTo text place buffer) buffer

@@ -7,6 +7,7 @@ use Rattle.promises.specs.Demand2.{Demand2}
 use Rattle.promises.specs.Demand3.{Demand3}
 use Rattle.promises.specs.Counters.{Counters}
 use Rattle.promises.specs.LateJoiners.{LateJoiners}
+use Rattle.promises.specs.WordsKept.{WordsKept}
 use Rattle.promises.specs.Course.{Piece, TextIsWhole, NothingLeft, PieceTaken, Reached, TextComes}
 use Rattle.promises.specs.XorLaw.{XorLaw}
 use Rattle.promises.specs.Worked.{WorkedValues}
@@ -19,6 +20,8 @@ pub record Demands : Type 2 where
   pub counters : Counters
   -- two readers of one line agree behind a common frame
   pub late : LateJoiners
+  -- a journal that keeps the words
+  pub words : WordsKept
   -- in whatever pieces a stream is listed, the text is that of the whole
   pub text : (bs : List ℕ) (ps : List Piece) (out : List ℕ) → TextIsWhole bs ps out
   -- a piece that writes nothing used all bytes lent; every piece with room for a line is taken; after enough of them nothing is left, and the whole

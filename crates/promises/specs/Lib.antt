@@ -3,6 +3,7 @@ pub mod Answered
 pub mod PartCalls
 pub mod StreamCalls
 pub mod RecordCalls
+pub mod JournalCalls
 pub mod CarriesItsNumber
 pub mod ChangesNeither
 pub mod ThoseOfRtcm
@@ -11,6 +12,7 @@ pub mod Demand2
 pub mod Demand3
 pub mod Counters
 pub mod LateJoiners
+pub mod WordsKept
 pub mod Demand1
 pub mod Course
 pub mod XorLaw

@@ -6,7 +6,7 @@ use Rattle.reader.specs.Reading.{started, pastOf, fedBy, fedAllBy, endedBy, tak
 use Rattle.writer.specs.Answer.{openedBy, openedTo, writtenBy, writtenTo}
 use Rattle.journal.specs.Journal.{recordedBy, recordedTo, keptBy, heldBy, recalledBy}
 use Rattle.printing.specs.Printing.{decimal, printedBy, printedTo}
-use Rattle.listing.specs.Listing.{begun, pieceBy, pieceText, finishBy, finishText}
+use Rattle.listing.specs.Listing.{begun, pieceBy, pieceText, finishBy, finishText, linePut, lineTo}
 use Rattle.reader.proofs.new as reader-new
 use Rattle.reader.proofs.feed
 use Rattle.reader.proofs.feed_all
@@ -22,6 +22,7 @@ use Rattle.printing.proofs.put_number
 use Rattle.printing.proofs.put_labelled
 use Rattle.listing.proofs.new as listing-new
 use Rattle.listing.proofs.list_piece
+use Rattle.listing.proofs.put_line
 use Rattle.listing.proofs.finish
 use Rattle.promises.specs.Answered.{Answered, AnsweredLent}
 
@@ -69,6 +70,9 @@ pub record StreamCalls : Type 2 where
   pub list-piece : AnsweredLent list_piece.Reads.Asked list_piece.Reads.Learnt list_piece.Statement.statement
       (λ κs (listing, (input, (output, _))). pieceBy listing (now input) (length (now output)))
       (λ κs (_, (_, (output, _))). now output) (λ κs (listing, (input, (output, _))). pieceText listing (now input) (now output))
+  pub put-line : AnsweredLent put_line.Reads.Asked put_line.Reads.Learnt put_line.Statement.statement
+      (λ κs (at, (frame, (output, _))). linePut at frame (now output))
+      (λ κs (_, (_, (output, _))). now output) (λ κs (at, (frame, (output, _))). lineTo at frame (now output))
   pub finish : AnsweredLent finish.Reads.Asked finish.Reads.Learnt finish.Statement.statement
       (λ κs (listing, (output, _)). finishBy listing (length (now output)))
       (λ κs (_, (output, _)). now output) (λ κs (listing, (output, _)). finishText listing (now output))

@@ -15,6 +15,8 @@ pub mod RecallLaws
 pub mod RowLaws
 pub mod SendLaws
 pub mod SendOrders
+pub mod WordsLaws
+pub mod WordsOrders
 pub mod TextLaws
 pub mod ValueOrders
 pub mod WordLaws

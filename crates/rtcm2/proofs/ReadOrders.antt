@@ -50,7 +50,7 @@ pub recall-order : (bs : List ℕ) → recallSaid bs ≡ inOrder (recallOrder bs
 recall-order bs = says-order saysRecalled refusedRecall (λ n. refl) (recalled (nByte bs) (wordsAfter 3 bs)) (recallOrder bs) refl
 
 -- the frame alone
-frame-order : (bs : List ℕ) → frameSaid bs ≡ inOrder (recallOrder bs) refuses (answers (frameFrom bs))
+pub frame-order : (bs : List ℕ) → frameSaid bs ≡ inOrder (recallOrder bs) refuses (answers (frameFrom bs))
 frame-order bs =
     ap (λ s. andThen s (λ r. answers (r .1))) (recall-order bs)
     ∙ order-map (λ s. andThen s (λ r. answers (r .1))) (recallOrder bs) refuses (answers (3 * nByte bs + 9, frameFrom bs))
@@ -60,7 +60,7 @@ module _ (bs : List ℕ) (fits : AreBytes bs) where
   pub recalled-within : (f : Frame) (bytes : ℕ) → recallSaid bs ≡ answers (bytes, f) → outside f ≡ false
   recalled-within f bytes e = reread bs fits f bytes e .inside
 
-  within : NoneApplies (recallOrder bs) → outside (frameFrom bs) ≡ false
+  pub within : NoneApplies (recallOrder bs) → outside (frameFrom bs) ≡ false
   within none =
       recalled-within (frameFrom bs) (3 * nByte bs + 9)
       (recall-order bs ∙ order-answers refuses (answers (3 * nByte bs + 9, frameFrom bs)) (recallOrder bs) none)

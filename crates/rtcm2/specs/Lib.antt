@@ -3,6 +3,7 @@ pub mod Header
 pub mod Frames
 pub mod Line
 pub mod Send
+pub mod Words
 pub mod Positions
 pub mod Nulls
 pub mod Texts

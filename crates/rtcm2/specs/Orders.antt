@@ -5,10 +5,10 @@ use Prim.Native.Nat.{ℕ, _+_, _*_, _/_, _%_}
 use lib.Dec.{ltb, leb, eqb}
 use lib.ListN.{length, take, replicate}
 use Rattle.answer.specs.Order.{Check}
-use Rattle.frame.specs.Frames.{framed, frameOf}
+use Rattle.frame.specs.Frames.{afterPair, framed, frameOf}
 use Rattle.frame.specs.Header.{stateOf}
 use Rattle.frame.specs.Layout.{systemOf}
-use Rattle.frame.specs.Widths.{anyOf, headerOutside, late}
+use Rattle.frame.specs.Widths.{anyOf, headerOutside, pairOutside, late}
 use Rattle.frame.specs.declared.Frame.{Frame}
 use Rattle.frame.specs.declared.Header.{Header}
 use Rattle.frame.specs.declared.Layout.{Layout}
@@ -19,6 +19,7 @@ use Rattle.reader.specs.Reading.{bitsOf, past, frameWaits}
 use Rattle.journal.specs.Bytes.{wordsFrom}
 use Rattle.journal.specs.Forms.{wordsAfter}
 use Rattle.journal.specs.Journal.{recallOrder}
+use Rattle.journal.specs.Words.{pairNumbered, carriedIn, dataIn, recallWordsOrder}
 use Rattle.writer.specs.Sending.{lineLength}
 use Rattle.record_fields.specs.Coding.{Coding, frameBits, entryIn, frameWith}
 use Rattle.record_stages.specs.Stages.{wrongCount, otherLayout, entriesHeld, misfit, wrongSize, makeOrder}
@@ -34,6 +35,7 @@ use Rattle.rtcm2_state.specs.State.{stateSize, holdsState, stateIn}
 use Rattle.rtcm2_rows.specs.Rows.{rowSize, countOf, entriesFrom}
 use Rattle.rtcm2_rows.specs.Corrections as correction-bytes
 use Rattle.rtcm2_rows.specs.Healths as health-bytes
+use Rattle.rtcm2.specs.Send.{pairOf}
 
 -- ---- reading the line
 
@@ -70,6 +72,19 @@ abbrev pub writeOrder : List ℕ → ℕ → ℕ → List ℕ → List Check
 writeOrder bs d29 d30 line =
     recallOrder bs
     ++ ((ltb 1 d29, 5) ∷ (ltb 1 d30, 5) ∷ (late (frameFrom bs .header .z), 7) ∷ (ltb (length line) (lineLength (frameFrom bs)), 13) ∷ [])
+
+-- KEEP WORDS: then 5 for either carried bit, 13
+abbrev pub keepWordsOrder : List ℕ → ℕ → ℕ → List ℕ → List Check
+keepWordsOrder bs d29 d30 words =
+    recallOrder bs ++ ((pairOutside (pairOf d29 d30), 5) ∷ (ltb (length words) (4 * frameFrom bs .n + 11), 13) ∷ [])
+
+-- the frame of the words in a record, after its own pair
+abbrev pub liveFrom : List ℕ → Frame
+liveFrom bs = afterPair (pairNumbered (carriedIn (wordsAfter 4 bs))) (frameOf (dataIn (wordsAfter 4 bs)))
+
+-- RECALL WORDS: 14, 15, 16, 15, 16, 17, then 13
+abbrev pub restoreOrder : List ℕ → List ℕ → List Check
+restoreOrder words frame = recallWordsOrder words ++ (shortFor (liveFrom words) frame ∷ [])
 
 -- A RECORD OF A LAYOUT: 6, 7, 8, then its own
 abbrev pub recordChecks : Layout → Frame → Bool → List Check → List Check

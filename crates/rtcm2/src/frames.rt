@@ -70,7 +70,7 @@ fn words_of(n: usize, bytes: &[u8]) -> [u32; 31]
 }
 
 // Keeps the frame of a header and its data words. Order 5, also where the bytes are no whole number of words or over 31 words, 13.
-fn keep_words(header: Header, bytes: &[u8], frame: &mut [u8], length: &mut usize) -> u8
+fn keep_data(header: Header, bytes: &[u8], frame: &mut [u8], length: &mut usize) -> u8
     ensures { λ r. ⌜ r ≡ numberOf (keptTo (wordsSaid header (now (bytes .entry))) (now (frame .entry))) ⌝ }
     ensures { λ _. ⌜ now (frame .exit) ≡ heldTo (wordsSaid header (now (bytes .entry))) (now (frame .entry)) ⌝ }
     ensures { λ _. ⌜ now (length .exit) ≡ sizeTo (wordsSaid header (now (bytes .entry))) (now (frame .entry)) (now (length .entry)) ⌝ }
@@ -103,7 +103,7 @@ pub extern "C" fn rtcm2_keep(
     ensures { λ _. ⌜ now (length .exit) ≡ sizeTo (keepSaid kind station z sequence health (now (bytes .entry))) (now (frame .entry)) (now (length .entry)) ⌝ }
 {
     match header_of(kind, station, z, sequence, health) {
-        Headed::Header(header) => keep_words(header, bytes, frame, length),
+        Headed::Header(header) => keep_data(header, bytes, frame, length),
         Headed::Refused(number) => number,
     }
 }

@@ -11,3 +11,4 @@ pub mod send;
 pub mod text;
 pub mod values;
 pub mod window;
+pub mod words;

@@ -29,6 +29,7 @@ use Rattle.rtcm2.specs.Orders as in-order
 use Rattle.rtcm2.proofs.LineOrders.{held-order, start-order, counts-order, feed-all-order, end-order}
 use Rattle.rtcm2.proofs.LineTaking.{take-order}
 use Rattle.rtcm2.proofs.SendOrders.{open-order, write-order}
+use Rattle.rtcm2.proofs.WordsOrders.{keep-words-order, restore-order}
 use Rattle.rtcm2.proofs.ReadOrders as reads
 use Rattle.rtcm2.proofs.MakeOrders as makes
 use Rattle.rtcm2.proofs.ValueOrders.{limit-order}
@@ -67,6 +68,8 @@ library-numbers = record {
   keep = λ kind station z sequence code bs buffer.
       ordered (in-order.keptOrder kind station z sequence code bs buffer) _ (makes.keep-order kind station z sequence code buffer bs) refl refl;
   recall = λ bs. ordered (recallOrder bs) _ (reads.recall-order bs) refl refl;
+  keep-words = λ bs fits d29 d30 words. ordered (in-order.keepWordsOrder bs d29 d30 words) _ (keep-words-order bs fits d29 d30 words) refl refl;
+  recall-words = λ bs frame. ordered (in-order.restoreOrder bs frame) _ (restore-order bs frame) refl refl;
   count-corrections = λ bs fits. ordered (in-order.countOrder layout.Correction 40 bs) _ (reads.corrections-counted bs fits) refl refl;
   correction-at = λ bs fits i lent.
       ordered (in-order.entryOrder layout.Correction 40 (correction.row Gps) bs i (in-order.correctionChecks bs i) lent) _

@@ -1,5 +1,5 @@
 -- A refusal before the last stage leaves the place alone; one of the last stage is that of the package's own call. Assumes nothing.
-use mathlib.Core.Path.{refl, sym}
+use mathlib.Core.Path.{_≡_, refl, sym}
 use mathlib.Core.Bool.{Bool}
 use mathlib.Core.List.{List}
 use Prim.Native.Nat.{ℕ}
@@ -15,7 +15,12 @@ use Rattle.rtcm2_rows.specs.Corrections as correction
 use Rattle.rtcm2_rows.specs.Healths as health
 use Rattle.rtcm2.specs.Header.{headed}
 use Rattle.rtcm2.specs.Frames.{frameSaid, keepSaid, keptTo, heldTo, sizeTo}
+use Rattle.rtcm2.specs.Answer.{andThen}
 use Rattle.rtcm2.specs.Send.{pairOf, writeSaid, lineLent}
+use Rattle.rtcm2.specs.Words.{wordsKept, wordsHeld, liveSaid, backSaid, backHeld}
+use Rattle.journal.specs.Journal.{keptBy, saysKept}
+use Rattle.frame.specs.Frames.{afterPair}
+use native.Mathlib.Omega.{arith}
 use Rattle.rtcm2.specs.Rows.{rowTo, rowHeld}
 use Rattle.rtcm2.specs.Corrections as corrections
 use Rattle.rtcm2.specs.Healths as healths
@@ -28,9 +33,22 @@ use Rattle.promises.proofs.ChangesNeither.{keeps, changes-neither}
 use Rattle.rtcm2_promises.specs.ChangesNeither.{LibraryKeeps}
 use Rattle.rtcm2_promises.proofs.CarriesItsNumber.{put-ordered, put-stored}
 
+-- what is answered of a value is refused where the value was
+then-refused : {A B : Type 0} (s : Says A) (of : A → B) (n : ℕ) → andThen s (λ a. answers (of a)) ≡ refuses n → s ≡ refuses n
+then-refused (answers a) of n e = let z : _≡_ {A = ℕ} 0 1 = cc in absurd (omega arith)
+then-refused (refuses m) of n e = cc
+
 line-keeps : (s : Says Frame) (d29 d30 : ℕ) (line : List ℕ) → Keeps (writeSaid s d29 d30 line) (lineLent s d29 d30 line) line
 line-keeps (answers f) d29 d30 line = changes-neither .write f (pairOf d29 d30) line
 line-keeps (refuses m) d29 d30 line = λ n e. refl
+
+words-keeps : (s : Says Frame) (d29 d30 : ℕ) (words : List ℕ) → Keeps (wordsKept s d29 d30 words) (wordsHeld s d29 d30 words) words
+words-keeps (answers f) d29 d30 words = changes-neither .keep-words (afterPair (pairOf d29 d30) f) words
+words-keeps (refuses m) d29 d30 words = λ n e. refl
+
+back-keeps : (s : Says (ℕ × Frame)) (frame : List ℕ) → Keeps (backSaid s frame) (backHeld s frame) frame
+back-keeps (answers r) frame = λ n e. changes-neither .keep (r .1) frame n (then-refused (saysKept (keptBy (r .1) frame)) (λ k. (k, r)) n e)
+back-keeps (refuses m) frame = λ n e. refl
 
 frame-keeps : (s : Says Frame) (buffer : List ℕ) → Keeps (keptTo s buffer) (heldTo s buffer) buffer
 frame-keeps (answers f) buffer = changes-neither .keep f buffer
@@ -70,6 +88,9 @@ library-keeps = record {
   keep = λ kind station z sequence code bs. made-keeps (keepSaid kind station z sequence code bs);
   recall = λ frame kind station z sequence code m size.
       (λ n e. rw e, λ n e. rw e, λ n e. rw e, λ n e. rw e, λ n e. rw e, λ n e. rw e, λ n e. rw e);
+  keep-words = λ frame d29 d30 words size. (words-keeps (frameSaid frame) d29 d30 words, λ n e. rw e);
+  recall-words = λ words frame d29 d30 read size.
+      (back-keeps (liveSaid words) frame, λ n e. rw e, λ n e. rw e, λ n e. rw e, λ n e. rw e);
   count-corrections = λ frame count n e. rw e;
   correction-at = λ frame i. entry-keeps (correction.row Gps) (corrections.entrySaid (frameSaid frame) i);
   make-corrections = λ kind station z sequence code rows. made-keeps (corrections.madeSaid (headed kind station z sequence code) rows);

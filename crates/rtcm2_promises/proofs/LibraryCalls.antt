@@ -50,6 +50,18 @@ library-calls = record {
         λ κs a z e p. place-and (p .1 .0) (place-and (p .1 .1 .0) (place-and (p .1 .1 .1 .0) (four-places (p .1 .1 .1 .1))));
     ends = rtcm2.frames.rtcm2_recall.Met.met;
   };
+  keep-words = record {
+    asks-nothing = λ κs a. tt;
+    settles = λ κs a z e p. p .0;
+    leaves = λ κs a z e p. two-places (p .1);
+    ends = rtcm2.words.rtcm2_keep_words.Met.met;
+  };
+  recall-words = record {
+    asks-nothing = λ κs a. tt;
+    settles = λ κs a z e p. p .0;
+    leaves = λ κs a z e p. place-and (p .1 .0) (four-places (p .1 .1));
+    ends = rtcm2.words.rtcm2_recall_words.Met.met;
+  };
   count-corrections = record {
     asks-nothing = λ κs a. tt;
     settles = λ κs a z e p. p .0;

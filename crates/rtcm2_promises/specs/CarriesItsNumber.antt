@@ -22,6 +22,7 @@ use Rattle.rtcm2.specs.Header.{headed}
 use Rattle.rtcm2.specs.Frames.{frameSaid, keptTo, keepSaid, recallSaid}
 use Rattle.rtcm2.specs.Line.{startedIn, countsIn, fedIn, fedAllIn, endedIn, takenIn}
 use Rattle.rtcm2.specs.Send.{openSaid, writeSaid}
+use Rattle.rtcm2.specs.Words.{wordsKept, liveSaid, backSaid}
 use Rattle.rtcm2.specs.Rows.{rowTo}
 use Rattle.rtcm2.specs.Corrections as corrections
 use Rattle.rtcm2.specs.Healths as healths
@@ -61,6 +62,10 @@ pub record LibraryNumbers : Type 0 where
   pub keep : (kind station z sequence code : ℕ) (bs buffer : List ℕ)
       → Ordered (5 ∷ 5 ∷ 5 ∷ 5 ∷ 13 ∷ []) (in-order.keptOrder kind station z sequence code bs buffer) (keptTo (keepSaid kind station z sequence code bs) buffer)
   pub recall : (bs : List ℕ) → Ordered (afterRecord []) (recallOrder bs) (recallSaid bs)
+  -- the journal that keeps the words
+  pub keep-words : (bs : List ℕ) → AreBytes bs → (d29 d30 : ℕ) (words : List ℕ)
+      → Ordered (afterRecord (5 ∷ 13 ∷ [])) (in-order.keepWordsOrder bs d29 d30 words) (wordsKept (frameSaid bs) d29 d30 words)
+  pub recall-words : (bs frame : List ℕ) → Ordered (afterRecord (17 ∷ 13 ∷ [])) (in-order.restoreOrder bs frame) (backSaid (liveSaid bs) frame)
   -- record_corrections
   pub count-corrections : (bs : List ℕ) → AreBytes bs
       → Ordered (afterRecord (6 ∷ 7 ∷ 8 ∷ [])) (in-order.countOrder layout.Correction 40 bs) (corrections.countSaid (frameSaid bs))

@@ -19,6 +19,7 @@ use Rattle.rtcm2_rows.specs.Healths as entry-healths
 use Rattle.rtcm2.specs.Answer.{left}
 use Rattle.rtcm2.specs.Line.{startedIn, countsIn, fedIn, fedAllIn, endedIn, takenIn}
 use Rattle.rtcm2.specs.Send.{openSaid, writeSaid, d29After, d30After, lineLent}
+use Rattle.rtcm2.specs.Words.{wordsKept, wordsHeld, wordsSize, liveSaid, backSaid, backHeld, d29Back, d30Back, readBack, lengthBack}
 use Rattle.rtcm2.specs.Send as send
 use Rattle.rtcm2.specs.Frames.{frameSaid, keptTo, keepSaid, heldTo, sizeTo}
 use Rattle.rtcm2.specs.Frames.{recallSaid, kindSaid, stationSaid, zCountSaid, sequenceSaid, healthSaid, nSaid, lengthSaid}
@@ -61,6 +62,12 @@ pub record LibraryKeeps : Type 0 where
       Keeps s (left s kindSaid kind) kind × Keeps s (left s stationSaid station) station × Keeps s (left s zCountSaid z) z
       × Keeps s (left s sequenceSaid sequence) sequence × Keeps s (left s healthSaid code) code × Keeps s (left s nSaid n) n
       × Keeps s (left s lengthSaid size) size
+  -- the journal that keeps the words
+  pub keep-words : (frame : List ℕ) (d29 d30 : ℕ) (words : List ℕ) (size : ℕ) → let f = frameSaid frame in let s = wordsKept f d29 d30 words in
+      Keeps s (wordsHeld f d29 d30 words) words × Keeps s (wordsSize f d29 d30 words size) size
+  pub recall-words : (words frame : List ℕ) (d29 d30 read size : ℕ) → let s = backSaid (liveSaid words) frame in
+      Keeps s (backHeld (liveSaid words) frame) frame × Keeps s (left s d29Back d29) d29 × Keeps s (left s d30Back d30) d30
+      × Keeps s (left s readBack read) read × Keeps s (left s lengthBack size) size
   -- record_corrections
   pub count-corrections : (frame : List ℕ) (count : ℕ) → let s = corrections.countSaid (frameSaid frame) in Keeps s (left s (λ k. k) count) count
   pub correction-at : (frame : List ℕ) (i : ℕ) (lent : List ℕ) → let s = corrections.entrySaid (frameSaid frame) i in

@@ -17,6 +17,7 @@ use Rattle.rtcm2.specs.Send.{openSaid, writeSaid, d29After, d30After, lineLent}
 use Rattle.writer.specs.Answer.{openedTo}
 use Rattle.rtcm2.specs.Frames.{frameSaid, keptTo, keepSaid, heldTo, sizeTo, recallSaid, kindSaid}
 use Rattle.rtcm2.specs.Frames.{stationSaid, zCountSaid, sequenceSaid, healthSaid, nSaid, lengthSaid}
+use Rattle.rtcm2.specs.Words.{wordsKept, wordsHeld, wordsSize, liveSaid, backSaid, backHeld, d29Back, d30Back, readBack, lengthBack}
 use Rattle.rtcm2.specs.Rows.{rowTo, rowHeld}
 use Rattle.rtcm2.specs.Header.{headed}
 use Rattle.rtcm2.specs.Positions.{positionSaid, xSaid, ySaid, zSaid}
@@ -55,6 +56,8 @@ use Rattle.rtcm2.proofs.send.rtcm2_open as rtcm2-open
 use Rattle.rtcm2.proofs.send.rtcm2_write
 use Rattle.rtcm2.proofs.frames.rtcm2_keep
 use Rattle.rtcm2.proofs.frames.rtcm2_recall
+use Rattle.rtcm2.proofs.words.rtcm2_keep_words
+use Rattle.rtcm2.proofs.words.rtcm2_recall_words
 use Rattle.rtcm2.proofs.correction.rtcm2_count_corrections
 use Rattle.rtcm2.proofs.correction.rtcm2_correction_at
 use Rattle.rtcm2.proofs.correction.rtcm2_make_corrections
@@ -184,6 +187,18 @@ pub record LibraryCalls : Type 2 where
           ),
         ),
       ))
+  -- rtcm2::words
+  pub keep-words : AnsweredLent {B = List ℕ × ℕ} rtcm2_keep_words.Reads.Asked rtcm2_keep_words.Reads.Learnt rtcm2_keep_words.Statement.statement
+      (λ κs (frame, (d29, (d30, (words, _)))). numberOf (wordsKept (frameSaid (now frame)) d29 d30 (now words)))
+      (λ κs (_, (_, (_, (words, (length, _))))). (now words, now length))
+      (λ κs (frame, (d29, (d30, (words, (length, _))))). let s = frameSaid (now frame) in
+      (wordsHeld s d29 d30 (now words), wordsSize s d29 d30 (now words) (now length)))
+  pub recall-words : AnsweredLent {B = List ℕ × (ℕ × (ℕ × (ℕ × ℕ)))}
+      rtcm2_recall_words.Reads.Asked rtcm2_recall_words.Reads.Learnt rtcm2_recall_words.Statement.statement
+      (λ κs (words, (frame, _)). numberOf (backSaid (liveSaid (now words)) (now frame)))
+      (λ κs (_, (frame, (d29, (d30, (read, (length, _)))))). (now frame, (now d29, (now d30, (now read, now length)))))
+      (λ κs (words, (frame, (d29, (d30, (read, (length, _)))))). let s = liveSaid (now words) in let b = backSaid s (now frame) in
+      (backHeld s (now frame), (left b d29Back (now d29), (left b d30Back (now d30), (left b readBack (now read), left b lengthBack (now length))))))
   -- rtcm2::correction
   pub count-corrections : AnsweredLent
       rtcm2_count_corrections.Reads.Asked rtcm2_count_corrections.Reads.Learnt rtcm2_count_corrections.Statement.statement

@@ -19,6 +19,8 @@ pub enum Function {
     Write,
     Keep,
     Recall,
+    KeepWords,
+    RecallWords,
     CountCorrections,
     CorrectionAt,
     MakeCorrections,
@@ -59,7 +61,7 @@ const fn row(function: Function, name: &'static str, answers: &'static [u64]) ->
 }
 
 /// All functions, in the order of the header.
-pub const FUNCTIONS: [Row; 30] = [
+pub const FUNCTIONS: &[Row] = &[
     row(Function::StateSize, "rtcm2_state_size", &[196]),
     row(Function::Start, "rtcm2_start", &[0, 13]),
     row(Function::Feed, "rtcm2_feed", &[0, 1, 2, 3, 5]),
@@ -71,6 +73,16 @@ pub const FUNCTIONS: [Row; 30] = [
     row(Function::Write, "rtcm2_write", &[0, 5, 7, 13, 14, 15, 16]),
     row(Function::Keep, "rtcm2_keep", &[0, 5, 13]),
     row(Function::Recall, "rtcm2_recall", &[0, 14, 15, 16]),
+    row(
+        Function::KeepWords,
+        "rtcm2_keep_words",
+        &[0, 5, 13, 14, 15, 16],
+    ),
+    row(
+        Function::RecallWords,
+        "rtcm2_recall_words",
+        &[0, 13, 14, 15, 16, 17],
+    ),
     row(
         Function::CountCorrections,
         "rtcm2_count_corrections",

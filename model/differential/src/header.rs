@@ -57,6 +57,25 @@ unsafe extern "C" {
         n: *mut u8,
         length: *mut usize,
     ) -> u8;
+    pub fn rtcm2_keep_words(
+        frame: *const u8,
+        frame_size: usize,
+        d29: u8,
+        d30: u8,
+        words: *mut u8,
+        words_size: usize,
+        length: *mut usize,
+    ) -> u8;
+    pub fn rtcm2_recall_words(
+        words: *const u8,
+        words_size: usize,
+        frame: *mut u8,
+        frame_size: usize,
+        d29: *mut u8,
+        d30: *mut u8,
+        read: *mut usize,
+        length: *mut usize,
+    ) -> u8;
     pub fn rtcm2_count_corrections(frame: *const u8, frame_size: usize, count: *mut usize) -> u8;
     pub fn rtcm2_correction_at(
         frame: *const u8,

@@ -1,5 +1,7 @@
 //! The calls through the static library.
 
+mod journals;
+
 use crate::call::{Call, Function};
 use crate::header::*;
 use crate::place::Place;
@@ -16,6 +18,7 @@ pub fn answer(call: &mut Call) -> u64 {
         Function::Recall | Function::ReadPosition | Function::ReadNull | Function::ReadText => {
             u64::from(read(call))
         }
+        Function::KeepWords | Function::RecallWords => u64::from(journals::words(call)),
         Function::CountCorrections
         | Function::CorrectionAt
         | Function::CountHealths

@@ -42,7 +42,7 @@ fn main() -> ExitCode {
 /// Makes the calls of a seed; whether all are equal and every answer came.
 fn run(seed: u64, count: u64) -> bool {
     let mut draw = Draw::new(seed);
-    let mut tally = Tally::default();
+    let mut tally = Tally::none();
     for number in 1..=count {
         let call = draw.call();
         match compare(&call) {

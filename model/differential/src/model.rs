@@ -1,10 +1,12 @@
 //! The same calls through the model.
 
+mod journals;
+
 use crate::call::{Call, Function};
 use crate::place::Place;
 use rtcm2_model::library::frames::{self, Recalled};
 use rtcm2_model::library::line::{self, Taking};
-use rtcm2_model::library::{lists, numbers, records, words};
+use rtcm2_model::library::{lists, numbers, records, words as windows};
 use rtcm2_model::record::position::Position;
 
 /// Makes the call and gives its answer.
@@ -19,6 +21,7 @@ pub fn answer(call: &mut Call) -> u64 {
         Function::Recall | Function::ReadPosition | Function::ReadNull | Function::ReadText => {
             u64::from(read(call))
         }
+        Function::KeepWords | Function::RecallWords => u64::from(journals::words(call)),
         Function::CountCorrections
         | Function::CorrectionAt
         | Function::CountHealths
@@ -169,7 +172,7 @@ fn letter_of(call: &mut Call) -> u8 {
 
 fn remainder(call: &mut Call) -> u8 {
     let [remainder] = of(&mut call.lent);
-    words::remainder(call.given[0] as u32, remainder.number())
+    windows::remainder(call.given[0] as u32, remainder.number())
 }
 
 fn number(call: &mut Call) -> u8 {

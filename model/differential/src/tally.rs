@@ -4,12 +4,18 @@ use crate::call::{row_of, Function, FUNCTIONS};
 use std::collections::BTreeMap;
 
 /// The counts, a map from answers for each function.
-#[derive(Default)]
 pub struct Tally {
     counts: [BTreeMap<u64, u64>; FUNCTIONS.len()],
 }
 
 impl Tally {
+    /// No call yet.
+    pub fn none() -> Tally {
+        Tally {
+            counts: std::array::from_fn(|_| BTreeMap::new()),
+        }
+    }
+
     /// Counts a call.
     pub fn count(&mut self, function: Function, answer: u64) {
         *self.counts[row_of(function)].entry(answer).or_default() += 1;

@@ -4,6 +4,7 @@
 
 pub mod frames;
 mod hunt;
+pub mod journals;
 pub mod line;
 pub mod lists;
 pub mod numbers;

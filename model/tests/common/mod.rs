@@ -33,3 +33,10 @@ pub fn turned(frame: Frame) -> Frame {
         d30: 1 - frame.carried.d30,
     })
 }
+
+/// The bytes that a text of two-digit numbers stands for.
+#[allow(dead_code)] // used where records are given as text
+pub fn bytes(text: &str) -> Vec<u8> {
+    let byte = |part| u8::from_str_radix(part, 16).unwrap();
+    text.split_whitespace().map(byte).collect()
+}

@@ -5,7 +5,7 @@ use denote.Ref.{now}
 use borrow.Author.Needs.{needs}
 use Rattle.frame.specs.Widths.{outside}
 use Rattle.frame.proofs.WidthLaws.{told-outside, told-within}
-use Rattle.journal.proofs.KeepLaws.{keep-outside, keep-within}
+use Rattle.journal.proofs.PutLaws.{keep-outside, keep-within}
 use Rattle.journal.proofs.keep.Statement.{statement}
 use Rattle.journal.proofs.keep.Tie as tie
 

@@ -7,7 +7,7 @@ use denote.Ref.{now}
 use borrow.Author.Needs.{needs}
 use Rattle.frame.specs.Answer.{headerWords}
 use Rattle.frame.specs.declared.HeaderWords.the-variants as words
-use Rattle.journal.proofs.KeepLaws.{header-told, few-told, record-written, put-outside, put-short, put-whole}
+use Rattle.journal.proofs.PutLaws.{header-told, few-told, record-written, put-outside, put-short, put-whole}
 use Rattle.journal.proofs.put_frame.Statement.{statement}
 use Rattle.journal.proofs.put_frame.Tie as tie
 

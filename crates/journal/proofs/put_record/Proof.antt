@@ -13,7 +13,7 @@ returns c =
     let first = second .before .before .before .before in
     let start = first .before .before .before .before in
     let a = start .before .before .before .args in
-    cc (store-record (now (a .buffer)) 0x32 (a .n) (a .first) (a .second) (take (a .n) (now (a .words))))
+    cc (store-record 3 (now (a .buffer)) 0x32 (a .n) (a .first) (a .second) (take (a .n) (now (a .words))))
 
 pub put-record-spec : {M : Type 1} → statement M
 put-record-spec =

@@ -55,13 +55,18 @@ returns c =
     (e .0, ((omega (arith, used-le (v .state) (drop (v .used) bs) _ fed, length-drop (v .used) bs), omega arith), e .1))
 
 put-frame-requires : tie.Need-put-frame-requires Inv-loop μ-loop
-put-frame-requires c κs = let inside = taken-inside _ _ (c .before .before .before .take .ensures) in (inside .0, inside .1, omega arith)
+put-frame-requires c κs = let inside = taken-inside _ _ (c .before .before .before .before .take .ensures) in (inside .0, inside .1, omega arith)
+
+loop-less : tie.Need-loop-less Inv-loop μ-loop
+loop-less c =
+    let took = c .before .before .before .before .before .before .before .before in
+    omega (arith, took .before .before .before .before .before .loop-test .taken)
 
 loop-again : tie.Need-loop-again Inv-loop μ-loop
 loop-again c =
     let put = c .before .before .before in
     let line = put .put-frame .ensures in
-    let is = put .before .before in
+    let is = put .before .before .before in
     let done = is .enum-told .given .1 in
     let t = is .before .before in
     let took = t .take in
@@ -98,5 +103,5 @@ put-lines-spec =
     (tie.spec Inv-loop μ-loop loop-holds (λ c. omega arith) (λ c. omega arith) (λ c. search needs)
     (λ c. search needs) (λ c κs. search needs) add-used (λ c κs. search needs) (λ c. search needs)
     (λ c. search needs) same-length
-    returns put-frame-requires (λ c κs. search needs) (λ c. omega arith) loop-again
+    returns (λ c. search needs) put-frame-requires (λ c κs. search needs) loop-less loop-again
     (λ c. c .before .loop .inv .3) returns-2)

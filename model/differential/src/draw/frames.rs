@@ -128,7 +128,7 @@ fn kind_of(function: Function, rng: &mut Rng) -> u16 {
 }
 
 /// The frame's record, sometimes with bytes behind it, sometimes damaged.
-fn record(rng: &mut Rng, frame: &Frame) -> Vec<u8> {
+pub fn record(rng: &mut Rng, frame: &Frame) -> Vec<u8> {
     let mut record = vec![0; 102];
     let length = journal::keep(frame, &mut record).expect("a right frame");
     record.truncate(length);
@@ -185,12 +185,17 @@ fn change(record: &mut [u8], at: usize, bits: u8) {
     }
 }
 
-/// A carried bit, mostly 0 or 1.
+/// A lent carried bit.
 fn carried(rng: &mut Rng) -> Place {
     let mut place = Place::number_drawn(rng);
-    *place.number::<u8>() = match rng.below(12) {
+    *place.number::<u8>() = carried_bit(rng);
+    place
+}
+
+/// A carried bit, mostly 0 or 1.
+pub fn carried_bit(rng: &mut Rng) -> u8 {
+    match rng.below(12) {
         0 => one_of(rng, &[2, 3, 128, 254, 255]),
         _ => rng.below(2) as u8,
-    };
-    place
+    }
 }

@@ -4,6 +4,7 @@ mod bits;
 mod ends;
 mod entries;
 mod frames;
+mod journals;
 mod makers;
 mod readers;
 mod states;
@@ -33,9 +34,10 @@ impl Draw {
     pub fn call(&mut self) -> Call {
         let rng = &mut self.rng;
         match rng.below(100) {
-            0..=44 => self.readers.call(rng),
-            45..=69 => frames::call(rng),
-            70..=91 => makers::call(rng),
+            0..=40 => self.readers.call(rng),
+            41..=62 => frames::call(rng),
+            63..=82 => makers::call(rng),
+            83..=91 => journals::call(rng),
             _ => number(rng),
         }
     }

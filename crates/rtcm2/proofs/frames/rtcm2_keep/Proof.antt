@@ -17,7 +17,7 @@ returns c =
     keeps-as (now (a .frame)) (now (a .length))
     (head-told (a .kind) (a .station) (a .z) (a .sequence) (a .health) (λ x. wordsSaid x (now (a .bytes)))
     (sym (t .header .given .1) ∙ h .header-of .ensures))
-    (k .keep-words .ensures)
+    (k .keep-data .ensures)
 
 returns-2 : tie.Need-returns-2
 returns-2 c =

@@ -14,7 +14,7 @@ use Rattle.reader.specs.declared.Candidate.{Candidate}
 use Rattle.reader.specs.declared.Answer.the-variants.{Refused}
 use Rattle.reader.specs.declared.Taken.{Taken}
 use Rattle.journal.specs.Journal.{recordedBy, recordedTo, keptBy, heldBy}
-use Rattle.journal.proofs.KeepLaws.{keep-within}
+use Rattle.journal.proofs.PutLaws.{keep-within}
 use Rattle.rtcm2_state.specs.State.{holdsState, stateIn, startPut}
 use Rattle.rtcm2.specs.Answer.{left}
 use Rattle.rtcm2.specs.Line.{readBy, takenIn}

@@ -1,12 +1,12 @@
--- `keep_words` meets its contract: the two refusals, or what keeping the frame of the words leaves. Assumes nothing.
+-- `keep_data` meets its contract: the two refusals, or what keeping the frame of the words leaves. Assumes nothing.
 use mathlib.Core.Path.{ap, _∙_}
 use denote.Ref.{now}
 use borrow.Author.Needs.{needs}
 use Rattle.answer.specs.Order.{answers}
 use Rattle.rtcm2.proofs.KeepLaws.{keeps-refused, keeps-as}
 use Rattle.rtcm2.proofs.WordLaws.{part-left, too-many, words-kept}
-use Rattle.rtcm2.proofs.frames.keep_words.Statement.{statement}
-use Rattle.rtcm2.proofs.frames.keep_words.Tie as tie
+use Rattle.rtcm2.proofs.frames.keep_data.Statement.{statement}
+use Rattle.rtcm2.proofs.frames.keep_data.Tie as tie
 
 returns : tie.Need-returns
 returns c =
@@ -30,7 +30,7 @@ returns-3 c =
     ∙ words-kept (a .header) (now (a .bytes)) (i .before .if1 .left) (i .if2 .left) (w .words-of .ensures))
     (k .keep-frame .ensures)
 
-pub keep-words-spec : {M : Type 1} → statement M
-keep-words-spec =
+pub keep-data-spec : {M : Type 1} → statement M
+keep-data-spec =
     tie.close
     (tie.spec returns returns-2 (λ c κs. search needs) (λ c κs. search needs) (λ c κs. search needs) (λ c. search needs) returns-3)

@@ -1,0 +1,5 @@
+pub mod MoveLaws
+pub mod RunLaws
+pub mod PieceLaws
+pub mod JournalLaws
+pub mod BackLaws
