@@ -62,7 +62,8 @@ enum {
     RTCM2_WORDS_MAX = 135,      /* the longest record that keeps the words */
     RTCM2_CORRECTION_SIZE = 7,  /* one correction */
     RTCM2_HEALTH_SIZE = 10,     /* one satellite's health */
-    RTCM2_TEXT_MAX = 90         /* the longest text */
+    RTCM2_TEXT_MAX = 90,        /* the longest text */
+    RTCM2_REPORT_MAX = 986      /* room for the report of any step of the mender */
 };
 
 /* ---- Reading the line. The reader's state lies in RTCM2_STATE_SIZE bytes that the caller lends; bytes past them are not
@@ -228,6 +229,26 @@ uint8_t rtcm2_letter_of(uint8_t code, uint32_t *letter);
  * parity xor the computed one, D25 the highest of six bits: 0 where the word passes, else 1 to 63. The remainder of an xor of
  * two windows is the xor of their remainders. No refusal. */
 uint8_t rtcm2_remainder(uint32_t window, uint8_t *remainder);
+
+/* ---- Mending a journal that keeps the words (mark 0x52 0x34), a step a call. */
+
+/* What a step finds. */
+enum {
+    RTCM2_STEP_END = 0,         /* no byte is left: the run ends */
+    RTCM2_STEP_WHOLE = 1,       /* a record that reads, after mending where it had to be mended */
+    RTCM2_STEP_LOST = 2,        /* a record that can't be mended; its bytes stay */
+    RTCM2_STEP_CUT = 3,         /* a record that the bytes end in: lost, and the run ends */
+    RTCM2_STEP_NUMBERLESS = 4,  /* a record without an N that counts: lost */
+    RTCM2_STEP_PASSED = 5       /* a byte that begins no record, or while searching none that is whole */
+};
+
+/* One step at the start of the bytes, which stand at the offset `at` of the journal; `searching` is 0 or not 0. No step looks
+ * at more than 135 bytes: lend so many, or all that are left where the journal ends before. A whole record is put back in
+ * `bytes`; `report` has a line for each byte that changed, `OFFSET OLD NEW`, or `lost OFFSET`, `written` bytes in all, offsets
+ * modulo 2^64. The next step is `read` bytes on, searching after RTCM2_STEP_NUMBERLESS and RTCM2_STEP_PASSED and not
+ * searching else. Refusal: 13 for a report of fewer than RTCM2_REPORT_MAX bytes. */
+uint8_t rtcm2_mend(uint8_t *bytes, size_t bytes_size, uint64_t at, uint8_t searching, uint8_t *report, size_t report_size,
+                   uint8_t *step, size_t *read, size_t *written);
 
 #ifdef __cplusplus
 }

@@ -14,6 +14,7 @@ pub mod library;
 pub mod line;
 pub mod listing;
 pub mod mangle;
+pub mod mender;
 pub mod reader;
 pub mod record;
 pub mod refusal;

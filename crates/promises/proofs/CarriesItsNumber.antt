@@ -52,6 +52,7 @@ use Rattle.record_values.proofs.AnswerLaws.{prc-says, rrc-says, udre-says, cn0-
 use Rattle.printing.specs.Printing.{printedBy, saysPrinted}
 use Rattle.printing.specs.declared.Printed.the-variants as printed
 use Rattle.listing.specs.Listing.{pieceBy, finishBy, linePut}
+use Rattle.mender.specs.Steps.{refusedMend, saysMended}
 use Rattle.listing.specs.Listing as listing
 use Rattle.listing.specs.declared.Listed.{Listed}
 use Rattle.promises.specs.CarriesItsNumber.{checkNumbers, outsideTable, Ordered, CarriesItsNumber}
@@ -138,6 +139,7 @@ carries-its-number = record {
   letter-of = λ code. ordered ((noLetter code, 11) ∷ []) (letterValue code) (letter-says code) refl refl;
   print = λ text place buffer. told saysPrinted printed.Refused _ _ refl refl refl;
   put-line = λ at f out. told saysPrinted printed.Refused _ _ refl refl refl;
+  mend = λ bs at s output. told saysMended refusedMend _ _ refl refl refl;
   list-piece = λ l bs room. told (λ (x : Listed). saysAnswer (x .answer)) (listing.refusedListing l) _ _ refl refl refl;
   finish = λ l room. told (λ (x : Listed). saysAnswer (x .answer)) (listing.refusedListing l) _ _ refl refl refl;
 }

@@ -47,6 +47,8 @@ use Rattle.printing.specs.Printing.{printOrder, printedBy, printedTo, saysPrint
 use Rattle.printing.specs.declared.Printed.the-variants as printed
 use Rattle.listing.specs.Listing.{Lines, lineRoom, endRoom, refusedListing, listed, linesOf}
 use Rattle.listing.specs.Listing.{finalLines, pieceBy, pieceText, finishBy, finishText, linePut, lineTo}
+use Rattle.mender.specs.Steps.{refusedMend}
+use Rattle.mender.specs.declared.Mended.{Mended}
 use Rattle.listing.specs.declared.Listing.{Listing}
 use Rattle.listing.specs.declared.Listed.{Listed}
 use Rattle.listing.proofs.Lengths.{lines-le, final-le}
@@ -93,6 +95,8 @@ changes-neither = record {
   read-text = λ f buffer. keeps (carries-its-number .read-text f buffer) (λ b. b) (λ n. buffer) _ _ (λ n. refl);
   print = λ text place buffer. keeps (carries-its-number .print text place buffer) (λ b. b) (λ n. buffer) _ _ (λ n. refl);
   put-line = λ at f out. keeps (carries-its-number .put-line at f out) (λ b. b) (λ n. out) _ _ (λ n. refl);
+  mend-bytes = λ bs at s out. keeps (carries-its-number .mend bs at s out) (λ b. b) (λ n. bs) _ _ (λ n. refl);
+  mend-output = λ bs at s out. keeps (carries-its-number .mend bs at s out) (λ b. b) (λ n. out) _ _ (λ n. refl);
   list-piece = λ l bs room. keeps (carries-its-number .list-piece l bs room) (λ (x : Listed). x .listing) (refusedListing l) _ _ (λ n. refl);
   list-piece-output = λ l bs out. keeps (carries-its-number .list-piece l bs (length out)) (λ b. b) (λ n. out) _ _ (λ n. refl);
   finish = λ l room. keeps (carries-its-number .finish l room) (λ (x : Listed). x .listing) (refusedListing l) _ _ (λ n. refl);
@@ -112,6 +116,7 @@ number-alone = record {
   make-position = λ h p. keeps (carries-its-number .make-position h p) (λ (x : Made). x .frame) refusedMade _ _ (λ n. refl);
   make-null = λ h n. keeps (carries-its-number .make-null h n) (λ (x : Made). x .frame) refusedMade _ _ (λ n. refl);
   make-text = λ h t. keeps (carries-its-number .make-text h t) (λ (x : Made). x .frame) refusedMade _ _ (λ n. refl);
+  mend = λ bs at s out. keeps (carries-its-number .mend bs at s out) (λ (x : Mended). (x .step, x .written)) refusedMend _ _ (λ n. refl);
   list-piece = λ l bs room. keeps (carries-its-number .list-piece l bs room) (λ (x : Listed). (x .used, x .written)) (refusedListing l) _ _ (λ n. refl);
   finish = λ l room. keeps (carries-its-number .finish l room) (λ (x : Listed). (x .used, x .written)) (refusedListing l) _ _ (λ n. refl);
 }

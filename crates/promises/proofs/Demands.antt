@@ -13,6 +13,7 @@ use Rattle.promises.proofs.EveryReader.{feed-all-is-feed}
 use Rattle.promises.proofs.Whole.{text-is-whole}
 use Rattle.promises.proofs.Progress.{nothing-left, piece-taken, reached, text-comes}
 use Rattle.promises.proofs.XorLaw.{xor-law}
+use Rattle.promises.proofs.Mending.{mending}
 use Rattle.promises.proofs.Worked.{worked}
 
 pub demand-3 : Demand3
@@ -43,5 +44,6 @@ demands = record {
   reached = reached;
   comes = text-comes;
   xor = xor-law;
+  mending = mending;
   values = worked;
 }

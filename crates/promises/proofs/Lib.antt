@@ -14,6 +14,7 @@ pub mod PartCalls
 pub mod StreamCalls
 pub mod RecordCalls
 pub mod JournalCalls
+pub mod MenderCalls
 pub mod CarriesItsNumber
 pub mod ChangesNeither
 pub mod Demand1
@@ -29,5 +30,6 @@ pub mod Whole
 pub mod Progress
 pub mod WordsKept
 pub mod XorLaw
+pub mod Mending
 pub mod Worked
 pub mod Demands

@@ -43,6 +43,7 @@ use Rattle.record_positions.specs.declared.Position.{Position}
 use Rattle.record_values.specs.Values.{noLetter}
 use Rattle.record_values.specs.Answer.{prcMm, rrcMmS, udreLimit, cn0DbHz, minutesOf, zTenths, letterOf}
 use Rattle.record_values.specs.Answer.{saysDistance, saysRate, saysLimit, saysStrength, saysTime, saysSinceHour, saysLetter}
+use Rattle.mender.specs.Steps.{mendOrder, mendBy, saysMended}
 use Rattle.printing.specs.Printing.{printOrder, printedBy, saysPrinted}
 use Rattle.listing.specs.Listing.{pieceOrder, pieceBy, endOrder, finishBy, lineOrder, linePut}
 use Rattle.listing.specs.declared.Listing.{Listing}
@@ -147,6 +148,8 @@ pub record CarriesItsNumber : Type 0 where
   pub letter-of : (code : ℕ) → Ordered (11 ∷ []) ((noLetter code, 11) ∷ []) (saysLetter (letterOf code))
   -- text put into a buffer: 13
   pub print : (text : List ℕ) (place : ℕ) (buffer : List ℕ) → Ordered (13 ∷ []) (printOrder text place buffer) (saysPrinted (printedBy text place buffer))
+  -- a step of the mender: 13
+  pub mend : (bs : List ℕ) (at : ℕ) (s : Bool) (output : List ℕ) → Ordered (13 ∷ []) (mendOrder output) (saysMended (mendBy bs at s output))
   -- the listing
   pub put-line : (at : ℕ) (f : Frame) (out : List ℕ) → Ordered (5 ∷ 13 ∷ []) (lineOrder f out) (saysPrinted (linePut at f out))
   pub list-piece : (l : Listing) (bs : List ℕ) (room : ℕ) → Ordered (5 ∷ 3 ∷ 13 ∷ []) (pieceOrder l room) (saysAnswer (pieceBy l bs room .answer))

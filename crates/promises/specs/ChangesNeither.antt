@@ -1,7 +1,7 @@
 -- DEMAND 1, "A refusal .. changes neither state nor buffer": each call that is given a state or lent a buffer (RULES 10). What a call says is its
 -- answer in the table's terms. Assumes nothing.
 use mathlib.Core.Path.{_≡_}
-use mathlib.Core.Bool.{true}
+use mathlib.Core.Bool.{Bool, true}
 use mathlib.Core.List.{List}
 use Prim.Native.Nat.{ℕ}
 use lib.ListN.{length, take, drop}
@@ -29,6 +29,9 @@ use Rattle.record_healths.specs.declared.SatelliteHealth.{SatelliteHealth}
 use Rattle.record_positions.specs.declared.Position.{Position}
 use Rattle.printing.specs.Printing.{printedBy, printedTo, saysPrinted}
 use Rattle.listing.specs.Listing.{pieceBy, pieceText, finishBy, finishText, linePut, lineTo}
+use Rattle.mender.specs.Steps.{mendBy, bytesTo, outputTo, saysMended}
+use Rattle.mender.specs.declared.Step.{Step}
+use Rattle.mender.specs.declared.Step.the-variants.{End}
 use Rattle.listing.specs.declared.Listing.{Listing}
 
 -- where the call refuses, what it leaves is what was there
@@ -49,6 +52,8 @@ pub record ChangesNeither : Type 0 where
   pub read-text : (f : Frame) (buffer : List ℕ) → Keeps (saysCount (readText f buffer)) (bufferAfter f buffer) buffer
   pub print : (text : List ℕ) (place : ℕ) (buffer : List ℕ) → Keeps (saysPrinted (printedBy text place buffer)) (printedTo text place buffer) buffer
   pub put-line : (at : ℕ) (f : Frame) (out : List ℕ) → Keeps (saysPrinted (linePut at f out)) (lineTo at f out) out
+  pub mend-bytes : (bs : List ℕ) (at : ℕ) (s : Bool) (out : List ℕ) → Keeps (saysMended (mendBy bs at s out)) (bytesTo bs s out) bs
+  pub mend-output : (bs : List ℕ) (at : ℕ) (s : Bool) (out : List ℕ) → Keeps (saysMended (mendBy bs at s out)) (outputTo bs at s out) out
   pub list-piece : (l : Listing) (bs : List ℕ) (room : ℕ) → Keeps (saysAnswer (pieceBy l bs room .answer)) (pieceBy l bs room .listing) l
   pub list-piece-output : (l : Listing) (bs out : List ℕ) → Keeps (saysAnswer (pieceBy l bs (length out) .answer)) (pieceText l bs out) out
   pub finish : (l : Listing) (room : ℕ) → Keeps (saysAnswer (finishBy l room .answer)) (finishBy l room .listing) l
@@ -67,6 +72,8 @@ pub record NumberAlone : Type 0 where
   pub make-position : (h : Header) (p : Position) → Keeps (saysMade (makePosition h p)) (makePosition h p .frame) blank
   pub make-null : (h : Header) (n : ℕ) → Keeps (saysMade (makeNull h n)) (makeNull h n .frame) blank
   pub make-text : (h : Header) (t : List ℕ) → Keeps (saysMade (makeText h t)) (makeText h t .frame) blank
+  pub mend : (bs : List ℕ) (at : ℕ) (s : Bool) (out : List ℕ)
+      → Keeps {B = Step × ℕ} (saysMended (mendBy bs at s out)) (mendBy bs at s out .step, mendBy bs at s out .written) (End, 0)
   pub list-piece : (l : Listing) (bs : List ℕ) (room : ℕ)
       → Keeps {B = ℕ × ℕ} (saysAnswer (pieceBy l bs room .answer)) (pieceBy l bs room .used, pieceBy l bs room .written) (0, 0)
   pub finish : (l : Listing) (room : ℕ)

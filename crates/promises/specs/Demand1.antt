@@ -5,6 +5,7 @@ use Rattle.promises.specs.PartCalls.{PartCalls}
 use Rattle.promises.specs.StreamCalls.{StreamCalls}
 use Rattle.promises.specs.RecordCalls.{RecordCalls}
 use Rattle.promises.specs.JournalCalls.{JournalCalls}
+use Rattle.promises.specs.MenderCalls.{MenderCalls}
 use Rattle.promises.specs.CarriesItsNumber.{CarriesItsNumber}
 use Rattle.promises.specs.ChangesNeither.{ChangesNeither, NumberAlone, OnlyItsBytes}
 use Rattle.promises.specs.Demand3.{NextIsAccepted, TakesOnlyFrames}
@@ -16,6 +17,7 @@ pub record Demand1 : Type 2 where
   pub streams : StreamCalls
   pub records : RecordCalls
   pub journals : JournalCalls
+  pub menders : MenderCalls
   pub once : SettledOnce
   -- "A refusal carries its number from the table .."
   pub carries : CarriesItsNumber

@@ -1,5 +1,5 @@
--- EVERYTHING PROMISED, in one record: the three demands, how words failed, late joiners, the listing, the xor law and the worked values.
--- Assumes nothing.
+-- EVERYTHING PROMISED, in one record: the three demands, how words failed, late joiners, the listing, the xor law, the mender and the
+-- worked values. Assumes nothing.
 use mathlib.Core.List.{List}
 use Prim.Native.Nat.{ℕ}
 use Rattle.promises.specs.Demand1.{Demand1}
@@ -10,6 +10,7 @@ use Rattle.promises.specs.LateJoiners.{LateJoiners}
 use Rattle.promises.specs.WordsKept.{WordsKept}
 use Rattle.promises.specs.Course.{Piece, TextIsWhole, NothingLeft, PieceTaken, Reached, TextComes}
 use Rattle.promises.specs.XorLaw.{XorLaw}
+use Rattle.promises.specs.Mending.{Mending}
 use Rattle.promises.specs.Worked.{WorkedValues}
 
 pub record Demands : Type 2 where
@@ -32,4 +33,6 @@ pub record Demands : Type 2 where
   pub comes : (bs : List ℕ) (ps : List Piece) (out : List ℕ) → TextComes bs ps out
   -- the remainder of an xor of windows
   pub xor : XorLaw
+  -- a journal that keeps the words, mended
+  pub mending : Mending
   pub values : WorkedValues

@@ -4,6 +4,7 @@ pub mod PartCalls
 pub mod StreamCalls
 pub mod RecordCalls
 pub mod JournalCalls
+pub mod MenderCalls
 pub mod CarriesItsNumber
 pub mod ChangesNeither
 pub mod ThoseOfRtcm
@@ -16,5 +17,6 @@ pub mod WordsKept
 pub mod Demand1
 pub mod Course
 pub mod XorLaw
+pub mod Mending
 pub mod Worked
 pub mod Demands

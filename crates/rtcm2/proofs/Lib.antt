@@ -20,3 +20,4 @@ pub mod WordsOrders
 pub mod TextLaws
 pub mod ValueOrders
 pub mod WordLaws
+pub mod MendLaws

@@ -9,6 +9,7 @@ pub mod Nulls
 pub mod Texts
 pub mod Values
 pub mod Window
+pub mod Mending
 pub mod Rows
 pub mod Corrections
 pub mod Healths

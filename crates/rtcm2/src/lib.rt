@@ -4,6 +4,7 @@ pub mod frames;
 mod header;
 pub mod health;
 pub mod line;
+pub mod mending;
 pub mod null;
 pub mod position;
 mod rows;

@@ -6,6 +6,7 @@ use Prim.Native.Nat.{ℕ}
 use lib.Dec.{ltb}
 use Rattle.answer.specs.Order.{refuses, answers, inOrder}
 use Rattle.answer.proofs.OrderLaws.{says-order}
+use Rattle.bits.specs.Bits.{isNonzero}
 use Rattle.line.specs.Line.{isData}
 use Rattle.frame.specs.declared.Layout.the-variants as layout
 use Rattle.frame.specs.declared.System.the-variants.{Gps}
@@ -34,7 +35,7 @@ use Rattle.rtcm2.proofs.ReadOrders as reads
 use Rattle.rtcm2.proofs.MakeOrders as makes
 use Rattle.rtcm2.proofs.ValueOrders.{limit-order}
 use Rattle.promises.specs.CarriesItsNumber.{Ordered}
-use Rattle.promises.proofs.CarriesItsNumber.{ordered}
+use Rattle.promises.proofs.CarriesItsNumber.{ordered, carries-its-number}
 use Rattle.rtcm2_promises.specs.CarriesItsNumber.{LibraryNumbers}
 
 -- FEED: 5 for bytes that hold no state, 5, 3, 2, 1
@@ -98,6 +99,7 @@ library-numbers = record {
   cn0-dbhz = λ code. ordered ((ltb 31 code, 10) ∷ []) _ (cn0-says code) refl refl;
   letter-of = λ code. ordered ((noLetter code, 11) ∷ []) _ (letter-says code) refl refl;
   remainder = λ window. ordered [] _ refl refl refl;
+  mend = λ bs at searching report. carries-its-number .mend bs at (isNonzero searching) report;
   put-start = put-stored;
   put-state = λ r bytes. put-stored (r .candidate) bytes;
   put-correction = put-ordered (correction.row Gps);

@@ -5,6 +5,7 @@ use mathlib.Core.List.{List}
 use Prim.Native.Nat.{ℕ}
 use Rattle.answer.specs.Order.{Says, refuses, answers}
 use Rattle.answer.proofs.OrderLaws.{refuses-apart}
+use Rattle.bits.specs.Bits.{isNonzero}
 use Rattle.frame.specs.declared.Frame.{Frame}
 use Rattle.frame.specs.declared.System.the-variants.{Gps}
 use Rattle.reader.specs.declared.Candidate.{Candidate}
@@ -109,6 +110,11 @@ library-keeps = record {
   udre-limit-mm = λ code udre limited mm. (λ n e. rw e, λ n e. rw e);
   cn0-dbhz = λ code tracked dbhz. (λ n e. rw e, λ n e. rw e);
   letter-of = λ code letter n e. rw e;
+  mend-bytes = λ bs at searching report. changes-neither .mend-bytes bs at (isNonzero searching) report;
+  mend-report = λ bs at searching report. changes-neither .mend-output bs at (isNonzero searching) report;
+  mend-step = λ bs at searching report step n e. rw e;
+  mend-read = λ bs at searching report read n e. rw e;
+  mend-written = λ bs at searching report written n e. rw e;
   remainder = λ window remainder n e. absurd (refuses-apart n _ (sym e));
   put-correction = λ entry lent. entry-keeps (correction.row Gps) (answers entry) lent;
   put-health = λ entry lent. entry-keeps (health.row Gps) (answers entry) lent;

@@ -151,4 +151,10 @@ library-calls = record {
   };
   letter-of = record { asks-nothing = λ κs a. tt; settles = λ κs a z e p. p .0; leaves = λ κs a z e p. p .1; ends = rtcm2.values.rtcm2_letter_of.Met.met };
   remainder = record { asks-nothing = λ κs a. tt; settles = λ κs a z e p. p .0; leaves = λ κs a z e p. p .1; ends = rtcm2.window.rtcm2_remainder.Met.met };
+  mend = record {
+    asks-nothing = λ κs a. tt;
+    settles = λ κs a z e p. p .0;
+    leaves = λ κs a z e p. place-and (p .1 .0) (four-places (p .1 .1));
+    ends = rtcm2.mending.rtcm2_mend.Met.met;
+  };
 }

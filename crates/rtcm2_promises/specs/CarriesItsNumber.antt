@@ -32,6 +32,8 @@ use Rattle.rtcm2.specs.Texts as texts
 use Rattle.record_values.specs.Values.{noLetter}
 use Rattle.rtcm2.specs.Values.{prcSaid, rrcSaid, stopsSaid, limitSaid, strengthSaid, letterSaid}
 use Rattle.rtcm2.specs.Window.{remainderSaid}
+use Rattle.mender.specs.Steps.{mendOrder}
+use Rattle.rtcm2.specs.Mending.{mendSaid}
 use Rattle.rtcm2.specs.Orders as in-order
 use Rattle.promises.specs.CarriesItsNumber.{Ordered}
 
@@ -111,6 +113,8 @@ pub record LibraryNumbers : Type 0 where
   pub letter-of : (code : ℕ) → Ordered (11 ∷ []) ((noLetter code, 11) ∷ []) (letterSaid code)
   -- the word test of a window
   pub remainder : (window : ℕ) → Ordered [] [] (remainderSaid window)
+  -- a step of the mender: 13
+  pub mend : (bs : List ℕ) (at searching : ℕ) (report : List ℕ) → Ordered (13 ∷ []) (mendOrder report) (mendSaid bs at searching report)
   -- an entry as a row of bytes
   pub put-start : (c : Candidate) (bytes : List ℕ) → Ordered (5 ∷ 13 ∷ []) (putChecks c bytes) (saysStored (storedBy c bytes))
   pub put-state : (r : Reader) (bytes : List ℕ) → Ordered (5 ∷ 13 ∷ []) (putChecks (r .candidate) bytes) (saysStored (storedBy (r .candidate) bytes))

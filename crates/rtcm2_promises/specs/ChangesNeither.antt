@@ -4,6 +4,7 @@ use mathlib.Core.Bool.{Bool}
 use mathlib.Core.List.{List}
 use Prim.Native.Nat.{ℕ}
 use lib.IntN.{ℤ}
+use lib.ListN.{length}
 use Rattle.bits.specs.Bits.{val}
 use Rattle.frame.specs.declared.System.the-variants.{Gps}
 use Rattle.reader.specs.declared.Candidate.{Candidate}
@@ -33,6 +34,10 @@ use Rattle.rtcm2.specs.Texts as texts
 use Rattle.rtcm2.specs.Values.{prcSaid, stopFlag, exactOr0, rrcSaid, stopsSaid, limitSaid, limitFlag, limitOr0, strengthSaid, trackedFlag, dbHzOr0}
 use Rattle.rtcm2.specs.Values.{letterSaid}
 use Rattle.rtcm2.specs.Window.{remainderSaid}
+use Rattle.bits.specs.Bits.{isNonzero}
+use Rattle.mender.specs.Run.{onOf}
+use Rattle.mender.specs.Steps.{bytesTo, outputTo}
+use Rattle.rtcm2.specs.Mending.{stepNumber, mendSaid}
 use Rattle.promises.specs.ChangesNeither.{Keeps}
 
 -- every function that is lent a place, and each of its places
@@ -109,6 +114,16 @@ pub record LibraryKeeps : Type 0 where
       Keeps s (left s trackedFlag tracked) tracked × Keeps s (left s dbHzOr0 dbhz) dbhz
   pub letter-of : (code letter : ℕ) → Keeps (letterSaid code) (left (letterSaid code) (λ k. k) letter) letter
   -- the word test of a window
+  pub mend-bytes : (bs : List ℕ) (at searching : ℕ) (report : List ℕ)
+      → Keeps (mendSaid bs at searching report) (bytesTo bs (isNonzero searching) report) bs
+  pub mend-report : (bs : List ℕ) (at searching : ℕ) (report : List ℕ)
+      → Keeps (mendSaid bs at searching report) (outputTo bs at (isNonzero searching) report) report
+  pub mend-step : (bs : List ℕ) (at searching : ℕ) (report : List ℕ) (step : ℕ)
+      → Keeps (mendSaid bs at searching report) (left (mendSaid bs at searching report) (λ v. stepNumber (v .0)) step) step
+  pub mend-read : (bs : List ℕ) (at searching : ℕ) (report : List ℕ) (read : ℕ)
+      → Keeps (mendSaid bs at searching report) (left (mendSaid bs at searching report) (λ v. onOf (v .0) (length bs)) read) read
+  pub mend-written : (bs : List ℕ) (at searching : ℕ) (report : List ℕ) (written : ℕ)
+      → Keeps (mendSaid bs at searching report) (left (mendSaid bs at searching report) (λ v. v .1) written) written
   pub remainder : (window remainder : ℕ) → Keeps (remainderSaid window) (left (remainderSaid window) (λ k. k) remainder) remainder
   -- an entry as a row of bytes
   pub put-correction : (entry : Correction) (lent : List ℕ)

@@ -3,6 +3,7 @@ use mathlib.Core.Bool.{cond}
 use mathlib.Core.List.{List}
 use Prim.Native.Nat.{ℕ}
 use lib.IntN.{ℤ}
+use lib.ListN.{length}
 use denote.Ref.{now}
 use Rattle.bits.specs.Bits.{val}
 use Rattle.frame.specs.declared.System.the-variants.{Gps}
@@ -26,6 +27,10 @@ use Rattle.rtcm2.specs.Texts.{textSaid, textAfter}
 use Rattle.rtcm2.specs.Values.{prcSaid, stopFlag, exactOr0, rrcSaid, stopsSaid, limitSaid, limitFlag, limitOr0, strengthSaid, trackedFlag, dbHzOr0}
 use Rattle.rtcm2.specs.Values.{letterSaid}
 use Rattle.rtcm2.specs.Window.{remainderSaid}
+use Rattle.bits.specs.Bits.{isNonzero}
+use Rattle.mender.specs.Run.{onOf}
+use Rattle.mender.specs.Steps.{bytesTo, outputTo}
+use Rattle.rtcm2.specs.Mending.{stepNumber, mendSaid}
 use Rattle.rtcm2_rows.specs.Corrections as entry-corrections
 use Rattle.rtcm2_rows.specs.Healths as entry-healths
 use Rattle.rtcm2.specs.Send as send
@@ -77,6 +82,7 @@ use Rattle.rtcm2.proofs.values.rtcm2_udre_limit_mm
 use Rattle.rtcm2.proofs.values.rtcm2_cn0_dbhz
 use Rattle.rtcm2.proofs.values.rtcm2_letter_of
 use Rattle.rtcm2.proofs.window.rtcm2_remainder
+use Rattle.rtcm2.proofs.mending.rtcm2_mend
 use Rattle.promises.specs.Answered.{Answered, AnsweredLent}
 
 pub record LibraryCalls : Type 2 where
@@ -300,3 +306,17 @@ pub record LibraryCalls : Type 2 where
   pub remainder : AnsweredLent rtcm2_remainder.Reads.Asked rtcm2_remainder.Reads.Learnt rtcm2_remainder.Statement.statement
       (λ κs (window, _). numberOf (remainderSaid window))
       (λ κs (_, (remainder, _)). now remainder) (λ κs (window, (remainder, _)). left (remainderSaid window) (λ k. k) (now remainder))
+  -- the mender
+  pub mend : AnsweredLent {B = List ℕ × (List ℕ × (ℕ × (ℕ × ℕ)))} rtcm2_mend.Reads.Asked rtcm2_mend.Reads.Learnt rtcm2_mend.Statement.statement
+      (λ κs (bytes, (at, (searching, (report, _)))). numberOf (mendSaid (now bytes) at searching (now report)))
+      (λ κs (bytes, (_, (_, (report, (step, (read, (written, _))))))). (now bytes, (now report, (now step, (now read, now written)))))
+      (λ κs (bytes, (at, (searching, (report, (step, (read, (written, _))))))). let s = mendSaid (now bytes) at searching (now report) in (
+        bytesTo (now bytes) (isNonzero searching) (now report),
+        (
+          outputTo (now bytes) at (isNonzero searching) (now report),
+          (
+            left s (λ v. stepNumber (v .0)) (now step),
+            (left s (λ v. onOf (v .0) (length (now bytes))) (now read), left s (λ v. v .1) (now written)),
+          ),
+        ),
+      ))

@@ -21,6 +21,7 @@ pub enum Function {
     Recall,
     KeepWords,
     RecallWords,
+    Mend,
     CountCorrections,
     CorrectionAt,
     MakeCorrections,
@@ -83,6 +84,7 @@ pub const FUNCTIONS: &[Row] = &[
         "rtcm2_recall_words",
         &[0, 13, 14, 15, 16, 17],
     ),
+    row(Function::Mend, "rtcm2_mend", &[0, 13]),
     row(
         Function::CountCorrections,
         "rtcm2_count_corrections",

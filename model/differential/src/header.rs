@@ -76,6 +76,17 @@ unsafe extern "C" {
         read: *mut usize,
         length: *mut usize,
     ) -> u8;
+    pub fn rtcm2_mend(
+        bytes: *mut u8,
+        bytes_size: usize,
+        at: u64,
+        searching: u8,
+        report: *mut u8,
+        report_size: usize,
+        step: *mut u8,
+        read: *mut usize,
+        written: *mut usize,
+    ) -> u8;
     pub fn rtcm2_count_corrections(frame: *const u8, frame_size: usize, count: *mut usize) -> u8;
     pub fn rtcm2_correction_at(
         frame: *const u8,

@@ -19,6 +19,7 @@ pub fn answer(call: &mut Call) -> u64 {
             u64::from(read(call))
         }
         Function::KeepWords | Function::RecallWords => u64::from(journals::words(call)),
+        Function::Mend => u64::from(journals::mend(call)),
         Function::CountCorrections
         | Function::CorrectionAt
         | Function::CountHealths

@@ -1,19 +1,21 @@
-//! Calls on records that keep the words, right or damaged.
+//! Calls on records that keep the words, right or damaged, and on pieces of journals.
 
 use super::ends::{around, inside, longer, one_of};
 use super::{entries, frames, numbers, parts, room};
 use crate::call::{Call, Function};
 use crate::place::Place;
 use rtcm2_model::frame::{CarriedBits, Frame};
+use rtcm2_model::library::journals::REPORT_MAX;
 use rtcm2_model::rng::Rng;
 use rtcm2_model::word_journal::{data_of, keep, length_for, windows_in, windows_of, LONGEST};
-use rtcm2_model::{journal, samples};
+use rtcm2_model::{journal, journals, samples};
 
 /// A call of any function on such records.
 pub fn call(rng: &mut Rng) -> Call {
-    match rng.below(3) {
+    match rng.below(6) {
         0 => keep_words(rng),
-        _ => recall_words(rng),
+        1 | 2 => recall_words(rng),
+        _ => mend(rng),
     }
 }
 
@@ -36,6 +38,80 @@ fn recall_words(rng: &mut Rng) -> Call {
     parts(Function::RecallWords, vec![], read, lent)
 }
 
+fn mend(rng: &mut Rng) -> Call {
+    let given = vec![offset(rng), searching(rng)];
+    let piece = piece(rng);
+    let mut lent = vec![Place::starting(rng, &piece), room(rng, REPORT_MAX)];
+    lent.extend(numbers(rng, 3));
+    parts(Function::Mend, given, vec![], lent)
+}
+
+/// A byte offset: small, at a number of digits, just before 2^64, or any.
+fn offset(rng: &mut Rng) -> i64 {
+    let any = rng.draw();
+    let number = match rng.below(4) {
+        0 => rng.below(1000),
+        1 => 10_u64.pow(rng.below(20) as u32).wrapping_sub(rng.below(3)),
+        2 => u64::MAX - rng.below(140),
+        _ => any >> rng.below(64),
+    };
+    number as i64
+}
+
+/// Whether the run searches: 0, or any other number.
+fn searching(rng: &mut Rng) -> i64 {
+    match rng.below(8) {
+        0 => rng.byte().into(),
+        1 => one_of(rng, &[2, 128, 255]),
+        _ => rng.below(2) as i64,
+    }
+}
+
+/// The bytes of a journal from a place on: mostly a record, damaged or not, and what
+/// follows; seldom from within it, or any bytes.
+fn piece(rng: &mut Rng) -> Vec<u8> {
+    let mut piece = frame_record(rng);
+    for _ in 0..one_of(rng, &[0, 1, 1, 1, 2, 3]) {
+        journals::damage(rng, &mut piece);
+    }
+    match rng.below(12) {
+        0..=2 => {
+            let more = rng.place(140);
+            piece.extend((0..more).map(|_| rng.byte()));
+        }
+        3 => {
+            let count = rng.place(piece.len() + 1);
+            piece.truncate(count);
+            let size = longer(rng, count);
+            piece.extend((count..size).map(|_| rng.byte()));
+        }
+        4 | 5 => piece.truncate(rng.place(piece.len() + 1)),
+        6 => piece.extend(frame_record(rng)),
+        7 => {
+            piece.drain(..rng.place(piece.len() + 1).min(8));
+        }
+        8 => piece.truncate(rng.place(12)),
+        _ => {}
+    }
+    piece
+}
+
+/// The record of any frame; of half of them one bit is turned in many words.
+fn frame_record(rng: &mut Rng) -> Vec<u8> {
+    let mut record = record(&frame(rng));
+    if rng.bit() {
+        for word in 0..(record.len() - 3) / 4 {
+            if rng.below(4) > 0 {
+                turn(&mut record, 32 * word + rng.place(32));
+            }
+        }
+    }
+    if rng.below(8) == 0 {
+        damage(rng, &mut record);
+    }
+    record
+}
+
 /// A frame of any type, N and Z count, after any pair.
 fn frame(rng: &mut Rng) -> Frame {
     let kind = inside(rng, 1, 64) as u16;
@@ -55,7 +131,7 @@ fn pair(rng: &mut Rng) -> CarriedBits {
 }
 
 /// The record of a right frame.
-pub fn record(frame: &Frame) -> Vec<u8> {
+fn record(frame: &Frame) -> Vec<u8> {
     let mut record = vec![0; LONGEST];
     let length = keep(frame, &mut record).expect("a right frame");
     record.truncate(length);
@@ -84,7 +160,7 @@ fn damaged_record(rng: &mut Rng, frame: &Frame) -> Vec<u8> {
 
 /// Turns bits of a record, gives a word another pair, gives its mark or N byte
 /// another value, or cuts it.
-pub fn damage(rng: &mut Rng, record: &mut Vec<u8>) {
+fn damage(rng: &mut Rng, record: &mut Vec<u8>) {
     let length = record.len();
     if length < 11 {
         return;

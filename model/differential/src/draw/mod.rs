@@ -34,10 +34,10 @@ impl Draw {
     pub fn call(&mut self) -> Call {
         let rng = &mut self.rng;
         match rng.below(100) {
-            0..=40 => self.readers.call(rng),
-            41..=62 => frames::call(rng),
-            63..=82 => makers::call(rng),
-            83..=91 => journals::call(rng),
+            0..=38 => self.readers.call(rng),
+            39..=60 => frames::call(rng),
+            61..=80 => makers::call(rng),
+            81..=91 => journals::call(rng),
             _ => number(rng),
         }
     }

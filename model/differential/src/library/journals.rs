@@ -23,3 +23,16 @@ pub fn words(call: &mut Call) -> u8 {
         other => unreachable!("{other:?}"),
     }
 }
+
+pub fn mend(call: &mut Call) -> u8 {
+    let (offset, searching) = (call.given[0] as u64, call.given[1] as u8);
+    let [bytes, report, step, read, written] = of(&mut call.lent);
+    let (size, bytes) = (bytes.size(), at(bytes));
+    let (room, report) = (report.size(), at(report));
+    let (step, read, written) = (at(step), at(read), at(written));
+    unsafe {
+        rtcm2_mend(
+            bytes, size, offset, searching, report, room, step, read, written,
+        )
+    }
+}

@@ -2,7 +2,7 @@
 
 use super::of;
 use crate::call::{Call, Function};
-use rtcm2_model::library::journals::{self, Recalling};
+use rtcm2_model::library::journals::{self, Mending, Recalling};
 
 pub fn words(call: &mut Call) -> u8 {
     let [bytes] = of(&mut call.read);
@@ -25,4 +25,15 @@ pub fn words(call: &mut Call) -> u8 {
         }
         other => unreachable!("{other:?}"),
     }
+}
+
+pub fn mend(call: &mut Call) -> u8 {
+    let (at, searching) = (call.given[0] as u64, call.given[1] as u8);
+    let [bytes, report, step, read, written] = of(&mut call.lent);
+    let into = Mending {
+        step: step.number(),
+        read: read.number(),
+        written: written.number(),
+    };
+    journals::mend(bytes.bytes(), at, searching, report.bytes(), into)
 }

@@ -1,0 +1,50 @@
+-- `lines_in` is safe and ends: by the bytes that are left. Assumes nothing.
+use Prim.Native.Nat.{_-_}
+use lib.ListN.{length}
+use borrow.Author.Needs.{needs}
+use Rattle.mend.proofs.lines_in.Statement.{statement}
+use Rattle.mend.proofs.lines_in.Tie as tie
+use Rattle.mend.proofs.lines_in.Reads as reads
+use Rattle.mend.proofs.lines_in.Lts as lts
+use Rattle.std.proofs.num.wrapping_add_u64.Reads as wrapping-add-u64-reads
+
+abbrev Inv-loop : tie.InvT-loop
+Inv-loop text lines₀ i₀ lines i = Unit {0}
+
+abbrev μ-loop : tie.MeasureT-loop
+μ-loop text lines₀ i₀ lines i = length text - i
+
+loop-holds : tie.Need-loop-holds Inv-loop μ-loop
+loop-holds c = search needs
+
+shared-slice-read-if1 : tie.Need-shared-slice-read-if1 Inv-loop μ-loop
+shared-slice-read-if1 c = search needs
+
+wrapping-add-u64-requires : tie.Need-wrapping-add-u64-requires Inv-loop μ-loop
+wrapping-add-u64-requires c κs = search needs
+
+add-i : tie.Need-add-i Inv-loop μ-loop
+add-i c = search needs
+
+loop-less : tie.Need-loop-less Inv-loop μ-loop
+loop-less c = search needs
+
+loop-again : tie.Need-loop-again Inv-loop μ-loop
+loop-again c = search needs
+
+returns : tie.Need-returns Inv-loop μ-loop
+returns c = search needs
+
+pub lines-in-spec : {M : Type 1} → statement M
+lines-in-spec =
+    tie.close
+    (tie.spec
+    Inv-loop
+    μ-loop
+    loop-holds
+    shared-slice-read-if1
+    wrapping-add-u64-requires
+    add-i
+    loop-less
+    loop-again
+    returns)

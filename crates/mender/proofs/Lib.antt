@@ -1,0 +1,12 @@
+pub mod RecordLaws
+pub mod TextLaws
+pub mod ChangeLaws
+pub mod FewLaws
+pub mod ReadLaws
+pub mod StepLaws
+pub mod SeenLaws
+pub mod RunLaws
+pub mod PlaceLaws
+pub mod LostLaws
+pub mod FirstLaws
+pub mod WindowLaws

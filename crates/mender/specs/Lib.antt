@@ -1,0 +1,5 @@
+pub mod Records
+pub mod Report
+pub mod Steps
+pub mod Run
+pub mod Damage
