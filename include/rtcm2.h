@@ -20,7 +20,11 @@
  *
  * Types. 1, 3, 5, 6, 9 and 16 are of GPS, 31, 32, 33, 34 and 36 of GLONASS. A call on a record takes the types of both:
  * corrections 1, 9, 31 and 34; position 3 and 32; health 5 and 33; null frame 6 and 34; text 16 and 36. A frame of type 34
- * holds no corrections where N is 0 or 1, and is then a null frame; else it is no null frame. Any other type is 6.
+ * holds no corrections where N is 0 or 1, and is then a null frame; else it is no null frame. Any other type is 6. Types 18 and 19,
+ * raw observations, are of both systems.
+ *
+ * Editions. The papers disagree on the first bit of a satellite in types 18 and 19. A call that says or takes its meaning is given
+ * the edition: 0 for GOST R 53612-2009, 1 for BD 410002-2015; any other number is 5.
  */
 #ifndef RTCM2_H
 #define RTCM2_H
@@ -61,6 +65,7 @@ enum {
     RTCM2_LINE_MAX = 165,       /* the longest frame on the line */
     RTCM2_WORDS_MAX = 135,      /* the longest record that keeps the words */
     RTCM2_CORRECTION_SIZE = 7,  /* one correction */
+    RTCM2_OBSERVATION_SIZE = 12, /* one observation */
     RTCM2_HEALTH_SIZE = 10,     /* one satellite's health */
     RTCM2_TEXT_MAX = 90,        /* the longest text */
     RTCM2_REPORT_MAX = 986      /* room for the report of any step of the mender */
@@ -169,6 +174,30 @@ uint8_t rtcm2_health_at(const uint8_t *frame, size_t frame_size, size_t index, u
 /* Makes a frame of 1 to 31 satellites' health, one after the other in `healths`. Refusals: 5, 6, 7, 12, 10, 13. */
 uint8_t rtcm2_make_healths(uint8_t type, uint16_t station, uint16_t z, uint8_t sequence, uint8_t health, const uint8_t *healths,
                            size_t healths_size, uint8_t *frame, size_t frame_size, size_t *length);
+
+/* ---- Raw observations, types 18 (phases of the carrier) and 19 (ranges). A head of frequency 0 to 3, smoothing 0 to 3 (in type 18
+ * two reserved bits) and a time of 0 to 599999 microseconds; then 1 to 15 satellites. A satellite is RTCM2_OBSERVATION_SIZE bytes:
+ * which mark its first bit is (0 half a wavelength, 1 reserved, 2 more frames of the set follow), that bit, code 0 to 1 (C/A, P),
+ * system 0 to 1 (GPS, GLONASS), satellite 1 to 32, quality (0 to 7 in type 18, 0 to 15 in type 19), losses of continuity 0 to 31 or
+ * multipath error 0 to 15, which number follows (0 phase, 1 range), and that number in four bytes, low byte first: a phase in two's
+ * complement, a range in steps of 0.02 m. Edition 0 has mark 0 in type 18 and mark 1 in type 19, edition 1 has mark 2 in both; type 18
+ * has a phase, type 19 a range. Another mark or another number is 10 where a frame is made. */
+
+/* How many satellites the frame holds. Refusals: 14, 15, 16, 15, 16, then 6, 7, 8. */
+uint8_t rtcm2_count_observations(const uint8_t *frame, size_t frame_size, size_t *count);
+
+/* The head. Refusals: 14, 15, 16, 15, 16, then 6, 7, 8, 10 (time over 599999). */
+uint8_t rtcm2_read_epoch(const uint8_t *frame, size_t frame_size, uint8_t *frequency, uint8_t *smoothing, uint32_t *time);
+
+/* The satellite at `index`, from 0, to the start of `observation`. Refusals: 14, 15, 16, 15, 16, then 5 (the edition), 6, 7, 8, 9, 10
+ * (time over 599999), 13. */
+uint8_t rtcm2_observation_at(uint8_t edition, const uint8_t *frame, size_t frame_size, size_t index, uint8_t *observation,
+                             size_t observation_size);
+
+/* Makes a frame of 1 to 15 satellites, one after the other in `observations`. Refusals: 5 (the edition first), 6, 7, 12, 10, 13. */
+uint8_t rtcm2_make_observations(uint8_t edition, uint8_t type, uint16_t station, uint16_t z, uint8_t sequence, uint8_t health,
+                                uint8_t frequency, uint8_t smoothing, uint32_t time, const uint8_t *observations,
+                                size_t observations_size, uint8_t *frame, size_t frame_size, size_t *length);
 
 /* ---- The station's position, types 3 and 32: X, Y and Z in centimetres. */
 

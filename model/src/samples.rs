@@ -3,6 +3,7 @@
 use crate::frame::{CarriedBits, Frame, Header, State, MOST_WORDS};
 use crate::record::correction::{self, Correction, Issue, LAST_TB};
 use crate::record::health::{self, Condition, Health};
+use crate::record::observation::{self, Edition, Epoch, Mark, Measured, Observation};
 use crate::record::position::{self, Position};
 use crate::record::{null, system, text, System};
 use crate::rng::Rng;
@@ -67,6 +68,42 @@ pub fn satellite_health(rng: &mut Rng, system: System) -> Health {
     }
 }
 
+/// Either edition.
+pub fn edition(rng: &mut Rng) -> Edition {
+    [Edition::Gost, Edition::Bd][rng.place(2)]
+}
+
+/// The epoch of a frame of type 18 or 19.
+pub fn epoch(rng: &mut Rng) -> Epoch {
+    Epoch {
+        frequency: rng.below(4) as u8,
+        smoothing: rng.below(4) as u8,
+        time: number(rng, 0, observation::LAST_TIME.into()) as u32,
+    }
+}
+
+/// One satellite's observation.
+pub fn observation(rng: &mut Rng, edition: Edition, type_number: u16) -> Observation {
+    let bit = rng.below(2) as u8;
+    Observation {
+        mark: Mark::of(edition, type_number, bit),
+        code: rng.below(2) as u8,
+        system: rng.below(2) as u8,
+        satellite: number(rng, 1, 32) as u8,
+        quality: number(rng, 0, if type_number == 18 { 7 } else { 15 }) as u8,
+        measured: match type_number {
+            18 => Measured::Phase {
+                losses: number(rng, 0, 31) as u8,
+                phase: number(rng, i32::MIN.into(), i32::MAX.into()) as i32,
+            },
+            _ => Measured::Range {
+                multipath: number(rng, 0, 15) as u8,
+                range: number(rng, 0, u32::MAX.into()) as u32,
+            },
+        },
+    }
+}
+
 /// A position.
 pub fn position(rng: &mut Rng) -> Position {
     let mut centimetres = || number(rng, -2_147_483_647, 2_147_483_647) as i32;
@@ -122,6 +159,15 @@ pub fn text_frame(rng: &mut Rng, type_number: u16, count: usize) -> Frame {
     text::make(&header, &characters).expect("a correct record")
 }
 
+/// A frame of type 18 or 19 with this many satellites.
+pub fn observation_frame(rng: &mut Rng, type_number: u16, count: usize) -> Frame {
+    let edition = edition(rng);
+    let mut entries = [observation::NONE; observation::MOST];
+    entries.fill_with(|| observation(rng, edition, type_number));
+    let (header, epoch) = (header(rng, type_number), epoch(rng));
+    observation::make(edition, &header, &epoch, &entries, count).expect("a correct record")
+}
+
 /// A frame of any type and N with random data words.
 pub fn plain_frame(rng: &mut Rng, type_number: u16, n: u8) -> Frame {
     let mut words = [0; MOST_WORDS];
@@ -142,10 +188,10 @@ pub fn other_frame(rng: &mut Rng) -> Frame {
     plain_frame(rng, type_number, n)
 }
 
-/// A frame whose record can be read, of any of the eleven types; type 34 has two
+/// A frame whose record can be read, of any of the thirteen types; type 34 has two
 /// layouts, half of its frames are null frames.
 pub fn record_frame(rng: &mut Rng) -> Frame {
-    let types = [1, 3, 5, 6, 9, 16, 31, 32, 33, 34, 34, 36];
+    let types = [1, 3, 5, 6, 9, 16, 18, 19, 31, 32, 33, 34, 34, 36];
     let type_number = types[rng.place(types.len())];
     match type_number {
         3 | 32 => position_frame(rng, type_number),
@@ -157,6 +203,10 @@ pub fn record_frame(rng: &mut Rng) -> Frame {
         16 | 36 => {
             let count = 1 + rng.place(text::MOST);
             text_frame(rng, type_number, count)
+        }
+        18 | 19 => {
+            let count = 1 + rng.place(observation::MOST);
+            observation_frame(rng, type_number, count)
         }
         34 if rng.bit() => any_null_frame(rng, 34),
         _ => {

@@ -5,6 +5,7 @@ use crate::frame::{CarriedBits, Frame};
 use crate::line::bits_of_bytes;
 use crate::record::correction::{self, Correction, Issue};
 use crate::record::health::{self, Condition, Health};
+use crate::record::observation::{self, Edition, Mark, Measured};
 use crate::record::{layout, null, position, text, Layout};
 use crate::refusal::{Answer, Refusal};
 use crate::scan::scan;
@@ -101,6 +102,7 @@ fn made_again(frame: &Frame, fields: &mut Sum) -> Answer<Frame> {
     match layout(header.type_number, frame.n) {
         Layout::Correction => corrections_again(frame, fields),
         Layout::Health => healths_again(frame, fields),
+        Layout::Observation => observations_again(frame, fields),
         Layout::Position => {
             let place = position::read(frame)?;
             fields.add(&[place.x as u32, place.y as u32, place.z as u32]);
@@ -134,6 +136,38 @@ fn corrections_again(frame: &Frame, fields: &mut Sum) -> Answer<Frame> {
         }
     }
     correction::make(&frame.header, &entries, count)
+}
+
+/// The edition by which a frame is read here: 000 for an even sequence, 002 for an odd
+/// one.
+fn edition_of(frame: &Frame) -> Edition {
+    match frame.header.sequence % 2 {
+        0 => Edition::Gost,
+        _ => Edition::Bd,
+    }
+}
+
+fn observations_again(frame: &Frame, fields: &mut Sum) -> Answer<Frame> {
+    let (edition, count) = (edition_of(frame), observation::count(frame)?);
+    let epoch = observation::epoch(frame)?;
+    fields.add(&[epoch.frequency, epoch.smoothing]);
+    fields.add(&[epoch.time]);
+    let mut entries = [observation::NONE; observation::MOST];
+    for (i, entry) in entries.iter_mut().take(count).enumerate() {
+        *entry = observation::entry(edition, frame, i)?;
+        let which = match entry.mark {
+            Mark::Half(_) => 0,
+            Mark::Reserved(_) => 1,
+            Mark::More(_) => 2,
+        };
+        fields.add(&[which, entry.mark.bit(), entry.code, entry.system]);
+        fields.add(&[entry.satellite, entry.quality]);
+        match entry.measured {
+            Measured::Phase { losses, phase } => fields.add(&[losses.into(), phase as u32]),
+            Measured::Range { multipath, range } => fields.add(&[multipath.into(), range]),
+        }
+    }
+    observation::make(edition, &frame.header, &epoch, &entries, count)
 }
 
 fn healths_again(frame: &Frame, fields: &mut Sum) -> Answer<Frame> {

@@ -147,7 +147,8 @@ fn layouts() {
     assert_eq!(listed(Layout::Health), [5, 33]);
     assert_eq!(listed(Layout::Null), [6, 34]);
     assert_eq!(listed(Layout::Text), [16, 36]);
-    assert_eq!(listed(Layout::Plain).len(), 65536 - 11);
+    assert_eq!(listed(Layout::Observation), [18, 19]);
+    assert_eq!(listed(Layout::Plain).len(), 65536 - 13);
     for type_number in 0..=u16::MAX {
         let of_n = (0..=31).map(|n| layout(type_number, n));
         let same = of_n.clone().all(|of_n| of_n == layout(type_number, 0));

@@ -6,6 +6,7 @@ use rtcm2_model::frame::{CarriedBits, Frame, Header, State};
 use rtcm2_model::line::bits_of_bytes;
 use rtcm2_model::record::correction::{self, Correction};
 use rtcm2_model::record::health::{self, Health};
+use rtcm2_model::record::observation::{self, Edition};
 use rtcm2_model::record::{layout, null, position, system, text, Layout};
 use rtcm2_model::refusal::Answer;
 use rtcm2_model::rng::Rng;
@@ -99,6 +100,15 @@ fn made_anew(frame: &Frame) -> Answer<Frame> {
             health::make(header, &entries, count)
         }
         Layout::Null => null::make(header, null::read(frame)?),
+        Layout::Observation => {
+            let (count, epoch) = (observation::count(frame)?, observation::epoch(frame)?);
+            let edition = [Edition::Gost, Edition::Bd][usize::from(frame.header.station) % 2];
+            let mut entries = [observation::NONE; observation::MOST];
+            for (i, entry) in entries[..count].iter_mut().enumerate() {
+                *entry = observation::entry(edition, frame, i)?;
+            }
+            observation::make(edition, header, &epoch, &entries, count)
+        }
         Layout::Text => {
             let mut buffer = [0; text::MOST];
             let count = text::read(frame, &mut buffer)?;

@@ -166,7 +166,7 @@ fn false_headers_that_stand_are_handed_out() {
 }
 
 /// Streams and the frames handed out for them, known from how they are made.
-const COUNTS: [(&str, usize); 51] = [
+const COUNTS: [(&str, usize); 54] = [
     ("corrections-1", 18),
     ("corrections-9", 18),
     ("corrections-31", 18),
@@ -179,12 +179,15 @@ const COUNTS: [(&str, usize); 51] = [
     ("nulls-34", 36),
     ("texts", 19),
     ("texts-36", 19),
+    ("observations-18", 33),
+    ("observations-19", 33),
     ("other-system", 44),
     ("every-type", 64),
     ("type-64", 5),
     ("n-31", 8),
     ("every-n", 32),
     ("every-n-6", 32),
+    ("every-n-18", 32),
     ("every-n-34", 32),
     ("every-health", 24),
     ("z-over-5999", 24),

@@ -3,7 +3,7 @@ use mathlib.Core.Bool.{_||_, cond}
 use Prim.Native.Nat.{ℕ}
 use lib.Dec.{eqb, ltb}
 use Rattle.frame.specs.declared.Layout.{Layout}
-use Rattle.frame.specs.declared.Layout.the-variants.{Correction, CorrectionOrNull, Position, Health, Null, Text, Plain}
+use Rattle.frame.specs.declared.Layout.the-variants.{Correction, CorrectionOrNull, Position, Health, Null, Text, Observation, Plain}
 use Rattle.frame.specs.declared.System.{System}
 use Rattle.frame.specs.declared.System.the-variants.{Gps, Glonass}
 
@@ -15,7 +15,8 @@ layoutOf kind =
     (cond (eqb kind 3 || eqb kind 32) Position
     (cond (eqb kind 5 || eqb kind 33) Health
     (cond (eqb kind 6) Null
-    (cond (eqb kind 16 || eqb kind 36) Text Plain)))))
+    (cond (eqb kind 16 || eqb kind 36) Text
+    (cond (eqb kind 18 || eqb kind 19) Observation Plain))))))
 
 -- THE SYSTEM: GLONASS has the types 31 to 36
 unfoldable pub systemOf : ℕ → System

@@ -78,6 +78,7 @@ pub enum Layout {
     Health,
     Null,
     Text,
+    Observation,
     Plain,
 }
 
@@ -258,6 +259,7 @@ pub fn layout_of(kind: u8) -> Layout
         5 | 33 => Layout::Health,
         6 => Layout::Null,
         16 | 36 => Layout::Text,
+        18 | 19 => Layout::Observation,
         _ => Layout::Plain,
     }
 }

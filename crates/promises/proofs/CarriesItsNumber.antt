@@ -1,6 +1,6 @@
 -- Every order is read by `inOrder`, so one law serves them all. Assumes nothing.
 use mathlib.Core.Path.{_≡_, refl, sym, subst, _∙_}
-use mathlib.Core.Bool.{Bool, true, false, cond}
+use mathlib.Core.Bool.{Bool, true, false, not, cond}
 use mathlib.Core.Logic.{_⊎_, inl, inr}
 use mathlib.Core.List.{List, [], _∷_}
 use Prim.Native.Nat.{ℕ, _*_}
@@ -33,7 +33,7 @@ use Rattle.journal.specs.Journal.{refusedRecall, saysKept, saysRecalled}
 use Rattle.journal.specs.declared.Kept.the-variants as kept
 use Rattle.journal_moves.specs.Moving.{saysMoved}
 use Rattle.journal_moves.specs.declared.Moved.the-variants as moved
-use Rattle.record_stages.specs.Stages.{layoutNumber, entryRefusal, refusedMade, doneMade, saysAsked, saysSize, saysCount, saysPlace, saysMade}
+use Rattle.record_stages.specs.Stages.{layoutNumber, otherLayout, entryRefusal, refusedMade, doneMade, saysAsked, saysSize, saysCount, saysPlace, saysMade}
 use Rattle.record_corrections.specs.Corrections.{countCorrections, correctionAt, makeCorrections, saysCorrectionRead}
 use Rattle.record_healths.specs.Healths.{countHealths, healthAt, makeHealths, saysHealthRead}
 use Rattle.record_positions.specs.Positions.{readPosition, makePosition, saysPositionRead}
@@ -47,6 +47,12 @@ use Rattle.record_nulls.specs.declared.NullRead.the-variants as null
 use Rattle.record_stages.specs.declared.Asked.the-variants.{Same, Other}
 use Rattle.record_stages.specs.declared.Place.the-variants as place
 use Rattle.record_stages.specs.declared.Size.the-variants.{Right, Wrong}
+use Rattle.record_observations.specs.Editions.{quantityOf, markNumber}
+use Rattle.record_observations.specs.Observations.{countObservations, readEpoch, observationAt, makeObservations, saysEpochRead, saysObservationRead}
+use Rattle.record_observations.specs.Meanings.{bandOf, stepOf}
+use Rattle.record_observations.specs.declared.Quantity.the-variants as quantity
+use Rattle.record_observations.specs.declared.EpochRead.the-variants as epoch
+use Rattle.record_observations.specs.declared.ObservationRead.the-variants as observation
 use Rattle.record_values.specs.Values.{prcValue, rrcValue, udreValue, cn0Value, noLetter, letterValue}
 use Rattle.record_values.proofs.AnswerLaws.{prc-says, rrc-says, udre-says, cn0-says, minutes-says, z-says, letter-says}
 use Rattle.printing.specs.Printing.{printedBy, saysPrinted}
@@ -55,6 +61,7 @@ use Rattle.listing.specs.Listing.{pieceBy, finishBy, linePut}
 use Rattle.mender.specs.Steps.{refusedMend, saysMended}
 use Rattle.listing.specs.Listing as listing
 use Rattle.listing.specs.declared.Listed.{Listed}
+use Rattle.promises.proofs.MeaningLaws.{frequency-says, step-says}
 use Rattle.promises.specs.CarriesItsNumber.{checkNumbers, outsideTable, Ordered, CarriesItsNumber}
 
 number-inj : {A : Type 0} (m n : ℕ) → _≡_ {A = Says A} (refuses m) (refuses n) → m ≡ n
@@ -91,7 +98,7 @@ entry-numbered l = go (eqb (layoutNumber l) (layoutNumber layout.Text))
 
 pub carries-its-number : CarriesItsNumber
 unfolding fedBy fedAllBy endedBy takenBy countCorrections correctionAt makeCorrections countHealths healthAt makeHealths readPosition makePosition
-    readNull makeNull readText makeText refusedMade doneMade printedBy pieceBy finishBy linePut
+    countObservations readEpoch observationAt makeObservations readNull makeNull readText makeText refusedMade doneMade printedBy pieceBy finishBy linePut
 carries-its-number = record {
   feed = λ r b. told (λ (x : Next). saysAnswer (x .answer)) (λ n. record { answer = Refused n; reader = r }) _ tt refl refl refl;
   feed-all = λ r bs. told (λ (x : FedAll). saysAnswer (x .answer)) (λ n. record { answer = Refused n; used = 0; passed = 0; reader = r }) _ tt refl refl refl;
@@ -99,6 +106,9 @@ carries-its-number = record {
   reader-take = λ r. told (λ (x : Taken). saysAnswer (x .answer)) (λ n. record { answer = Refused n; at = 0; frame = blank; reader = r }) _ tt refl refl refl;
   count-corrections = λ f. told saysCount count.Refused _ _ refl refl refl;
   correction-at = λ f i. told saysCorrectionRead correction.Refused _ _ refl refl refl;
+  count-observations = λ f. told saysCount count.Refused _ _ refl refl refl;
+  read-epoch = λ f. told saysEpochRead epoch.Refused _ _ refl refl refl;
+  observation-at = λ e f i. told saysObservationRead observation.Refused _ _ refl refl refl;
   count-healths = λ f. told saysCount count.Refused _ _ refl refl refl;
   health-at = λ f i. told saysHealthRead healths.Refused _ _ refl refl refl;
   read-position = λ f. told saysPositionRead position.Refused _ _ refl refl refl;
@@ -106,6 +116,7 @@ carries-its-number = record {
   read-text = λ f buffer. told saysCount count.Refused _ _ refl refl refl;
   make-corrections = λ h es c. told saysMade refusedMade _ _ refl refl refl;
   make-healths = λ h es c. told saysMade refusedMade _ _ refl refl refl;
+  make-observations = λ e h a os c. told saysMade refusedMade _ _ refl refl refl;
   make-position = λ h p. told saysMade refusedMade _ _ refl refl refl;
   make-null = λ h n. told saysMade refusedMade _ _ refl refl refl;
   make-text = λ h t. told saysMade refusedMade _ _ refl refl refl;
@@ -126,10 +137,14 @@ carries-its-number = record {
   frame-widths = λ f. told saysWidths (λ n. Outside) Within tt refl refl refl;
   clock-of = λ z. told saysClock (λ n. Late) Hour tt refl refl refl;
   asked-of = λ l kind. told saysAsked (λ n. Other) Same tt refl refl refl;
-  count-in = λ l w f. told saysCount count.Refused _ _ refl refl refl;
-  entry-place = λ l w f i. told saysPlace place.Refused _ _ refl refl refl;
+  count-in = λ l h w f. told saysCount count.Refused _ _ refl refl refl;
+  entry-place = λ l h w f i. told saysPlace place.Refused _ _ refl refl refl;
   size-of = λ wanted n. told saysSize (λ m. Wrong) Right tt refl refl refl;
   make-frame = λ l most pattern h c r. told saysMade refusedMade _ _ refl refl (entry-numbered l);
+  frequency-of = λ e kind c.
+      ordered ((otherLayout layout.Observation kind, 6) ∷ (ltb 3 c, 10) ∷ []) (bandOf e (quantityOf kind) c) (frequency-says e kind c) refl refl;
+  phase-step = λ e kind m.
+      ordered ((not (eqb kind 18), 6) ∷ (ltb 1 (markNumber e quantity.Phase m), 10) ∷ []) (stepOf m) (step-says e kind m) refl refl;
   prc-mm = λ scale prc. ordered ((ltb 1 scale, 10) ∷ []) (prcValue scale prc) (prc-says scale prc) refl refl;
   rrc-mm-s = λ scale rrc. ordered ((ltb 1 scale, 10) ∷ []) (rrcValue scale rrc) (rrc-says scale rrc) refl refl;
   udre-limit = λ s udre. ordered ((stateOutside s, 5) ∷ (ltb 3 udre, 10) ∷ []) (udreValue s udre) (udre-says s udre) refl refl;

@@ -54,12 +54,24 @@ use Rattle.journal.proofs.RoundTrip.{recall-record, keep-recalled}
 use Rattle.writer.specs.Answer.{saysWritten}
 use Rattle.writer.specs.OneFrame.{WritesBack}
 use Rattle.writer.proofs.Wrote.{writes-back, unseen-answer, unseen-bytes}
-use Rattle.promises.specs.Demand2.{Remade, ofCorrections, ofHealths, ofPosition, ofNull, ofText}
+use Rattle.promises.specs.Demand2.{Remade, ofCorrections, ofHealths, ofObservations, ofPosition, ofNull, ofText}
 use Rattle.promises.specs.Demand2.{recordTypes, WhatIsRead, ReadsBackEqual, MadeAnew, ItsOwnBits, Demand2}
 use Rattle.promises.proofs.CarriesItsNumber.{carries-its-number, says-inj, none-told}
+use Rattle.record_observations.specs.declared.Edition.the-variants.{Gost}
+use Rattle.record_observations.specs.declared.Epoch.{Epoch}
+use Rattle.record_observations.specs.declared.Observation.{Observation}
+use Rattle.record_observations.specs.declared.EpochRead.{EpochRead}
+use Rattle.record_observations.specs.declared.EpochRead.the-variants as epoch
+use Rattle.record_observations.specs.declared.ObservationRead.{ObservationRead}
+use Rattle.record_observations.specs.declared.ObservationRead.the-variants as observation
+use Rattle.record_observations.specs.Observations.{countObservations, readEpoch, observationAt, makeObservations, saysEpochRead, saysObservationRead}
+use Rattle.record_observations.specs.Observations.{epochIn, lateTime, satelliteIn}
+use Rattle.record_observations.specs.Observations as observations
+use Rattle.record_laws.proofs.ObservationTrips.{observations-made-read, observations-read, observations-held}
+use Rattle.record_laws.proofs.ObservationAgain.{observations-read-made, observation-retold}
 use Rattle.promises.proofs.ThoseOfRtcm.{count-told, gps-parity-rule, frames-of-rtcm, records-of-rtcm}
 use Rattle.promises.proofs.PairBeside.{made-told, pair-beside}
-use Rattle.promises.proofs.ReadsBack.{corrections-back, healths-back, position-back, null-back, text-back, what-can-be-sent}
+use Rattle.promises.proofs.ReadsBack.{corrections-back, healths-back, observations-back, position-back, null-back, text-back, what-can-be-sent}
 
 -- ---- what a reader says, and its answer
 
@@ -70,6 +82,14 @@ correction-told (correction.Refused n) e h = absurd (refuses-apart n e h)
 health-told : (x : HealthRead) (e : SatelliteHealth) → saysHealthRead x ≡ answers e → x ≡ health.Entry e
 health-told (health.Entry a) e h = ap health.Entry (says-inj h)
 health-told (health.Refused n) e h = absurd (refuses-apart n e h)
+
+epoch-told : (x : EpochRead) (a : Epoch) → saysEpochRead x ≡ answers a → x ≡ epoch.At a
+epoch-told (epoch.At b) a h = ap epoch.At (says-inj h)
+epoch-told (epoch.Refused n) a h = absurd (refuses-apart n a h)
+
+observation-told : (x : ObservationRead) (o : Observation) → saysObservationRead x ≡ answers o → x ≡ observation.Entry o
+observation-told (observation.Entry p) o h = ap observation.Entry (says-inj h)
+observation-told (observation.Refused n) o h = absurd (refuses-apart n o h)
 
 position-told : (x : PositionRead) (p : Position) → saysPositionRead x ≡ answers p → x ≡ position.At p
 position-told (position.At a) p h = ap position.At (says-inj h)
@@ -82,41 +102,55 @@ null-told (null.Refused m) n h = absurd (refuses-apart m n h)
 -- ---- which frames are read
 
 -- type number by type number, in the order of the decision
-eleven : (kind : ℕ) → otherLayout layout.Plain kind ≡ anyOf (eqb kind) recordTypes
+thirteen : (kind : ℕ) → otherLayout layout.Plain kind ≡ anyOf (eqb kind) recordTypes
 unfolding otherLayout layoutOf layoutNumber
-eleven kind =
+thirteen kind =
     go (eqb kind 1) (eqb kind 9) (eqb kind 31) (eqb kind 34) (eqb kind 3) (eqb kind 32) (eqb kind 5) (eqb kind 33) (eqb kind 6) (eqb kind 16)
-    (eqb kind 36)
+    (eqb kind 36) (eqb kind 18) (eqb kind 19)
   where
-    found : (a b c d e f g h i j k : Bool) → Layout
-    found a b c d e f g h i j k =
+    found : (a b c d e f g h i j k l m : Bool) → Layout
+    found a b c d e f g h i j k l m =
         cond (a || b || c) layout.Correction
         (cond d layout.CorrectionOrNull
-        (cond (e || f) layout.Position (cond (g || h) layout.Health (cond i layout.Null (cond (j || k) layout.Text layout.Plain)))))
+        (cond (e || f) layout.Position (cond (g || h) layout.Health (cond i layout.Null
+        (cond (j || k) layout.Text (cond (l || m) layout.Observation layout.Plain))))))
 
-    go : (a b c d e f g h i j k : Bool)
-        → not (isOf (found a b c d e f g h i j k) layout.Plain) ≡ (a || (b || (c || (d || (e || (f || (g || (h || (i || (j || (k || false)))))))))))
-    go true b c d e f g h i j k = refl
-    go false true c d e f g h i j k = refl
-    go false false true d e f g h i j k = refl
-    go false false false true e f g h i j k = refl
-    go false false false false true f g h i j k = refl
-    go false false false false false true g h i j k = refl
-    go false false false false false false true h i j k = refl
-    go false false false false false false false true i j k = refl
-    go false false false false false false false false true j k = refl
-    go false false false false false false false false false true k = refl
-    go false false false false false false false false false false true = refl
-    go false false false false false false false false false false false = refl
+    go : (a b c d e f g h i j k l m : Bool)
+        → not (isOf (found a b c d e f g h i j k l m) layout.Plain)
+        ≡ (a || (b || (c || (d || (e || (f || (g || (h || (i || (j || (k || (l || (m || false)))))))))))))
+    go true b c d e f g h i j k l m = refl
+    go false true c d e f g h i j k l m = refl
+    go false false true d e f g h i j k l m = refl
+    go false false false true e f g h i j k l m = refl
+    go false false false false true f g h i j k l m = refl
+    go false false false false false true g h i j k l m = refl
+    go false false false false false false true h i j k l m = refl
+    go false false false false false false false true i j k l m = refl
+    go false false false false false false false false true j k l m = refl
+    go false false false false false false false false false true k l m = refl
+    go false false false false false false false false false false true l m = refl
+    go false false false false false false false false false false false true m = refl
+    go false false false false false false false false false false false false true = refl
+    go false false false false false false false false false false false false false = refl
 
 -- an entry held to its range, in the table's terms
 held-says : (b : Bool) (e : Correction) → saysCorrectionRead (cond b (correction.Refused 10) (correction.Entry e)) ≡ cond b (refuses 10) (answers e)
 held-says true e = refl
 held-says false e = refl
 
+-- what is read in time, in the table's terms
+epoch-says : (b : Bool) (a : Epoch) → saysEpochRead (cond b (epoch.Refused 10) (epoch.At a)) ≡ cond b (refuses 10) (answers a)
+epoch-says true a = refl
+epoch-says false a = refl
+
+observation-says : (b : Bool) (o : Observation)
+    → saysObservationRead (cond b (observation.Refused 10) (observation.Entry o)) ≡ cond b (refuses 10) (answers o)
+observation-says true o = refl
+observation-says false o = refl
+
 pub what-is-read : WhatIsRead
 what-is-read = record {
-  types = eleven;
+  types = thirteen;
   corrections = λ f c. (λ e. corrections-held f c (count-told (countCorrections f) c e), λ h. ap saysCount (corrections-read f c h .counts));
   correction = λ f c i h l.
       let s = systemOf (f .header .kind) in
@@ -125,6 +159,11 @@ what-is-read = record {
       ∙ ap (λ b. cond b (refuses 10) (answers e)) (entry-late s i (frameBits f));
   healths = λ f c. (λ e. healths-held f c (count-told (countHealths f) c e), λ h. ap saysCount (healths-read f c h .counts));
   health = λ f c i h l. ap saysHealthRead (healths-read f c h .entries i l);
+  observations = λ f c. (λ e. observations-held f c (count-told (countObservations f) c e), λ h. ap saysCount (observations-read Gost f c h .counts));
+  epoch = λ f c h. ap saysEpochRead (observations-read Gost f c h .epoch) ∙ epoch-says (lateTime (epochIn f)) (epochIn f);
+  observation = λ e f c i h l.
+      ap saysObservationRead (observations-read e f c h .entries i l) ∙ observation-says (lateTime (epochIn f)) (satelliteIn e f i);
+  told-anew = observation-retold;
   position = λ f p. (
     λ e.
         let h = position-held f p (position-told (readPosition f) p e) in
@@ -174,6 +213,11 @@ reads-back-equal = record {
   healths = λ h es c d f many e.
       let at-most = told-some-few c 31 (none-told (carries-its-number .make-healths h es c) f e .1 .1 .1 .0) .1 in
       healths-back h es c d f (healths-made-read h es c d f (omega (arith, at-most, many)) (made-told (makeHealths h es c) f e));
+  observations = λ x h a os c d f many typed e.
+      let at-most = told-some-few c 15 (none-told (carries-its-number .make-observations x h a os c) f e .1 .1 .1 .0) .1 in
+      observations-back x h a os c d f
+      (observations-made-read x h a os c d f (omega (arith, at-most, many)) (each-take observations.Typed c os typed)
+      (made-told (makeObservations x h a os c) f e));
   position = λ h p f typed e. position-back h p f (position-made-read h p f typed (made-told (makePosition h p) f e));
   null = λ h n f e. null-back h n f (null-made-read h n f (made-told (makeNull h n) f e));
   text = λ h t f e. text-back h t f (text-made-read h t f (made-told (makeText h t) f e));
@@ -198,13 +242,16 @@ in-time asked f g rest = go (headerOutside (f .header)) (otherLayout asked (f .h
 
 -- every record made anew is the frame that was read, all but its pair, and its Z count can be sent
 again : (f : Frame) (m : Made) → length (f .words) ≡ 31 → Remade f m → (m ≡ doneMade (bare f)) × (late (f .header .z) ≡ false)
-unfolding makeCorrections makeHealths makePosition makeNull makeText
+unfolding makeCorrections makeHealths makeObservations makePosition makeNull makeText
 again f m full (ofCorrections es c d l n e s q) =
     let made = corrections-read-made f es c d full l (count-told (countCorrections f) c n)
     (λ i h. correction-told (correctionAt f i) (getD es i d) (e i h)) s in (q ∙ made, in-time layout.Correction f (bare f) _ made)
 again f m full (ofHealths es c d l n e q) =
     let made = healths-read-made f es c d full l (count-told (countHealths f) c n)
     (λ i h. health-told (healthAt f i) (getD es i d) (e i h)) in (q ∙ made, in-time layout.Health f (bare f) _ made)
+again f m full (ofObservations x a os c d l n h e q) =
+    let made = observations-read-made x f a os c d full l (count-told (countObservations f) c n) (epoch-told (readEpoch f) a h)
+    (λ i j. observation-told (observationAt x f i) (getD os i d) (e i j)) in (q ∙ made, in-time layout.Observation f (bare f) _ made)
 again f m full (ofPosition p e q) =
     let made = position-read-made f p full (position-told (readPosition f) p e) in (q ∙ made, in-time layout.Position f (bare f) _ made)
 again f m full (ofNull n e s q) = let made = null-read-made f n full (null-told (readNull f) n e) s in (q ∙ made, in-time layout.Null f (bare f) _ made)

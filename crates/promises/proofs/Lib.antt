@@ -1,3 +1,4 @@
+pub mod MeaningLaws
 pub mod Stages
 pub mod Kept
 pub mod Runs

@@ -1,7 +1,7 @@
 -- The carried pair of a frame: writer and journal do not look at which it is, and what is made or recalled has 00. Assumes nothing.
 use mathlib.Core.Path.{_≡_, refl, ap, subst}
-use mathlib.Core.Bool.{false}
-use mathlib.Core.List.{List, [], _∷_}
+use mathlib.Core.Bool.{false, _||_}
+use mathlib.Core.List.{List, [], _∷_, _++_}
 use Prim.Native.Nat.{ℕ}
 use native.Mathlib.Omega.{arith}
 use lib.ListN.{length, take, replicate}
@@ -14,7 +14,7 @@ use Rattle.frame.specs.Widths.{anyOf}
 use Rattle.frame.specs.declared.Header.{Header}
 use Rattle.frame.specs.declared.Frame.{Frame}
 use Rattle.frame.specs.declared.Layout.the-variants as layout
-use Rattle.record_fields.specs.Coding.{entryBits, frameWith}
+use Rattle.record_fields.specs.Coding.{entryBits, frameWith, frameAfter}
 use Rattle.record_stages.specs.Stages.{wrongCount, makeOrder, refusedMade, doneMade, saysMade}
 use Rattle.record_stages.specs.declared.Made.{Made}
 use Rattle.record_stages.specs.declared.Making.{Making}
@@ -22,6 +22,8 @@ use Rattle.record_stages.specs.declared.Making.the-variants as making
 use Rattle.record_stages.proofs.StageLaws.{done-apart, done-frame}
 use Rattle.record_corrections.specs.Corrections as corrections
 use Rattle.record_healths.specs.Healths as healths
+use Rattle.record_observations.specs.Editions.{quantityOf}
+use Rattle.record_observations.specs.Observations as observations
 use Rattle.record_positions.specs.Positions as positions
 use Rattle.record_nulls.specs.Nulls as nulls
 use Rattle.record_texts.specs.Texts as texts
@@ -45,7 +47,8 @@ made-bare cs h ws f e = subst (λ g. bare g ≡ g) same (unfold framed afterPair
     same = done-frame (order-told refusedMade (doneMade (framed h ws)) (doneMade f) (λ n. done-apart n f) cs (made-told _ f e) .1)
 
 pub pair-beside : PairBeside
-unfolding corrections.makeCorrections healths.makeHealths positions.makePosition nulls.makeNull texts.makeText frameWith
+unfolding corrections.makeCorrections healths.makeHealths observations.makeObservations positions.makePosition nulls.makeNull texts.makeText
+    frameWith frameAfter
 pair-beside = record {
   written = λ k f c buffer p o. (writer.unseen-answer k f p o c buffer, writer.unseen-bytes k f p o c buffer);
   kept = λ k f buffer p o. (journal.unseen-answer k f p o buffer, journal.unseen-bytes k f p o buffer);
@@ -55,6 +58,10 @@ pair-beside = record {
   healths = λ h es c f e.
       made-bare (makeOrder layout.Health h ((wrongCount 31 c, 12) ∷ (anyOf (healths.outOfRange (systemOf (h .kind))) (take c es), 10) ∷ [])) h
       (wordsIn healths.fill (entryBits (healths.coding (systemOf (h .kind))) (take c es))) f e;
+  observations = λ e h a os c f s.
+      made-bare (makeOrder layout.Observation h
+      ((wrongCount 15 c, 12) ∷ (observations.epochOut a || anyOf (observations.outOfRange e (quantityOf (h .kind))) (take c os), 10) ∷ [])) h
+      (wordsIn 0 (observations.epochBits a ++ entryBits (observations.coding e (quantityOf (h .kind))) (take c os))) f s;
   position = λ h p f e.
       made-bare (makeOrder layout.Position h ((positions.outOfRange p, 10) ∷ [])) h (wordsIn positions.fill (entryBits positions.coding (p ∷ []))) f e;
   null = λ h n f e. made-bare (makeOrder layout.Null h ((nulls.tooMany n, 12) ∷ [])) h (replicate n nulls.fill) f e;

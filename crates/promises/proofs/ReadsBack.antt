@@ -1,7 +1,7 @@
 -- Every record that can be sent is made, written, and reads back from the line: one lemma for every layout. Assumes nothing.
 use mathlib.Core.Path.{_≡_, sym, ap, subst, _∙_}
-use mathlib.Core.Bool.{false}
-use mathlib.Core.List.{List, [], _∷_}
+use mathlib.Core.Bool.{false, _||_}
+use mathlib.Core.List.{List, [], _∷_, _++_}
 use Prim.Native.Nat.{ℕ, _≤_, _<_}
 use native.Mathlib.Omega.{arith}
 use lib.ListN.{length, take, replicate}
@@ -18,20 +18,27 @@ use Rattle.frame.specs.declared.Layout.{Layout}
 use Rattle.frame.specs.declared.Layout.the-variants as layout
 use Rattle.frame.specs.Layout.{systemOf}
 use Rattle.frame.proofs.FrameLaws.{n-within, length-framed, after-inside}
-use Rattle.record_fields.specs.Coding.{frameBits, entryBits, frameWith}
+use Rattle.record_fields.specs.Coding.{frameBits, entryBits, frameWith, frameAfter}
 use Rattle.record_stages.specs.Stages.{wrongCount, makeOrder, refusedMade, doneMade, HeaderFor, IsMade, saysCount, saysMade}
 use Rattle.record_corrections.specs.declared.Correction.{Correction}
 use Rattle.record_healths.specs.declared.SatelliteHealth.{SatelliteHealth}
+use Rattle.record_observations.specs.declared.Edition.{Edition}
+use Rattle.record_observations.specs.declared.Epoch.{Epoch}
+use Rattle.record_observations.specs.declared.Observation.{Observation}
 use Rattle.record_positions.specs.declared.Position.{Position}
 use Rattle.record_corrections.specs.Corrections as corrections
 use Rattle.record_healths.specs.Healths as healths
+use Rattle.record_observations.specs.Editions.{quantityOf}
+use Rattle.record_observations.specs.Observations as observations
 use Rattle.record_positions.specs.Positions as positions
 use Rattle.record_nulls.specs.Nulls as nulls
 use Rattle.record_texts.specs.Texts as texts
 use Rattle.record_stages.proofs.StageLaws.{done-apart, done-frame}
 use Rattle.record_laws.proofs.PairLaws.{corrections-count, correction-entry, healths-count, health-entry, position-same, null-same, text-count, text-left}
+use Rattle.record_laws.proofs.PairLaws.{observations-count, epoch-same, observation-entry}
 use Rattle.record_laws.proofs.CorrectionTrips.{corrections-sent}
 use Rattle.record_laws.proofs.HealthTrips.{healths-sent}
+use Rattle.record_laws.proofs.ObservationTrips.{observations-sent}
 use Rattle.record_laws.proofs.PositionTrips.{position-sent}
 use Rattle.record_laws.proofs.NullTrips.{null-sent}
 use Rattle.record_laws.proofs.TextTrips.{text-sent}
@@ -41,7 +48,7 @@ use Rattle.writer.specs.OneFrame.{Wrote}
 use Rattle.writer.specs.declared.Written.the-variants.{Done}
 use Rattle.writer.proofs.Answers.{write-answers}
 use Rattle.writer.proofs.Wrote.{wrote}
-use Rattle.promises.specs.ReadsBack.{ListBack, CorrectionsBack, HealthsBack, PositionBack, NullBack, TextBack, ReadsBack, WhatCanBeSent}
+use Rattle.promises.specs.ReadsBack.{ListBack, CorrectionsBack, HealthsBack, ObservationsBack, PositionBack, NullBack, TextBack, ReadsBack, WhatCanBeSent}
 
 -- ---- what was made reads back, in the table's terms
 
@@ -66,6 +73,17 @@ healths-back h es c d f m = record {
   each = λ i l. ap healths.saysHealthRead (m .entries i l);
   n = m .n;
   fill = m .fill;
+}
+
+pub observations-back : (e : Edition) (h : Header) (a : Epoch) (os : List Observation) (c : ℕ) (d : Observation) (f : Frame)
+    → observations.ObservationsMade e h a os c d f → ObservationsBack e h a os c d f
+observations-back e h a os c d f m = record {
+  header = m .header;
+  inside = m .inside;
+  counted = ap saysCount (m .counts);
+  epoch = ap observations.saysEpochRead (m .epoch);
+  each = λ i l. ap observations.saysObservationRead (m .entries i l);
+  n = m .n;
 }
 
 pub position-back : (h : Header) (p : Position) (f : Frame) → positions.PositionMade h p f → PositionBack h p f
@@ -110,6 +128,18 @@ module _ (k : Carried) (p : pairOutside k ≡ false) where
   healths-unseen : (h : Header) (es : List SatelliteHealth) (c : ℕ) (d : SatelliteHealth) (f : Frame) → HealthsBack h es c d f
       → HealthsBack h es c d (afterPair k f)
   healths-unseen = list-unseen _ _ 24 0 (λ f o. ap saysCount (healths-count k f p o)) (λ f o i. ap healths.saysHealthRead (health-entry k f p o i))
+
+  observations-unseen : (e : Edition) (h : Header) (a : Epoch) (os : List Observation) (c : ℕ) (d : Observation) (f : Frame)
+      → ObservationsBack e h a os c d f → ObservationsBack e h a os c d (afterPair k f)
+  unfolding afterPair
+  observations-unseen e h a os c d f b = record {
+    header = b .header;
+    inside = after-inside k f p (b .inside);
+    counted = ap saysCount (observations-count k f p (b .inside)) ∙ b .counted;
+    epoch = ap observations.saysEpochRead (epoch-same k f p (b .inside)) ∙ b .epoch;
+    each = λ i l. ap observations.saysObservationRead (observation-entry k f p (b .inside) e i) ∙ b .each i l;
+    n = b .n;
+  }
 
   position-unseen : (h : Header) (q : Position) (f : Frame) → PositionBack h q f → PositionBack h q (afterPair k f)
   unfolding afterPair
@@ -192,7 +222,8 @@ sent-reads-back asked h cs ws Reads Back to unseen s for header within c buffer 
 
 -- THE SENTENCE, layout by layout
 pub what-can-be-sent : WhatCanBeSent
-unfolding corrections.makeCorrections healths.makeHealths positions.makePosition nulls.makeNull texts.makeText frameWith
+unfolding corrections.makeCorrections healths.makeHealths observations.makeObservations positions.makePosition nulls.makeNull texts.makeText
+    frameWith frameAfter
 what-can-be-sent = record {
   corrections = λ h es c d typed s.
       let sent = corrections-sent h es c d typed s in
@@ -208,6 +239,14 @@ what-can-be-sent = record {
       (wordsIn healths.fill (entryBits (healths.coding (systemOf (h .kind))) (take c es)))
       (healths.HealthsMade h es c d) (HealthsBack h es c d) (healths-back h es c d) (λ k o. healths-unseen k o h es c d) sent
       (s .header) (sent .reads .header) (sent .reads .inside);
+  observations = λ e h a os c d typed s.
+      let sent = observations-sent e h a os c d typed s in
+      sent-reads-back layout.Observation h
+      (makeOrder layout.Observation h
+      ((wrongCount 15 c, 12) ∷ (observations.epochOut a || anyOf (observations.outOfRange e (quantityOf (h .kind))) (take c os), 10) ∷ []))
+      (wordsIn 0 (observations.epochBits a ++ entryBits (observations.coding e (quantityOf (h .kind))) (take c os)))
+      (observations.ObservationsMade e h a os c d) (ObservationsBack e h a os c d) (observations-back e h a os c d)
+      (λ k o. observations-unseen k o e h a os c d) sent (s .header) (sent .reads .header) (sent .reads .inside);
   position = λ h p typed s.
       let sent = position-sent h p typed s in
       sent-reads-back layout.Position h (makeOrder layout.Position h ((positions.outOfRange p, 10) ∷ []))

@@ -6,6 +6,7 @@ use Rattle.record_healths.proofs as record-healths
 use Rattle.record_positions.proofs as record-positions
 use Rattle.record_nulls.proofs as record-nulls
 use Rattle.record_texts.proofs as record-texts
+use Rattle.record_observations.proofs as record-observations
 use Rattle.record_values.proofs as record-values
 use Rattle.promises.specs.RecordCalls.{RecordCalls}
 
@@ -43,6 +44,13 @@ record-calls = record {
   make-null = record { asks-nothing = λ κs a. tt; settles = λ κs a z e p. p; ends = record-nulls.make_null.Met.met };
   read-text = record { asks-nothing = λ κs a. tt; settles = λ κs a z e p. p .0; leaves = λ κs a z e p. p .1; ends = record-texts.read_text.Met.met };
   make-text = record { asks-nothing = λ κs a. tt; settles = λ κs a z e p. p; ends = record-texts.make_text.Met.met };
+  quantity-of = record { asks-nothing = λ κs a. tt; settles = λ κs a z e p. p; ends = record-observations.quantity_of.Met.met };
+  count-observations = record { asks-nothing = λ κs a. tt; settles = λ κs a z e p. p; ends = record-observations.count_observations.Met.met };
+  read-epoch = record { asks-nothing = λ κs a. tt; settles = λ κs a z e p. p; ends = record-observations.read_epoch.Met.met };
+  observation-at = record { asks-nothing = λ κs a. tt; settles = λ κs a z e p. p; ends = record-observations.observation_at.Met.met };
+  make-observations = record { asks-nothing = λ κs a. tt; settles = λ κs a z e p. p; ends = record-observations.make_observations.Met.met };
+  frequency-of = record { asks-nothing = λ κs a. tt; settles = λ κs a z e p. p; ends = record-observations.meanings.frequency_of.Met.met };
+  phase-step = record { asks-nothing = λ κs a. tt; settles = λ κs a z e p. p; ends = record-observations.meanings.phase_step.Met.met };
   prc-mm = record { asks-nothing = λ κs a. tt; settles = λ κs a z e p. p; ends = record-values.prc_mm.Met.met };
   rrc-mm-s = record { asks-nothing = λ κs a. tt; settles = λ κs a z e p. p; ends = record-values.rrc_mm_s.Met.met };
   stops = record { asks-nothing = λ κs a. tt; settles = λ κs a z e p. p; ends = record-values.stops.Met.met };

@@ -39,7 +39,7 @@ use Rattle.record_fields.specs.Coding.{frameBits}
 use Rattle.record_fields.proofs.SatelliteLaws.{satellite-back, code-back}
 use Rattle.record_laws.proofs.ListTrips.{CountRead, count-read}
 use Rattle.record_texts.proofs.TextCode.{length-le, some-words}
-use Rattle.record_stages.specs.Stages.{readOrder, saysCount}
+use Rattle.record_stages.specs.Stages.{readOrder, saysCount, entriesHeld}
 use Rattle.record_corrections.specs.declared.Issue.the-variants.{Iod, Age}
 use Rattle.record_corrections.specs.Issues.{issueOf}
 use Rattle.record_corrections.specs.Corrections as corrections
@@ -64,6 +64,9 @@ use Rattle.writer.specs.declared.Written.{Written}
 use Rattle.writer.specs.declared.Written.the-variants.{Done, Refused}
 use Rattle.writer.proofs.Wrote.{wrote, writes-back, writes-back-turned}
 use Rattle.writer.proofs.Streams.{stream-written}
+use Rattle.record_observations.specs.Editions.{quantityOf, markOf}
+use Rattle.record_observations.specs.Observations.{countObservations}
+use Rattle.record_laws.proofs.ObservationTrips.{observations-held}
 use Rattle.promises.specs.ThoseOfRtcm.{GpsParityRule, FramesOfRtcm, SaysExactly, LimitIs, RecordsOfRtcm}
 use Rattle.promises.proofs.CarriesItsNumber.{says-inj, none-told, carries-its-number}
 
@@ -242,7 +245,7 @@ corrections-fit f c k e = by (f .n) (r .held) (r .up)
     r : CountRead layout.Correction (corrections.coding (systemOf (f .header .kind))) f c
     r = count-read layout.Correction (corrections.coding (systemOf (f .header .kind))) f c (count-told (countCorrections f) c e)
 
-    by : (n : ℕ) → 24 * n / 40 ≡ c → (c * 40 + 23) / 24 ≡ n
+    by : (n : ℕ) → entriesHeld 40 n ≡ c → (c * 40 + 23) / 24 ≡ n
         → ((c ≡ 3 * k) ↔ (n ≡ 5 * k)) × ((c ≡ 3 * k + 1) ↔ (n ≡ 5 * k + 2)) × ((c ≡ 3 * k + 2) ↔ (n ≡ 5 * k + 4))
     by n held up = ((λ x. omega arith, λ y. omega arith), (λ x. omega arith, λ y. omega arith), (λ x. omega arith, λ y. omega arith))
 
@@ -292,10 +295,14 @@ records-of-rtcm = record {
   satellite-code = code-back;
   corrections-n = corrections-fit;
   healths-n = healths-fit;
+  observations-n = λ f c e. observations-held f c (count-told (countObservations f) c e) .n;
   position-n = λ f p e. eqb-true (f .n) 4 (not-false (eqb (f .n) 4) (none-told (carries-its-number .read-position f) p e .1 .1 .1 .0));
   null-n = null-fit;
   issue-gps = λ v. unfold issueOf in ap Iod (omega arith);
   issue-glonass = λ c t l. unfold issueOf in ap₂ Age (omega arith) (omega arith);
+  mark-half = λ b. unfold markOf quantityOf in refl;
+  mark-reserved = λ b. unfold markOf quantityOf in refl;
+  mark-more = λ kind b. unfold markOf in refl;
   condition-gps = λ v. unfold conditionOf in refl;
   condition-glonass = λ d r l. unfold conditionOf in ap₂ Data (omega arith) (omega arith);
   letter-ascii = λ c some few. rw (le-ltb c 1 some, le-ltb 191 c (omega arith), lt-ltb c 128 (omega arith));

@@ -12,7 +12,7 @@ use Rattle.frame.specs.Header.{factors, stateOf, codeOf, preambled, nOf, header
 use Rattle.frame.specs.Frames.{framed, afterPair, turnedFrame}
 use Rattle.frame.specs.Widths.{stateOutside, numbersOutside, headerOutside, pairOutside, outside}
 use Rattle.frame.specs.Layout.{layoutOf}
-use Rattle.record_stages.specs.Stages.{layoutNumber, otherLayout, misfit}
+use Rattle.record_stages.specs.Stages.{layoutNumber, otherLayout, misfitAfter}
 use Rattle.record_corrections.specs.Corrections.{countCorrections}
 use Rattle.record_values.specs.Values.{signedValue, hundredthsOf, limits, udreValue}
 use Rattle.stream.specs.Standing.{right, nAt, dataFrom, frameAt, placed, allRight, stands, scan, framesIn}
@@ -73,7 +73,7 @@ zero-bits = unfold bits number six in refl
 
 pub worked : WorkedValues
 unfolding factors stateOf signedValue hundredthsOf limits udreValue outside pairOutside headerOutside numbersOutside stateOutside layoutOf layoutNumber
-    otherLayout misfit countCorrections
+    otherLayout misfitAfter countCorrections
 worked = record {
   word-1 = unfold bits number rows parity turnedBy sent in refl;
   word-2 = unfold bits number rows parity turnedBy sent in refl;

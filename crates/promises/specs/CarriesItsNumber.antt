@@ -1,7 +1,7 @@
 -- DEMAND 1, "A refusal carries its number from the table": a call refuses when a number of its order applies, only then, and with the first of them
 -- (RULES 11). What a call says is its answer in the table's terms. Assumes nothing.
 use mathlib.Core.Path.{_≡_}
-use mathlib.Core.Bool.{Bool, false, not}
+use mathlib.Core.Bool.{Bool, false, not, _||_}
 use mathlib.Core.List.{List, [], _∷_, _++_, map}
 use Prim.Native.Nat.{ℕ, _^_}
 use lib.IntN.{ℤ}
@@ -30,10 +30,19 @@ use Rattle.journal.specs.Words.{keepWordsOrder, keptWords, recallWordsOrder, re
 use Rattle.journal_moves.specs.Moving.{moveOrder, movedBy, saysMoved}
 use Rattle.journal_moves.specs.declared.Way.the-variants.{New, Old}
 use Rattle.record_fields.specs.declared.Rows.{Rows}
-use Rattle.record_stages.specs.Stages.{wrongCount, otherLayout, misfit, wrongSize, askedOf, countIn, placeBy, sizeOf, entryRefusal, madeBy}
+use Rattle.record_stages.specs.Stages.{wrongCount, otherLayout, misfit, wrongSize, askedOf, countAfter, placeAfter, sizeOf, entryRefusal, madeBy}
+use Rattle.record_stages.specs.Stages.{misfitAfter, headedOrder}
 use Rattle.record_stages.specs.Stages.{readOrder, entryOrder, makeOrder, madeOrder, saysAsked, saysSize, saysCount, saysPlace, saysMade}
 use Rattle.record_corrections.specs.Corrections as corrections
 use Rattle.record_healths.specs.Healths as healths
+use Rattle.record_observations.specs.Observations as observations
+use Rattle.record_observations.specs.Editions.{quantityOf, markNumber}
+use Rattle.record_observations.specs.Meanings.{frequencyOf, phaseStep, saysFrequency, saysStep}
+use Rattle.record_observations.specs.declared.Edition.{Edition}
+use Rattle.record_observations.specs.declared.Quantity.the-variants as quantity
+use Rattle.record_observations.specs.declared.Mark.{Mark}
+use Rattle.record_observations.specs.declared.Epoch.{Epoch}
+use Rattle.record_observations.specs.declared.Observation.{Observation}
 use Rattle.record_positions.specs.Positions as positions
 use Rattle.record_nulls.specs.Nulls as nulls
 use Rattle.record_texts.specs.Texts as texts
@@ -84,6 +93,16 @@ pub record CarriesItsNumber : Type 0 where
       → Ordered (5 ∷ 6 ∷ 7 ∷ 8 ∷ []) (readOrder layout.Health f (misfit 24 (f .n)) []) (saysCount (healths.countHealths f))
   pub health-at : (f : Frame) (i : ℕ)
       → Ordered (5 ∷ 6 ∷ 7 ∷ 8 ∷ 9 ∷ []) (entryOrder layout.Health 24 f i []) (healths.saysHealthRead (healths.healthAt f i))
+  pub count-observations : (f : Frame)
+      → Ordered (5 ∷ 6 ∷ 7 ∷ 8 ∷ []) (readOrder layout.Observation f (misfitAfter 24 48 (f .n)) []) (saysCount (observations.countObservations f))
+  pub read-epoch : (f : Frame)
+      → Ordered (5 ∷ 6 ∷ 7 ∷ 8 ∷ 10 ∷ [])
+      (readOrder layout.Observation f (misfitAfter 24 48 (f .n)) ((observations.lateTime (observations.epochIn f), 10) ∷ []))
+      (observations.saysEpochRead (observations.readEpoch f))
+  pub observation-at : (e : Edition) (f : Frame) (i : ℕ)
+      → Ordered (5 ∷ 6 ∷ 7 ∷ 8 ∷ 9 ∷ 10 ∷ [])
+      (headedOrder layout.Observation 24 48 f i ((observations.lateTime (observations.epochIn f), 10) ∷ []))
+      (observations.saysObservationRead (observations.observationAt e f i))
   pub read-position : (f : Frame)
       → Ordered (5 ∷ 6 ∷ 7 ∷ 8 ∷ 10 ∷ [])
       (readOrder layout.Position f (wrongSize 4 (f .n)) ((positions.outOfRange (positions.positionIn f), 10) ∷ []))
@@ -102,6 +121,11 @@ pub record CarriesItsNumber : Type 0 where
       → Ordered (5 ∷ 6 ∷ 7 ∷ 12 ∷ 10 ∷ [])
       (makeOrder layout.Health h ((wrongCount 31 c, 12) ∷ (anyOf (healths.outOfRange (systemOf (h .kind))) (take c es), 10) ∷ []))
       (saysMade (healths.makeHealths h es c))
+  pub make-observations : (e : Edition) (h : Header) (a : Epoch) (os : List Observation) (c : ℕ)
+      → Ordered (5 ∷ 6 ∷ 7 ∷ 12 ∷ 10 ∷ [])
+      (makeOrder layout.Observation h
+      ((wrongCount 15 c, 12) ∷ (observations.epochOut a || anyOf (observations.outOfRange e (quantityOf (h .kind))) (take c os), 10) ∷ []))
+      (saysMade (observations.makeObservations e h a os c))
   pub make-position : (h : Header) (p : Position)
       → Ordered (5 ∷ 6 ∷ 7 ∷ 10 ∷ []) (makeOrder layout.Position h ((positions.outOfRange p, 10) ∷ [])) (saysMade (positions.makePosition h p))
   pub make-null : (h : Header) (n : ℕ)
@@ -133,12 +157,18 @@ pub record CarriesItsNumber : Type 0 where
   pub frame-widths : (f : Frame) → Ordered (5 ∷ []) ((outside f, 5) ∷ []) (saysWidths (frameWidths f))
   pub clock-of : (z : ℕ) → Ordered (7 ∷ []) ((late z, 7) ∷ []) (saysClock (clockOf z))
   pub asked-of : (l : Layout) (kind : ℕ) → Ordered (6 ∷ []) ((otherLayout l kind, 6) ∷ []) (saysAsked (askedOf l kind))
-  pub count-in : (l : Layout) (w : ℕ) (f : Frame) → Ordered (5 ∷ 6 ∷ 7 ∷ 8 ∷ []) (readOrder l f (misfit w (f .n)) []) (saysCount (countIn l w f))
-  pub entry-place : (l : Layout) (w : ℕ) (f : Frame) (i : ℕ) → Ordered (5 ∷ 6 ∷ 7 ∷ 8 ∷ 9 ∷ []) (entryOrder l w f i []) (saysPlace (placeBy l w f i))
+  pub count-in : (l : Layout) (h w : ℕ) (f : Frame)
+      → Ordered (5 ∷ 6 ∷ 7 ∷ 8 ∷ []) (readOrder l f (misfitAfter h w (f .n)) []) (saysCount (countAfter l h w f))
+  pub entry-place : (l : Layout) (h w : ℕ) (f : Frame) (i : ℕ)
+      → Ordered (5 ∷ 6 ∷ 7 ∷ 8 ∷ 9 ∷ []) (headedOrder l h w f i []) (saysPlace (placeAfter l h w f i))
   pub size-of : (wanted n : ℕ) → Ordered (8 ∷ []) ((wrongSize wanted n, 8) ∷ []) (saysSize (sizeOf wanted n))
   pub make-frame : (l : Layout) (most pattern : ℕ) (h : Header) (c : ℕ) (r : Rows)
       → Ordered (5 ∷ 6 ∷ 7 ∷ 12 ∷ entryRefusal l ∷ []) (madeOrder l most h c (r .out)) (saysMade (madeBy l most pattern h c r))
   -- the values of a record's numbers
+  pub frequency-of : (e : Edition) (kind c : ℕ)
+      → Ordered (6 ∷ 10 ∷ []) ((otherLayout layout.Observation kind, 6) ∷ (ltb 3 c, 10) ∷ []) (saysFrequency (frequencyOf e kind c))
+  pub phase-step : (e : Edition) (kind : ℕ) (m : Mark)
+      → Ordered (6 ∷ 10 ∷ []) ((not (eqb kind 18), 6) ∷ (ltb 1 (markNumber e quantity.Phase m), 10) ∷ []) (saysStep (phaseStep e kind m))
   pub prc-mm : (scale : ℕ) (prc : ℤ) → Ordered (10 ∷ []) ((ltb 1 scale, 10) ∷ []) (saysDistance (prcMm scale prc))
   pub rrc-mm-s : (scale : ℕ) (rrc : ℤ) → Ordered (10 ∷ []) ((ltb 1 scale, 10) ∷ []) (saysRate (rrcMmS scale rrc))
   pub udre-limit : (s : State) (udre : ℕ) → Ordered (5 ∷ 10 ∷ []) ((stateOutside s, 5) ∷ (ltb 3 udre, 10) ∷ []) (saysLimit (udreLimit s udre))

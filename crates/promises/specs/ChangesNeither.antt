@@ -21,6 +21,10 @@ use Rattle.journal_moves.specs.declared.Way.{Way}
 use Rattle.record_stages.specs.Stages.{saysCount, saysMade}
 use Rattle.record_corrections.specs.Corrections.{makeCorrections}
 use Rattle.record_healths.specs.Healths.{makeHealths}
+use Rattle.record_observations.specs.Observations.{makeObservations}
+use Rattle.record_observations.specs.declared.Edition.{Edition}
+use Rattle.record_observations.specs.declared.Epoch.{Epoch}
+use Rattle.record_observations.specs.declared.Observation.{Observation}
 use Rattle.record_positions.specs.Positions.{makePosition}
 use Rattle.record_nulls.specs.Nulls.{makeNull}
 use Rattle.record_texts.specs.Texts.{readText, bufferAfter, makeText}
@@ -68,6 +72,8 @@ pub record NumberAlone : Type 0 where
   pub recall : (bs : List ℕ) → Keeps (saysRecalled (recalledBy bs)) (recalledBy bs .frame) blank
   pub recall-words : (bs : List ℕ) → Keeps (saysRecalled (recalledWords bs)) (recalledWords bs .frame) blank
   pub make-corrections : (h : Header) (es : List Correction) (c : ℕ) → Keeps (saysMade (makeCorrections h es c)) (makeCorrections h es c .frame) blank
+  pub make-observations : (e : Edition) (h : Header) (a : Epoch) (os : List Observation) (c : ℕ)
+      → Keeps (saysMade (makeObservations e h a os c)) (makeObservations e h a os c .frame) blank
   pub make-healths : (h : Header) (es : List SatelliteHealth) (c : ℕ) → Keeps (saysMade (makeHealths h es c)) (makeHealths h es c .frame) blank
   pub make-position : (h : Header) (p : Position) → Keeps (saysMade (makePosition h p)) (makePosition h p .frame) blank
   pub make-null : (h : Header) (n : ℕ) → Keeps (saysMade (makeNull h n)) (makeNull h n .frame) blank

@@ -22,12 +22,19 @@ use Rattle.record_fields.specs.Coding.{frameBits, entryIn, Each}
 use Rattle.record_stages.specs.declared.Made.{Made}
 use Rattle.record_corrections.specs.declared.Correction.{Correction}
 use Rattle.record_healths.specs.declared.SatelliteHealth.{SatelliteHealth}
+use Rattle.record_observations.specs.declared.Edition.{Edition}
+use Rattle.record_observations.specs.declared.Epoch.{Epoch}
+use Rattle.record_observations.specs.declared.Observation.{Observation}
 use Rattle.record_positions.specs.declared.Position.{Position}
 use Rattle.record_stages.specs.Stages.{otherLayout, saysCount, saysMade}
 use Rattle.record_corrections.specs.Corrections.{countCorrections, correctionAt, makeCorrections, StandardFill}
 use Rattle.record_corrections.specs.Corrections.{Typed, saysCorrectionRead, HoldsCorrections, coding as correctionCoding}
 use Rattle.record_corrections.specs.Issues.{lateTb}
 use Rattle.record_healths.specs.Healths.{countHealths, healthAt, makeHealths, saysHealthRead, HoldsHealths, coding as healthCoding}
+use Rattle.record_observations.specs.Editions.{quantityOf}
+use Rattle.record_observations.specs.Observations.{countObservations, readEpoch, observationAt, makeObservations, saysEpochRead, saysObservationRead}
+use Rattle.record_observations.specs.Observations.{HoldsObservations, epochIn, lateTime, satelliteIn, retoldRead}
+use Rattle.record_observations.specs.Observations as observations
 use Rattle.record_positions.specs.Positions.{readPosition, makePosition, positionIn, saysPositionRead, HoldsPosition}
 use Rattle.record_positions.specs.Positions as positions
 use Rattle.record_nulls.specs.Nulls.{readNull, makeNull, saysNullRead, HoldsNull}
@@ -38,16 +45,16 @@ use Rattle.writer.specs.Sending.{carriedOn}
 use Rattle.writer.specs.Answer.{writtenBy, writtenTo, saysWritten}
 use Rattle.writer.specs.OneFrame.{itsBits}
 use Rattle.promises.specs.ThoseOfRtcm.{GpsParityRule, FramesOfRtcm, RecordsOfRtcm}
-use Rattle.promises.specs.ReadsBack.{CorrectionsBack, HealthsBack, PositionBack, NullBack, TextBack, WhatCanBeSent}
+use Rattle.promises.specs.ReadsBack.{CorrectionsBack, HealthsBack, ObservationsBack, PositionBack, NullBack, TextBack, WhatCanBeSent}
 
--- THE ELEVEN TYPES that have a record
+-- THE THIRTEEN TYPES that have a record
 abbrev pub recordTypes : List ℕ
-recordTypes = 1 ∷ 9 ∷ 31 ∷ 34 ∷ 3 ∷ 32 ∷ 5 ∷ 33 ∷ 6 ∷ 16 ∷ 36 ∷ []
+recordTypes = 1 ∷ 9 ∷ 31 ∷ 34 ∷ 3 ∷ 32 ∷ 5 ∷ 33 ∷ 6 ∷ 16 ∷ 36 ∷ 18 ∷ 19 ∷ []
 
 -- WHICH FRAMES ARE READ, whatever their fill: those that are for the layout with exactly these N; and what is read is what their bits say, or 10
--- for a correction whose tb is over 119
+-- for a correction whose tb is over 119, and for observations whose time is over 599999
 pub record WhatIsRead : Type 0 where
-  -- a type number has a layout other than plain exactly when it is one of the eleven
+  -- a type number has a layout other than plain exactly when it is one of the thirteen
   pub types : (kind : ℕ) → otherLayout layout.Plain kind ≡ anyOf (eqb kind) recordTypes
   pub corrections : (f : Frame) (c : ℕ) → (saysCount (countCorrections f) ≡ answers c) ↔ HoldsCorrections f c
   pub correction : (f : Frame) (c i : ℕ) → HoldsCorrections f c → i < c
@@ -56,6 +63,13 @@ pub record WhatIsRead : Type 0 where
   pub healths : (f : Frame) (c : ℕ) → (saysCount (countHealths f) ≡ answers c) ↔ HoldsHealths f c
   pub health : (f : Frame) (c i : ℕ) → HoldsHealths f c → i < c
       → saysHealthRead (healthAt f i) ≡ answers (entryIn (healthCoding (systemOf (f .header .kind))) i (frameBits f))
+  pub observations : (f : Frame) (c : ℕ) → (saysCount (countObservations f) ≡ answers c) ↔ HoldsObservations f c
+  pub epoch : (f : Frame) (c : ℕ) → HoldsObservations f c
+      → saysEpochRead (readEpoch f) ≡ cond (lateTime (epochIn f)) (refuses 10) (answers (epochIn f))
+  pub observation : (e : Edition) (f : Frame) (c i : ℕ) → HoldsObservations f c → i < c
+      → saysObservationRead (observationAt e f i) ≡ cond (lateTime (epochIn f)) (refuses 10) (answers (satelliteIn e f i))
+  -- the editions: what one reads of any frame is what the other reads, with the first bit told anew; the refusals are equal
+  pub told-anew : (e other : Edition) (f : Frame) (i : ℕ) → observationAt e f i ≡ retoldRead e (quantityOf (f .header .kind)) (observationAt other f i)
   pub position : (f : Frame) (p : Position) → (saysPositionRead (readPosition f) ≡ answers p) ↔ (HoldsPosition f × (positionIn f ≡ p))
   pub null : (f : Frame) (n : ℕ) → (saysNullRead (readNull f) ≡ answers n) ↔ (HoldsNull f × (f .n ≡ n))
   -- a text with its closing zeros, into every buffer with room for its characters
@@ -71,6 +85,8 @@ pub record ReadsBackEqual : Type 0 where
       → saysMade (makeCorrections h es c) ≡ answers f → CorrectionsBack h es c d f
   pub healths : (h : Header) (es : List SatelliteHealth) (c : ℕ) (d : SatelliteHealth) (f : Frame) → length es ≡ 31
       → saysMade (makeHealths h es c) ≡ answers f → HealthsBack h es c d f
+  pub observations : (e : Edition) (h : Header) (a : Epoch) (os : List Observation) (c : ℕ) (d : Observation) (f : Frame) → length os ≡ 15
+      → Each observations.Typed os → saysMade (makeObservations e h a os c) ≡ answers f → ObservationsBack e h a os c d f
   pub position : (h : Header) (p : Position) (f : Frame) → positions.Typed p → saysMade (makePosition h p) ≡ answers f → PositionBack h p f
   pub null : (h : Header) (n : ℕ) (f : Frame) → saysMade (makeNull h n) ≡ answers f → NullBack h n f
   pub text : (h : Header) (t : List ℕ) (f : Frame) → saysMade (makeText h t) ≡ answers f → TextBack h t f
@@ -92,6 +108,10 @@ pub data Remade (f : Frame) (m : Made) : Type 0 where
   -- types 5 and 33: the count and every entry
   ofHealths : (es : List SatelliteHealth) (c : ℕ) (d : SatelliteHealth) → c ≤ length es → saysCount (countHealths f) ≡ answers c
       → ((i : ℕ) → i < c → saysHealthRead (healthAt f i) ≡ answers (getD es i d)) → m ≡ makeHealths (f .header) es c → Remade f m
+  -- types 18 and 19, read and made in one edition: the count, the head and every satellite
+  ofObservations : (e : Edition) (a : Epoch) (os : List Observation) (c : ℕ) (d : Observation) → c ≤ length os → saysCount (countObservations f) ≡ answers c
+      → saysEpochRead (readEpoch f) ≡ answers a → ((i : ℕ) → i < c → saysObservationRead (observationAt e f i) ≡ answers (getD os i d))
+      → m ≡ makeObservations e (f .header) a os c → Remade f m
   ofPosition : (p : Position) → saysPositionRead (readPosition f) ≡ answers p → m ≡ makePosition (f .header) p → Remade f m
   -- types 6 and 34: N, with standard fill
   ofNull : (n : ℕ) → saysNullRead (readNull f) ≡ answers n → nulls.StandardFill f → m ≡ makeNull (f .header) n → Remade f m
@@ -123,6 +143,8 @@ pub record PairBeside : Type 0 where
       → (keptBy (afterPair k f) buffer ≡ keptBy f buffer) × (heldBy (afterPair k f) buffer ≡ heldBy f buffer)
   pub corrections : (h : Header) (es : List Correction) (c : ℕ) (f : Frame) → saysMade (makeCorrections h es c) ≡ answers f → bare f ≡ f
   pub healths : (h : Header) (es : List SatelliteHealth) (c : ℕ) (f : Frame) → saysMade (makeHealths h es c) ≡ answers f → bare f ≡ f
+  pub observations : (e : Edition) (h : Header) (a : Epoch) (os : List Observation) (c : ℕ) (f : Frame) → saysMade (makeObservations e h a os c) ≡ answers f
+      → bare f ≡ f
   pub position : (h : Header) (p : Position) (f : Frame) → saysMade (makePosition h p) ≡ answers f → bare f ≡ f
   pub null : (h : Header) (n : ℕ) (f : Frame) → saysMade (makeNull h n) ≡ answers f → bare f ≡ f
   pub text : (h : Header) (t : List ℕ) (f : Frame) → saysMade (makeText h t) ≡ answers f → bare f ≡ f

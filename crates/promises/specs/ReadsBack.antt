@@ -15,10 +15,16 @@ use Rattle.record_fields.specs.Coding.{frameBits, Each}
 use Rattle.record_stages.specs.declared.Made.{Made}
 use Rattle.record_corrections.specs.declared.Correction.{Correction}
 use Rattle.record_healths.specs.declared.SatelliteHealth.{SatelliteHealth}
+use Rattle.record_observations.specs.declared.Edition.{Edition}
+use Rattle.record_observations.specs.declared.Epoch.{Epoch}
+use Rattle.record_observations.specs.declared.Observation.{Observation}
 use Rattle.record_positions.specs.declared.Position.{Position}
 use Rattle.record_stages.specs.Stages.{saysCount, saysMade}
 use Rattle.record_corrections.specs.Corrections.{countCorrections, correctionAt, makeCorrections, saysCorrectionRead, Typed, SendableCorrections}
 use Rattle.record_healths.specs.Healths.{countHealths, healthAt, makeHealths, saysHealthRead, SendableHealths}
+use Rattle.record_observations.specs.Observations.{countObservations, readEpoch, observationAt, makeObservations, saysEpochRead, saysObservationRead}
+use Rattle.record_observations.specs.Observations.{SendableObservations}
+use Rattle.record_observations.specs.Observations as observations
 use Rattle.record_positions.specs.Positions.{readPosition, makePosition, saysPositionRead, SendablePosition}
 use Rattle.record_positions.specs.Positions as positions
 use Rattle.record_nulls.specs.Nulls.{readNull, makeNull, saysNullRead, SendableNull}
@@ -45,6 +51,15 @@ CorrectionsBack = ListBack (λ f. saysCount (countCorrections f)) (λ f i. saysC
 
 abbrev pub HealthsBack : Header → List SatelliteHealth → ℕ → SatelliteHealth → Frame → Type 0
 HealthsBack = ListBack (λ f. saysCount (countHealths f)) (λ f i. saysHealthRead (healthAt f i)) 24 0
+
+-- a head and satellites, read in the edition in which they were made; there is no fill
+pub record ObservationsBack (e : Edition) (h : Header) (a : Epoch) (os : List Observation) (c : ℕ) (d : Observation) (f : Frame) : Type 0 where
+  pub header : f .header ≡ h
+  pub inside : outside f ≡ false
+  pub counted : saysCount (countObservations f) ≡ answers c
+  pub epoch : saysEpochRead (readEpoch f) ≡ answers a
+  pub each : (i : ℕ) → i < c → saysObservationRead (observationAt e f i) ≡ answers (getD os i d)
+  pub n : f .n ≡ 2 * c + 1
 
 pub record PositionBack (h : Header) (p : Position) (f : Frame) : Type 0 where
   pub header : f .header ≡ h
@@ -95,6 +110,9 @@ pub record WhatCanBeSent : Type 0 where
   -- types 5 and 33
   pub healths : (h : Header) (es : List SatelliteHealth) (c : ℕ) (d : SatelliteHealth) → SendableHealths h es c d
       → ReadsBack (makeHealths h es c) (HealthsBack h es c d)
+  -- types 18 and 19, in each edition
+  pub observations : (e : Edition) (h : Header) (a : Epoch) (os : List Observation) (c : ℕ) (d : Observation) → Each observations.Typed (take c os)
+      → SendableObservations e h a os c d → ReadsBack (makeObservations e h a os c) (ObservationsBack e h a os c d)
   -- types 3 and 32
   pub position : (h : Header) (p : Position) → positions.Typed p → SendablePosition h p → ReadsBack (makePosition h p) (PositionBack h p)
   -- types 6 and 34

@@ -5,7 +5,7 @@ use Rattle.record_fields.specs.Packing.{fieldIn, filledUp}
 use Rattle.record_fields.specs.Tables.{row, fieldsIn, noRows, putRow, rowOut}
 use Rattle.bits.specs.Signed.{signed as signedOf, code as codeOf}
 use Rattle.record_fields.specs.Satellites.{satelliteOf}
-use Rattle.record_stages.specs.Stages.{askedOf, countIn, placeBy, sizeOf, madeBy}
+use Rattle.record_stages.specs.Stages.{askedOf, countAfter, placeAfter, sizeOf, madeBy}
 use Rattle.record_corrections.specs.Issues.{issueIn}
 use Rattle.record_corrections.specs.Corrections.{countCorrections, correctionAt, makeCorrections}
 use Rattle.record_healths.specs.Conditions.{conditionOf}
@@ -13,6 +13,9 @@ use Rattle.record_healths.specs.Healths.{countHealths, healthAt, makeHealths}
 use Rattle.record_positions.specs.Positions.{readPosition, makePosition}
 use Rattle.record_nulls.specs.Nulls.{readNull, makeNull}
 use Rattle.record_texts.specs.Texts.{readText, bufferAfter, makeText}
+use Rattle.record_observations.specs.Editions.{quantityOf}
+use Rattle.record_observations.specs.Observations.{countObservations, readEpoch, observationAt, makeObservations}
+use Rattle.record_observations.specs.Meanings.{frequencyOf, phaseStep}
 use Rattle.record_values.specs.Values.{stopsUse}
 use Rattle.record_values.specs.Answer.{prcMm, rrcMmS, udreLimit, cn0DbHz, minutesOf, zTenths, letterOf}
 use Rattle.record_fields.proofs.field
@@ -47,6 +50,13 @@ use Rattle.record_nulls.proofs.read_null
 use Rattle.record_nulls.proofs.make_null
 use Rattle.record_texts.proofs.read_text
 use Rattle.record_texts.proofs.make_text
+use Rattle.record_observations.proofs.quantity_of
+use Rattle.record_observations.proofs.count_observations
+use Rattle.record_observations.proofs.read_epoch
+use Rattle.record_observations.proofs.observation_at
+use Rattle.record_observations.proofs.make_observations
+use Rattle.record_observations.proofs.meanings.frequency_of
+use Rattle.record_observations.proofs.meanings.phase_step
 use Rattle.record_values.proofs.prc_mm
 use Rattle.record_values.proofs.rrc_mm_s
 use Rattle.record_values.proofs.stops
@@ -89,9 +99,9 @@ pub record RecordCalls : Type 2 where
   pub asked-of : Answered asked_of.Reads.Asked asked_of.Reads.Learnt asked_of.Statement.statement
       (λ κs (layout, (kind, _)). askedOf layout kind)
   pub count-in : Answered count_in.Reads.Asked count_in.Reads.Learnt count_in.Statement.statement
-      (λ κs (layout, (width, (frame, _))). countIn layout width frame)
+      (λ κs (layout, (head, (width, (frame, _)))). countAfter layout head width frame)
   pub entry-place : Answered entry_place.Reads.Asked entry_place.Reads.Learnt entry_place.Statement.statement
-      (λ κs (layout, (width, (frame, (index, _)))). placeBy layout width frame index)
+      (λ κs (layout, (head, (width, (frame, (index, _))))). placeAfter layout head width frame index)
   pub size-of : Answered size_of.Reads.Asked size_of.Reads.Learnt size_of.Statement.statement
       (λ κs (wanted, (n, _)). sizeOf wanted n)
   pub make-frame : Answered make_frame.Reads.Asked make_frame.Reads.Learnt make_frame.Statement.statement
@@ -130,6 +140,21 @@ pub record RecordCalls : Type 2 where
       (λ κs (_, (buffer, _)). now buffer) (λ κs (frame, (buffer, _)). bufferAfter frame (now buffer))
   pub make-text : Answered make_text.Reads.Asked make_text.Reads.Learnt make_text.Statement.statement
       (λ κs (header, (text, _)). makeText header (now text))
+  -- record_observations
+  pub quantity-of : Answered quantity_of.Reads.Asked quantity_of.Reads.Learnt quantity_of.Statement.statement
+      (λ κs (kind, _). quantityOf kind)
+  pub count-observations : Answered count_observations.Reads.Asked count_observations.Reads.Learnt count_observations.Statement.statement
+      (λ κs (frame, _). countObservations frame)
+  pub read-epoch : Answered read_epoch.Reads.Asked read_epoch.Reads.Learnt read_epoch.Statement.statement
+      (λ κs (frame, _). readEpoch frame)
+  pub observation-at : Answered observation_at.Reads.Asked observation_at.Reads.Learnt observation_at.Statement.statement
+      (λ κs (edition, (frame, (index, _))). observationAt edition frame index)
+  pub make-observations : Answered make_observations.Reads.Asked make_observations.Reads.Learnt make_observations.Statement.statement
+      (λ κs (edition, (header, (epoch, (entries, (count, _))))). makeObservations edition header epoch entries count)
+  pub frequency-of : Answered frequency_of.Reads.Asked frequency_of.Reads.Learnt frequency_of.Statement.statement
+      (λ κs (edition, (kind, (code, _))). frequencyOf edition kind code)
+  pub phase-step : Answered phase_step.Reads.Asked phase_step.Reads.Learnt phase_step.Statement.statement
+      (λ κs (edition, (kind, (mark, _))). phaseStep edition kind mark)
   -- record_values
   pub prc-mm : Answered prc_mm.Reads.Asked prc_mm.Reads.Learnt prc_mm.Statement.statement
       (λ κs (scale, (prc, _)). prcMm scale prc)

@@ -33,6 +33,10 @@ use Rattle.record_corrections.specs.declared.Correction.{Correction}
 use Rattle.record_corrections.specs.declared.Issue.the-variants.{Iod, Age}
 use Rattle.record_corrections.specs.Issues.{issueIn}
 use Rattle.record_healths.specs.Healths.{countHealths}
+use Rattle.record_observations.specs.Observations.{countObservations}
+use Rattle.record_observations.specs.Editions.{quantityOf, markOf}
+use Rattle.record_observations.specs.declared.Edition.the-variants.{Gost, Bd}
+use Rattle.record_observations.specs.declared.Mark.the-variants.{Half, Reserved, More}
 use Rattle.record_healths.specs.declared.Condition.the-variants.{Code, Data}
 use Rattle.record_healths.specs.Conditions.{conditionOf}
 use Rattle.record_positions.specs.Positions.{readPosition, saysPositionRead}
@@ -117,6 +121,8 @@ pub record RecordsOfRtcm : Type 0 where
   -- types 5 and 33 have one word per satellite, types 3 and 32 N = 4, a null frame N = 0 or 1, types 16 and 36 N 1 to 30 with three
   -- characters a word, the last one or two fill
   pub healths-n : (f : Frame) (c : ℕ) → saysCount (countHealths f) ≡ answers c → f .n ≡ c
+  -- types 18 and 19 have a word and two for each satellite
+  pub observations-n : (f : Frame) (c : ℕ) → saysCount (countObservations f) ≡ answers c → f .n ≡ 2 * c + 1
   pub position-n : (f : Frame) (p : Position) → saysPositionRead (readPosition f) ≡ answers p → f .n ≡ 4
   pub null-n : (f : Frame) (n : ℕ) → saysNullRead (readNull f) ≡ answers n → (f .n ≡ n) × (n ≤ 1)
   -- the last eight bits of a correction are an IOD, or a change bit and tb; three health bits are a code, or the data health and two reserved bits
@@ -124,6 +130,10 @@ pub record RecordsOfRtcm : Type 0 where
   pub issue-glonass : (change tb : ℕ) → tb < 2 ^ 7 → issueIn Glonass (change * 2 ^ 7 + tb) ≡ Age change tb
   pub condition-gps : (v : ℕ) → conditionOf Gps v ≡ Code v
   pub condition-glonass : (health reserved : ℕ) → reserved < 2 ^ 2 → conditionOf Glonass (health * 2 ^ 2 + reserved) ≡ Data health reserved
+  -- the first bit of a satellite: in document 000 half a wavelength for type 18 and reserved for type 19, in 002 that more frames follow
+  pub mark-half : (b : ℕ) → markOf Gost (quantityOf 18) b ≡ Half b
+  pub mark-reserved : (b : ℕ) → markOf Gost (quantityOf 19) b ≡ Reserved b
+  pub mark-more : (kind b : ℕ) → markOf Bd (quantityOf kind) b ≡ More b
   -- the characters of types 16 and 36 in Unicode: ASCII, then 64 letters from U+0410 on
   pub letter-ascii : (c : ℕ) → 1 ≤ c → c ≤ 127 → saysLetter (letterOf c) ≡ answers c
   pub letter-russian : (c : ℕ) → 128 ≤ c → c ≤ 191 → saysLetter (letterOf c) ≡ answers (0x0410 + (c - 128))

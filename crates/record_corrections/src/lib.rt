@@ -58,7 +58,7 @@ const FILL: u32 = 0xAAAAAA;
 pub fn count_corrections(frame: Frame) -> Count
     ensures { λ r. ⌜ r ≡ countCorrections frame ⌝ }
 {
-    record_stages::count_in(Layout::Correction, 40, frame)
+    record_stages::count_in(Layout::Correction, 0, 40, frame)
 }
 
 // The most of each number.
@@ -157,7 +157,7 @@ pub fn correction_at(frame: Frame, index: usize) -> CorrectionRead
     let words = frame.words;
     let header = frame.header;
     let system = frame::system_of(header.kind);
-    let place = record_stages::entry_place(Layout::Correction, 40, frame, index);
+    let place = record_stages::entry_place(Layout::Correction, 0, 40, frame, index);
     match place {
         Place::At(at) => {
             let entry = entry_from(system, words, at);

@@ -4,6 +4,8 @@ pub mod PackCode
 pub mod Holds
 pub mod TableLaws
 pub mod Words
+pub mod Faithful
+pub mod Headed
 pub mod Round
 pub mod TableRound
 pub mod Making

@@ -1,11 +1,11 @@
 -- Over the layout: the frame that a filled packer leaves, and that a field within N words is one of the frame's bits. Assumes nothing.
 use mathlib.Core.Path.{_≡_, sym, ap, ap₂, _∙_}
-use mathlib.Core.Bool.{false}
+use mathlib.Core.Bool.{Bool, false}
 use mathlib.Core.List.{List, [], _++_}
 use Prim.Native.Nat.{ℕ, _+_, _*_, _-_, _≤_}
 use native.Mathlib.Omega.{arith}
 use lib.ListN.{length, drop, replicate, length-map, take-append-drop}
-use Rattle.bits.specs.Fields.{fieldsAt, span}
+use Rattle.bits.specs.Fields.{fieldsAt, span, packed}
 use Rattle.bits.specs.Rows.{dataBits, rowsAt, filled, wordsIn}
 use Rattle.bits.proofs.RowLaws.{fields-front, rows-front}
 use Rattle.bits.proofs.WordLaws.{length-data, data-append}
@@ -15,30 +15,42 @@ use Rattle.frame.specs.declared.Header.{Header}
 use Rattle.frame.specs.declared.Frame.{Frame}
 use Rattle.frame.proofs.FrameLaws.{length-data as length-data-words}
 use Rattle.record_fields.specs.declared.Packer.{Packer}
-use Rattle.record_fields.specs.Packing.{emptyPacker, pushedRows, filledUp}
-use Rattle.record_fields.specs.Coding.{Coding, frameBits, rowsOf, entryBits, frameWith}
-use Rattle.record_fields.proofs.Holds.{Narrow, Ready, empty-holds, rows-hold, fill-holds, whole-holds}
+use Rattle.record_fields.specs.Packing.{emptyPacker, pushedAll, pushedRows, filledUp}
+use Rattle.record_fields.specs.Coding.{Coding, frameBits, rowsOf, entryBits, frameWith, frameAfter}
+use Rattle.record_fields.proofs.Holds.{Narrow, Ready, empty-holds, all-holds, rows-hold, fill-holds, whole-holds}
 
 -- ---- what the packer leaves
+
+-- entries behind what a packer holds already, the bits of a head
+pub packed-after : {A : Type 0} (k : Coding A) (pattern : ℕ) (h : Header) (es : List A) (start : Packer) (front : List Bool) (p : Packer)
+    → Ready start front → Narrow (k .widths) → length front + length es * span (k .widths) ≤ 744
+    → p ≡ filledUp pattern (pushedRows (k .widths) (rowsOf k es) start)
+    → builtOf h (p .whole) (p .words) ≡ frameAfter front pattern k h es
+unfolding frameAfter framed entryBits
+packed-after k pattern h es start front p begun narrow room e = ap₂ (λ n ws. builtOf h n ws) (whole .0) (whole .1)
+  where
+    rows : Ready (pushedRows (k .widths) (rowsOf k es) start) (front ++ entryBits k es)
+    rows =
+        rows-hold (k .widths) (rowsOf k es) start front begun narrow
+        (omega (arith, ap (λ m. m * span (k .widths)) (length-map es (k .codes))))
+
+    ready : Ready p (filled pattern (front ++ entryBits k es))
+    ready = rw e (fill-holds pattern (pushedRows (k .widths) (rowsOf k es) start) (front ++ entryBits k es) rows)
+
+    whole : (p .whole ≡ length (wordsIn pattern (front ++ entryBits k es)))
+        × (p .words ≡ wordsIn pattern (front ++ entryBits k es) ++ replicate (31 - length (wordsIn pattern (front ++ entryBits k es))) 0)
+    whole = whole-holds pattern p (front ++ entryBits k es) ready
+
+-- a packer that was begun by the row of a head
+pub head-ready : (ws vs : List ℕ) → Narrow ws → span ws ≤ 744 → Ready (pushedAll ws vs emptyPacker) (packed ws vs)
+head-ready ws vs narrow room = all-holds ws vs emptyPacker [] empty-holds narrow (omega arith)
 
 pub packed-frame : {A : Type 0} (k : Coding A) (pattern : ℕ) (h : Header) (es : List A) (p : Packer) → Narrow (k .widths)
     → length es * span (k .widths) ≤ 744
     → p ≡ filledUp pattern (pushedRows (k .widths) (rowsOf k es) emptyPacker)
     → builtOf h (p .whole) (p .words) ≡ frameWith pattern k h es
-unfolding frameWith framed entryBits
-packed-frame k pattern h es p narrow room e = ap₂ (λ n ws. builtOf h n ws) (whole .0) (whole .1)
-  where
-    rows : Ready (pushedRows (k .widths) (rowsOf k es) emptyPacker) (entryBits k es)
-    rows =
-        rows-hold (k .widths) (rowsOf k es) emptyPacker [] empty-holds narrow
-        (omega (arith, ap (λ m. m * span (k .widths)) (length-map es (k .codes))))
-
-    ready : Ready p (filled pattern (entryBits k es))
-    ready = rw e (fill-holds pattern (pushedRows (k .widths) (rowsOf k es) emptyPacker) (entryBits k es) rows)
-
-    whole : (p .whole ≡ length (wordsIn pattern (entryBits k es)))
-        × (p .words ≡ wordsIn pattern (entryBits k es) ++ replicate (31 - length (wordsIn pattern (entryBits k es))) 0)
-    whole = whole-holds pattern p (entryBits k es) ready
+unfolding frameWith frameAfter
+packed-frame k pattern h es p narrow room e = packed-after k pattern h es emptyPacker [] p empty-holds narrow (omega arith) e
 
 -- ---- fields within N words
 

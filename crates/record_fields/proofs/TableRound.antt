@@ -16,7 +16,7 @@ use Rattle.bits.specs.Fields.{Fit}
 use Rattle.bits.specs.Signed.{signed, code}
 use Rattle.bits.proofs.SignedLaws.{signed-code, code-lt}
 use Rattle.record_fields.specs.Tables.{padded, row, codesOf, rowOut}
-use Rattle.record_fields.proofs.Round.{Faithful, Fine}
+use Rattle.record_fields.proofs.Faithful.{Faithful, Fine}
 use Rattle.record_fields.proofs.TableLaws.{InRow, row-told}
 
 -- ---- values by their places

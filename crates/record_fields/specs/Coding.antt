@@ -1,8 +1,8 @@
 -- What a layout says of its entries, as data: the widths of the fields, what their codes mean, the codes of an entry. A frame is read
 -- and made by these definitions alone. Assumes nothing.
 use mathlib.Core.Bool.{Bool}
-use mathlib.Core.List.{List, [], _∷_, map}
-use Prim.Native.Nat.{ℕ, _*_}
+use mathlib.Core.List.{List, [], _∷_, _++_, map}
+use Prim.Native.Nat.{ℕ, _+_, _*_}
 use Rattle.bits.specs.Fields.{fieldsAt, span}
 use Rattle.bits.specs.Rows.{dataBits, packedRows, wordsIn}
 use Rattle.frame.specs.Frames.{framed, dataWords}
@@ -22,6 +22,10 @@ frameBits f = dataBits (dataWords f)
 abbrev pub entryIn : {A : Type 0} → Coding A → ℕ → List Bool → A
 entryIn k i bs = k .meant (fieldsAt (k .widths) (i * span (k .widths)) bs)
 
+-- entry number i of a headed list, whose entries follow a head of o bits
+abbrev pub entryAfter : {A : Type 0} → ℕ → Coding A → ℕ → List Bool → A
+entryAfter o k i bs = k .meant (fieldsAt (k .widths) (o + i * span (k .widths)) bs)
+
 -- the rows of codes of entries, and their bits
 abbrev pub rowsOf : {A : Type 0} → Coding A → List A → List (List ℕ)
 rowsOf k es = map (k .codes) es
@@ -32,6 +36,10 @@ entryBits k es = packedRows (k .widths) (rowsOf k es)
 -- the frame of these entries, its last word filled by a pattern; N follows from the entries
 unfoldable pub frameWith : {A : Type 0} → ℕ → Coding A → Header → List A → Frame
 frameWith pattern k h es = framed h (wordsIn pattern (entryBits k es))
+
+-- the frame of a headed list: the bits of the head, those of the entries, and the fill
+unfoldable pub frameAfter : {A : Type 0} → List Bool → ℕ → Coding A → Header → List A → Frame
+frameAfter front pattern k h es = framed h (wordsIn pattern (front ++ entryBits k es))
 
 -- each entry of a list
 abbrev pub Each : {A : Type 0} → (A → Type 0) → List A → Type 0

@@ -56,7 +56,7 @@ const FILL: u32 = 0;
 pub fn count_healths(frame: Frame) -> Count
     ensures { λ r. ⌜ r ≡ countHealths frame ⌝ }
 {
-    record_stages::count_in(Layout::Health, 24, frame)
+    record_stages::count_in(Layout::Health, 0, 24, frame)
 }
 
 // What three bits say; bits past them are kept, and can't be sent.
@@ -126,7 +126,7 @@ pub fn health_at(frame: Frame, index: usize) -> HealthRead
     let words = frame.words;
     let header = frame.header;
     let system = frame::system_of(header.kind);
-    let place = record_stages::entry_place(Layout::Health, 24, frame, index);
+    let place = record_stages::entry_place(Layout::Health, 0, 24, frame, index);
     match place {
         Place::At(at) => HealthRead::Entry(entry_from(system, words, at)),
         Place::Refused(n) => HealthRead::Refused(n),

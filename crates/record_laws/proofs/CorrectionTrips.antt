@@ -20,7 +20,7 @@ use Rattle.frame.specs.declared.System.the-variants.{Gps, Glonass}
 use Rattle.frame.specs.Layout.{systemOf}
 use Rattle.record_fields.specs.Coding.{entryIn, frameWith, Each}
 use Rattle.record_fields.specs.Tables.{row}
-use Rattle.record_fields.proofs.Round.{Faithful, Fine}
+use Rattle.record_fields.proofs.Faithful.{Faithful, Fine}
 use Rattle.record_fields.proofs.TableRound.{Below, placesFrom, numbersOf, codesWithin, tables-faithful, tables-left}
 use Rattle.record_fields.proofs.TableLaws.{row-fine, row-told}
 use Rattle.record_fields.proofs.SatelliteLaws.{satellite-back}

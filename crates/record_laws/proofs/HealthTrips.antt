@@ -19,7 +19,7 @@ use Rattle.frame.specs.Layout.{systemOf}
 use Rattle.frame.proofs.WidthLaws.{both-false}
 use Rattle.record_fields.specs.Coding.{frameWith}
 use Rattle.record_fields.specs.Tables.{row}
-use Rattle.record_fields.proofs.Round.{Faithful, Fine}
+use Rattle.record_fields.proofs.Faithful.{Faithful, Fine}
 use Rattle.record_fields.proofs.TableRound.{Below, placesFrom, numbersOf, tables-faithful, tables-left}
 use Rattle.record_fields.proofs.TableLaws.{row-fine, row-told}
 use Rattle.record_fields.proofs.SatelliteLaws.{satellite-back}

@@ -1,10 +1,14 @@
 pub mod SentLaws
 pub mod PairLaws
 pub mod ListTrips
+pub mod HeadedTrips
 pub mod CorrectionTrips
 pub mod HealthTrips
 pub mod PositionTrips
 pub mod NullTrips
+pub mod ObservationLaws
+pub mod ObservationTrips
+pub mod ObservationAgain
 pub mod TextLaws
 pub mod TextHeld
 pub mod TextTrips

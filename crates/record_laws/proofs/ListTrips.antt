@@ -4,6 +4,7 @@ use mathlib.Core.Path.{_≡_, refl, sym, ap, subst, _∙_}
 use mathlib.Core.Bool.{Bool, false}
 use mathlib.Core.List.{List, [], _∷_, map}
 use Prim.Native.Nat.{ℕ, zero, suc, _+_, _*_, _/_, _≤_, _<_}
+use native.Mathlib.Nat.{zero-add}
 use native.Mathlib.Omega.{arith}
 use lib.ListN.{length, take, drop, getD, length-take, drop-of-length-le}
 use lib.Seq.{getD-take}
@@ -23,11 +24,12 @@ use Rattle.frame.specs.declared.Layout.{Layout}
 use Rattle.frame.proofs.FrameLaws.{header-within, n-within, length-data as length-data-words}
 use Rattle.frame.proofs.WidthLaws.{both-false}
 use Rattle.record_fields.specs.Coding.{Coding, frameBits, entryIn, frameWith, Each}
-use Rattle.record_fields.proofs.Round.{Faithful, Fine, made-n, made-inside, made-fill, made-entry, entries-read, made-again}
+use Rattle.record_fields.proofs.Round.{made-n, made-inside, made-fill, made-entry, entries-read, made-again}
+use Rattle.record_fields.proofs.Faithful.{Faithful, Fine}
 use Rattle.record_stages.specs.declared.Count.the-variants as count
 use Rattle.record_stages.specs.Stages.{wrongCount, otherLayout, entriesHeld, misfit, readOrder, entryOrder, makeOrder, refusedMade, doneMade}
 use Rattle.record_stages.specs.Lists.{listCount, listRanged, listMade, heldTo, MadeReads, Sendable, Holding, ListRead}
-use Rattle.record_stages.proofs.ListCode.{fitting, some-few}
+use Rattle.record_stages.proofs.ListCode.{fitting-after, some-few}
 use Rattle.record_stages.proofs.StageLaws.{last-fine, done-frame, of-apart, of-inj}
 use Rattle.record_laws.proofs.SentLaws.{frame-for, none-taken, list-made, list-told, list-read}
 
@@ -63,7 +65,10 @@ count-read asked k f c e = record { inside = t .0 .0; same = t .0 .1 .0; hour = 
     held = of-inj (entriesHeld w (f .n)) c (t .1)
 
     fit : (0 < c) × ((c * w + 23) / 24 ≡ f .n)
-    fit = let s = fitting w (f .n) (t .0 .1 .1 .1 .0) in subst (λ m. (0 < m) × ((m * w + 23) / 24 ≡ f .n)) held (s .some, s .up)
+    fit =
+        let s = fitting-after 0 w (f .n) (t .0 .1 .1 .1 .0) in
+        subst (λ m. (0 < m) × ((m * w + 23) / 24 ≡ f .n)) held
+        (s .some, sym (ap (λ m. (m + 23) / 24) (zero-add (entriesHeld w (f .n) * w))) ∙ s .up)
 
 -- and what is read held a list
 pub list-held : {A : Type 0} (asked : Layout) (k : Coding A) (most : ℕ) → ((n : ℕ) → n ≤ 31 → entriesHeld (span (k .widths)) n ≤ most)
@@ -104,7 +109,7 @@ no-fill asked k pattern f c full n whole = none ∙ sym (ap (λ l. take (length 
         ))
 
 -- entries of their types that no check refuses
-each-fine : {A : Type 0} (out : A → Bool) (Typed : A → Type 0) (es : List A) → Each Typed es → anyOf out es ≡ false → Each (Fine Typed out) es
+pub each-fine : {A : Type 0} (out : A → Bool) (Typed : A → Type 0) (es : List A) → Each Typed es → anyOf out es ≡ false → Each (Fine Typed out) es
 each-fine out Typed [] t e = tt
 each-fine out Typed (x ∷ es) t e =
     let s = both-false (out x) (anyOf out es) e in ((t .0, s .0), each-fine out Typed es (t .1) (s .1))

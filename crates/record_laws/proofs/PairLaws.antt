@@ -13,6 +13,8 @@ use Rattle.record_corrections.specs.Corrections.{countCorrections, correctionAt
 use Rattle.record_healths.specs.Healths.{countHealths, healthAt}
 use Rattle.record_positions.specs.Positions.{readPosition}
 use Rattle.record_nulls.specs.Nulls.{readNull}
+use Rattle.record_observations.specs.declared.Edition.{Edition}
+use Rattle.record_observations.specs.Observations.{countObservations, readEpoch, observationAt}
 use Rattle.record_texts.specs.Texts.{readText, bufferAfter}
 
 module _ (k : Carried) (f : Frame) (p : pairOutside k ≡ false) (o : outside f ≡ false) where
@@ -50,3 +52,15 @@ module _ (k : Carried) (f : Frame) (p : pairOutside k ≡ false) (o : outside f 
   pub text-left : (buffer : List ℕ) → bufferAfter (afterPair k f) buffer ≡ bufferAfter f buffer
   unfolding bufferAfter frameBits afterPair
   text-left buffer = rw same
+
+  pub observations-count : countObservations (afterPair k f) ≡ countObservations f
+  unfolding countObservations afterPair
+  observations-count = rw same
+
+  pub epoch-same : readEpoch (afterPair k f) ≡ readEpoch f
+  unfolding readEpoch frameBits afterPair
+  epoch-same = rw same
+
+  pub observation-entry : (e : Edition) (i : ℕ) → observationAt e (afterPair k f) i ≡ observationAt e f i
+  unfolding observationAt frameBits afterPair
+  observation-entry e i = rw same

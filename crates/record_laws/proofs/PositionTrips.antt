@@ -27,7 +27,8 @@ use Rattle.frame.proofs.FrameLaws.{header-within, length-data as length-data-wo
 use Rattle.frame.proofs.WidthLaws.{both-false}
 use Rattle.record_fields.specs.Coding.{frameBits, frameWith}
 use Rattle.record_fields.proofs.TableRound.{fit-below, fit-places}
-use Rattle.record_fields.proofs.Round.{Faithful, made-n, made-inside, made-entry, made-again}
+use Rattle.record_fields.proofs.Round.{made-n, made-inside, made-entry, made-again}
+use Rattle.record_fields.proofs.Faithful.{Faithful}
 use Rattle.record_stages.specs.Stages.{wrongSize, readOrder, makeOrder, refusedMade, doneMade, IsMade}
 use Rattle.record_stages.proofs.StageLaws.{done-apart, done-frame}
 use Rattle.record_positions.specs.declared.Position.{Position}

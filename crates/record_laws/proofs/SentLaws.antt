@@ -4,6 +4,7 @@ use mathlib.Core.Path.{_≡_, refl, sym, ap, subst, _∙_}
 use mathlib.Core.Bool.{Bool, false}
 use mathlib.Core.List.{List, [], _∷_}
 use Prim.Native.Nat.{ℕ, zero, suc, _+_, _*_, _/_, _≤_, _<_}
+use native.Mathlib.Nat.{zero-add}
 use native.Mathlib.Omega.{arith}
 use lib.Dec.{leb, eqb}
 use lib.ListN.{length, take, getD, length-take}
@@ -134,4 +135,6 @@ module _ {A B : Type 0} (asked : Layout) (k : Coding A) (most : ℕ) (reads : A 
       is = ap (entriesHeld w) (s .n) ∙ held c (s .some) (s .few)
 
       fits : misfit w (f .n) ≡ false
-      fits = count-right w (f .n) (n-within f (s .frame .inside)) (λ z. omega (arith, is, z, s .some)) (ap (λ m. (m * w + 23) / 24) is ∙ sym (s .n))
+      fits =
+          count-right 0 w (f .n) (n-within f (s .frame .inside)) (λ z. omega (arith, is, z, s .some))
+          (ap (λ m. (m + 23) / 24) (zero-add (entriesHeld w (f .n) * w)) ∙ ap (λ m. (m * w + 23) / 24) is ∙ sym (s .n))

@@ -15,7 +15,7 @@ use Rattle.frame.specs.declared.System.{System}
 use Rattle.frame.specs.declared.System.the-variants.{Gps, Glonass}
 use Rattle.frame.proofs.WidthLaws.{both-false}
 use Rattle.record_fields.specs.Coding.{rowsOf, Each}
-use Rattle.record_fields.proofs.Round.{Faithful}
+use Rattle.record_fields.proofs.Faithful.{Faithful}
 use Rattle.record_fields.proofs.TableRound.{fit-places}
 use Rattle.record_texts.specs.Texts.{widths, coding, fill, lastCode, forbidden}
 

@@ -17,7 +17,8 @@ use Rattle.frame.specs.declared.Frame.{Frame}
 use Rattle.frame.specs.declared.Layout.the-variants as layout
 use Rattle.frame.specs.Layout.{systemOf}
 use Rattle.record_fields.specs.Coding.{frameBits, entryIn, rowsOf, entryBits, frameWith}
-use Rattle.record_fields.proofs.Round.{fill-left, length-entries, made-bits, made-n, made-inside, made-fill, made-entry}
+use Rattle.record_fields.proofs.Faithful.{fill-left, length-entries}
+use Rattle.record_fields.proofs.Round.{made-bits, made-n, made-inside, made-fill, made-entry}
 use Rattle.record_stages.specs.Stages.{wrongCount, makeOrder, refusedMade, doneMade, IsMade}
 use Rattle.record_stages.proofs.StageLaws.{done-apart, done-frame}
 use Rattle.record_stages.proofs.ListCode.{some-few, told-some-few}

@@ -17,7 +17,7 @@ use Rattle.frame.specs.declared.Header.{Header}
 use Rattle.frame.specs.declared.Frame.{Frame}
 use Rattle.frame.specs.declared.State.the-variants.{Factor}
 use Rattle.record_fields.specs.Coding.{frameBits, entryBits, frameWith}
-use Rattle.record_stages.specs.Stages.{layoutNumber, otherLayout, misfit, refusedMade, doneMade, saysCount, saysMade}
+use Rattle.record_stages.specs.Stages.{layoutNumber, otherLayout, misfitAfter, refusedMade, doneMade, saysCount, saysMade}
 use Rattle.record_corrections.specs.declared.Issue.the-variants.{Iod, Age}
 use Rattle.record_corrections.specs.declared.Correction.{Correction}
 use Rattle.record_corrections.specs.Issues.{issueOf, issueFirst, issueOthers, lastMost}
@@ -55,12 +55,12 @@ correction-9-made = refl
 
 pub correction-1-count : saysCount (countCorrections (correctionFrame 1)) ≡ answers 1
 unfolding factors stateOutside numbersOutside headerOutside layoutOf layoutNumber otherLayout
-    framed outside pairOutside frameBits dataBits misfit systemOf countCorrections
+    framed outside pairOutside frameBits dataBits misfitAfter systemOf countCorrections
 correction-1-count = refl
 
 pub correction-1-read : saysCorrectionRead (correctionAt (correctionFrame 1) 0) ≡ answers correction
 unfolding factors stateOutside numbersOutside headerOutside layoutOf layoutNumber otherLayout
-    framed outside pairOutside frameBits dataBits bits number signed code misfit systemOf issueOf issueFirst issueOthers lastMost correctionAt
+    framed outside pairOutside frameBits dataBits bits number signed code misfitAfter systemOf issueOf issueFirst issueOthers lastMost correctionAt
 correction-1-read = refl
 
 -- ---- type 31: every field at its least, change 0 and tb 0
@@ -78,7 +78,7 @@ correction-31-made = refl
 
 pub correction-31-read : saysCorrectionRead (correctionAt oldestFrame 0) ≡ answers oldest
 unfolding factors stateOutside numbersOutside headerOutside layoutOf layoutNumber otherLayout
-    framed outside pairOutside frameBits dataBits bits number signed code misfit systemOf issueOf issueFirst issueOthers lastMost correctionAt
+    framed outside pairOutside frameBits dataBits bits number signed code misfitAfter systemOf issueOf issueFirst issueOthers lastMost correctionAt
 correction-31-read = refl
 
 -- ---- type 3: X 123456789, Y -987654321, Z 2147483647
@@ -117,17 +117,17 @@ health-5-made = refl
 
 pub health-5-count : saysCount (countHealths healthFrame) ≡ answers 2
 unfolding factors stateOutside numbersOutside headerOutside layoutOf layoutNumber otherLayout
-    framed outside pairOutside frameBits dataBits misfit systemOf countHealths
+    framed outside pairOutside frameBits dataBits misfitAfter systemOf countHealths
 health-5-count = refl
 
 pub health-5-read-0 : saysHealthRead (healthAt healthFrame 0) ≡ answers highest
 unfolding factors stateOutside numbersOutside headerOutside layoutOf layoutNumber otherLayout
-    framed outside pairOutside frameBits dataBits bits number misfit systemOf conditionOf healthAt
+    framed outside pairOutside frameBits dataBits bits number misfitAfter systemOf conditionOf healthAt
 health-5-read-0 = refl
 
 pub health-5-read-1 : saysHealthRead (healthAt healthFrame 1) ≡ answers plainer
 unfolding factors stateOutside numbersOutside headerOutside layoutOf layoutNumber otherLayout
-    framed outside pairOutside frameBits dataBits bits number misfit systemOf conditionOf healthAt
+    framed outside pairOutside frameBits dataBits bits number misfitAfter systemOf conditionOf healthAt
 health-5-read-1 = refl
 
 -- ---- type 6: no data word

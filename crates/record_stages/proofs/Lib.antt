@@ -1,3 +1,4 @@
 pub mod StageLaws
 pub mod ListCode
 pub mod ListLaws
+pub mod HeadLaws

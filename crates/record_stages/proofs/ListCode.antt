@@ -3,57 +3,63 @@
 use mathlib.Core.Path.{_≡_, refl, ap, _∙_}
 use mathlib.Core.Bool.{true, false, not, _||_}
 use mathlib.Core.List.{[], _∷_}
-use Prim.Native.Nat.{ℕ, zero, suc, _+_, _*_, _/_, _≤_, _<_}
-use native.Mathlib.Nat.{div-zero, div-mul-le-self}
+use Prim.Native.Nat.{ℕ, zero, suc, _+_, _*_, _-_, _/_, _≤_, _<_}
+use native.Mathlib.Nat.{div-zero, zero-div, div-mul-le-self}
 use native.Mathlib.Omega.{arith}
 use lib.Dec.{ltb, eqb}
 use borrow.Author.Tests.{lt-ltb, le-ltb, eq-eqb, ne-eqb, eqb-true, eqb-false, ltb-false, not-false}
 use Rattle.answer.specs.Order.{inOrder}
 use Rattle.frame.proofs.WidthLaws.{both-false}
-use Rattle.record_stages.specs.Stages.{entriesHeld, misfit, wrongCount}
+use Rattle.record_stages.specs.Stages.{heldAfter, misfitAfter, wrongCount}
 
--- ---- the entries that N words hold
+-- ---- the entries that N words hold behind a head of h bits
 
-pub held-le : (w n : ℕ) → entriesHeld w n * w ≤ 24 * n
-held-le w n = div-mul-le-self (24 * n) w
+pub held-le : (h w n : ℕ) → heldAfter h w n * w ≤ 24 * n - h
+held-le h w n = div-mul-le-self (24 * n - h) w
 
-pub count-over : (w n : ℕ) → 31 < n → misfit w n ≡ true
-unfolding misfit
-count-over w n h = rw (lt-ltb 31 n h)
+pub count-over : (h w n : ℕ) → 31 < n → misfitAfter h w n ≡ true
+unfolding misfitAfter
+count-over h w n l = rw (lt-ltb 31 n l)
 
-pub count-none : (w n : ℕ) → n ≤ 31 → entriesHeld w n ≡ 0 → misfit w n ≡ true
-unfolding misfit
-count-none w n h e = rw (le-ltb 31 n h, eq-eqb (entriesHeld w n) 0 e)
+pub count-none : (h w n : ℕ) → n ≤ 31 → heldAfter h w n ≡ 0 → misfitAfter h w n ≡ true
+unfolding misfitAfter
+count-none h w n l e = rw (le-ltb 31 n l, eq-eqb (heldAfter h w n) 0 e)
 
--- bits of no width are no entry
-pub count-nothing : (w n : ℕ) → n ≤ 31 → w ≡ 0 → misfit w n ≡ true
-count-nothing w n h e = count-none w n h (ap (λ v. entriesHeld v n) e ∙ div-zero (24 * n))
+-- bits of no width are no entry, and behind a head that N words don't hold there is none
+pub count-nothing : (h w n : ℕ) → n ≤ 31 → w ≡ 0 → misfitAfter h w n ≡ true
+count-nothing h w n l e = count-none h w n l (ap (λ v. heldAfter h v n) e ∙ div-zero (24 * n - h))
 
-pub count-wrong : (w n : ℕ) → n ≤ 31 → (entriesHeld w n ≡ 0 → ⊥) → ((entriesHeld w n * w + 23) / 24 ≡ n → ⊥) → misfit w n ≡ true
-unfolding misfit
-count-wrong w n h a b = rw (le-ltb 31 n h, ne-eqb (entriesHeld w n) 0 a, ne-eqb ((entriesHeld w n * w + 23) / 24) n b)
+pub count-headless : (h w n : ℕ) → n ≤ 31 → 24 * n < h → misfitAfter h w n ≡ true
+count-headless h w n l s = count-none h w n l (ap (λ m. m / w) (sub-eq-zero (24 * n) h s) ∙ zero-div w)
+  where
+    sub-eq-zero : (a b : ℕ) → a < b → a - b ≡ 0
+    sub-eq-zero a b s = omega arith
 
-pub count-right : (w n : ℕ) → n ≤ 31 → (entriesHeld w n ≡ 0 → ⊥) → (entriesHeld w n * w + 23) / 24 ≡ n → misfit w n ≡ false
-unfolding misfit
-count-right w n h a b = rw (le-ltb 31 n h, ne-eqb (entriesHeld w n) 0 a, eq-eqb ((entriesHeld w n * w + 23) / 24) n b)
+pub count-wrong : (h w n : ℕ) → n ≤ 31 → (heldAfter h w n ≡ 0 → ⊥) → ((h + heldAfter h w n * w + 23) / 24 ≡ n → ⊥) → misfitAfter h w n ≡ true
+unfolding misfitAfter
+count-wrong h w n l a b = rw (le-ltb 31 n l, ne-eqb (heldAfter h w n) 0 a, ne-eqb ((h + heldAfter h w n * w + 23) / 24) n b)
+
+pub count-right : (h w n : ℕ) → n ≤ 31 → (heldAfter h w n ≡ 0 → ⊥) → (h + heldAfter h w n * w + 23) / 24 ≡ n → misfitAfter h w n ≡ false
+unfolding misfitAfter
+count-right h w n l a b = rw (le-ltb 31 n l, ne-eqb (heldAfter h w n) 0 a, eq-eqb ((h + heldAfter h w n * w + 23) / 24) n b)
 
 positive : (m : ℕ) → (m ≡ 0 → ⊥) → 0 < m
 positive zero h = absurd (h refl)
 positive (suc m) h = omega arith
 
 -- what it means that N fits
-pub record Fitting (w n : ℕ) : Type 0 where
-  pub some : 0 < entriesHeld w n
-  pub up : (entriesHeld w n * w + 23) / 24 ≡ n
+pub record FittingAfter (h w n : ℕ) : Type 0 where
+  pub some : 0 < heldAfter h w n
+  pub up : (h + heldAfter h w n * w + 23) / 24 ≡ n
 
-pub fitting : (w n : ℕ) → misfit w n ≡ false → Fitting w n
-unfolding misfit
-fitting w n e =
-    let s = both-false (ltb 31 n || eqb (entriesHeld w n) 0) (not (eqb ((entriesHeld w n * w + 23) / 24) n)) e in
+pub fitting-after : (h w n : ℕ) → misfitAfter h w n ≡ false → FittingAfter h w n
+unfolding misfitAfter
+fitting-after h w n e =
+    let s = both-false (ltb 31 n || eqb (heldAfter h w n) 0) (not (eqb ((h + heldAfter h w n * w + 23) / 24) n)) e in
     record {
-      some = positive (entriesHeld w n) (eqb-false (entriesHeld w n) 0 (both-false (ltb 31 n) (eqb (entriesHeld w n) 0) (s .0) .1));
+      some = positive (heldAfter h w n) (eqb-false (heldAfter h w n) 0 (both-false (ltb 31 n) (eqb (heldAfter h w n) 0) (s .0) .1));
       up = eqb-true _ n
-          (not-false (eqb ((entriesHeld w n * w + 23) / 24) n) (s .1));
+          (not-false (eqb ((h + heldAfter h w n * w + 23) / 24) n) (s .1));
     }
 
 -- ---- the last checks

@@ -3,7 +3,7 @@
 use mathlib.Core.Path.{_≡_}
 use mathlib.Core.Bool.{Bool, false, not, _||_, _&&_, cond}
 use mathlib.Core.List.{List, [], _∷_}
-use Prim.Native.Nat.{ℕ, _+_, _*_, _/_, _<_}
+use Prim.Native.Nat.{ℕ, _+_, _*_, _-_, _/_, _<_}
 use lib.Dec.{ltb, leb, eqb}
 use Rattle.answer.specs.Order.{Says, refuses, answers, Check, inOrder}
 use Rattle.frame.specs.Frames.{builtOf, blank}
@@ -47,6 +47,7 @@ layoutNumber layout.Null = 3
 layoutNumber layout.Text = 4
 layoutNumber layout.Plain = 5
 layoutNumber layout.CorrectionOrNull = 6
+layoutNumber layout.Observation = 7
 
 abbrev pub sameLayout : Layout → Layout → Bool
 sameLayout a b = eqb (layoutNumber a) (layoutNumber b)
@@ -64,17 +65,23 @@ otherLayout asked kind = not (isOf (layoutOf kind) asked)
 abbrev pub askedOf : Layout → ℕ → Asked
 askedOf asked kind = cond (otherLayout asked kind) Other Same
 
--- ---- refusal 8 of a list: N words, at most 31, hold c entries of w bits, one or more, exactly when these bits take N words
--- of 24, rounded up
+-- ---- refusal 8 of a list: N words, at most 31, hold a head of h bits and c entries of w bits, one or more, exactly when these bits
+-- take N words of 24, rounded up. Most lists have no head, and h is 0
+
+abbrev pub heldAfter : ℕ → ℕ → ℕ → ℕ
+heldAfter h w n = (24 * n - h) / w
+
+unfoldable pub misfitAfter : ℕ → ℕ → ℕ → Bool
+misfitAfter h w n = ltb 31 n || eqb (heldAfter h w n) 0 || not (eqb ((h + heldAfter h w n * w + 23) / 24) n)
+
+abbrev pub entriesIn : ℕ → ℕ → ℕ → Counted
+entriesIn h w n = cond (misfitAfter h w n) Misfit (Entries (heldAfter h w n))
 
 abbrev pub entriesHeld : ℕ → ℕ → ℕ
-entriesHeld w n = 24 * n / w
+entriesHeld w n = heldAfter 0 w n
 
-unfoldable pub misfit : ℕ → ℕ → Bool
-misfit w n = ltb 31 n || eqb (entriesHeld w n) 0 || not (eqb ((entriesHeld w n * w + 23) / 24) n)
-
-abbrev pub entriesIn : ℕ → ℕ → Counted
-entriesIn w n = cond (misfit w n) Misfit (Entries (entriesHeld w n))
+abbrev pub misfit : ℕ → ℕ → Bool
+misfit w n = misfitAfter 0 w n
 
 -- ---- refusal 8 of a type with one N
 
@@ -100,17 +107,23 @@ rangedOf out = cond out Outside Inside
 abbrev pub readOrder : Layout → Frame → Bool → List Check → List Check
 readOrder asked f wrongN more = (outside f, 5) ∷ (otherLayout asked (f .header .kind), 6) ∷ (late (f .header .z), 7) ∷ (wrongN, 8) ∷ more
 
--- how many entries of w bits a frame of a layout has: 5, 6, 7, 8
+-- how many entries of w bits a frame of a layout has, behind a head of h bits: 5, 6, 7, 8
+abbrev pub countAfter : Layout → ℕ → ℕ → Frame → Count
+countAfter asked h w f = inOrder (readOrder asked f (misfitAfter h w (f .n)) []) count.Refused (count.Of (heldAfter h w (f .n)))
+
 abbrev pub countIn : Layout → ℕ → Frame → Count
-countIn asked w f = inOrder (readOrder asked f (misfit w (f .n)) []) count.Refused (count.Of (entriesHeld w (f .n)))
+countIn asked w f = countAfter asked 0 w f
 
--- reading entry number i of a list, w bits an entry: 5, 6, 7, 8, 9, then the layout's own
+-- reading entry number i of a list, w bits an entry, behind a head of h bits: 5, 6, 7, 8, 9, then the layout's own
+abbrev pub headedOrder : Layout → ℕ → ℕ → Frame → ℕ → List Check → List Check
+headedOrder asked h w f i more = readOrder asked f (misfitAfter h w (f .n)) ((leb (heldAfter h w (f .n)) i, 9) ∷ more)
+
 abbrev pub entryOrder : Layout → ℕ → Frame → ℕ → List Check → List Check
-entryOrder asked w f i more = readOrder asked f (misfit w (f .n)) ((leb (entriesHeld w (f .n)) i, 9) ∷ more)
+entryOrder asked w f i more = headedOrder asked 0 w f i more
 
--- where entry number i of w bits starts in a frame of a layout: 5, 6, 7, 8, 9
-abbrev pub placeBy : Layout → ℕ → Frame → ℕ → Place
-placeBy asked w f i = inOrder (entryOrder asked w f i []) place.Refused (place.At (i * w))
+-- where entry number i of w bits starts in a frame of a layout, behind a head of h bits: 5, 6, 7, 8, 9
+abbrev pub placeAfter : Layout → ℕ → ℕ → Frame → ℕ → Place
+placeAfter asked h w f i = inOrder (headedOrder asked h w f i []) place.Refused (place.At (h + i * w))
 
 -- MAKING: 5, 6, 7, then the layout's own
 abbrev pub makeOrder : Layout → Header → List Check → List Check

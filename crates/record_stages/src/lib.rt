@@ -2,7 +2,7 @@
 mod checks;
 
 ghost use mathlib.Core.Path.{_≡_};
-ghost use Rattle.record_stages.specs.Stages.{layoutNumber, askedOf, entriesIn, indexOf, countIn, placeBy, sizeOf};
+ghost use Rattle.record_stages.specs.Stages.{layoutNumber, askedOf, entriesIn, indexOf, countAfter, placeAfter, sizeOf};
 ghost use Rattle.record_stages.specs.Stages.{refusedMade, madeBy};
 use crate::checks::Suited;
 use crate::checks::entry_refusal;
@@ -80,6 +80,7 @@ fn layout_number(layout: Layout) -> u8
         Layout::Text => 4,
         Layout::Plain => 5,
         Layout::CorrectionOrNull => 6,
+        Layout::Observation => 7,
     }
 }
 
@@ -105,29 +106,32 @@ pub fn asked_of(layout: Layout, kind: u8) -> Asked
     Asked::Other
 }
 
-// How many entries of `width` bits N words hold, where N is what they take and at most 31.
-fn entries_in(width: usize, n: usize) -> Counted
-    ensures { λ r. ⌜ r ≡ entriesIn width n ⌝ }
+// How many entries of `width` bits N words hold behind a head of `head` bits, where N is what they take and at most 31.
+fn entries_in(head: usize, width: usize, n: usize) -> Counted
+    ensures { λ r. ⌜ r ≡ entriesIn head width n ⌝ }
 {
     if n > 31 {
+        return Counted::Misfit;
+    }
+    if head > 24 * n {
         return Counted::Misfit;
     }
     if width == 0 {
         return Counted::Misfit;
     }
-    let count = 24 * n / width;
+    let count = (24 * n - head) / width;
     if count == 0 {
         return Counted::Misfit;
     }
-    if (count * width + 23) / 24 != n {
+    if (head + count * width + 23) / 24 != n {
         return Counted::Misfit;
     }
     Counted::Entries(count)
 }
 
-// How many entries of `width` bits a frame of a layout has: 5, 6, 7, 8.
-pub fn count_in(layout: Layout, width: usize, frame: Frame) -> Count
-    ensures { λ r. ⌜ r ≡ countIn layout width frame ⌝ }
+// How many entries of `width` bits a frame of a layout has behind a head of `head` bits: 5, 6, 7, 8.
+pub fn count_in(layout: Layout, head: usize, width: usize, frame: Frame) -> Count
+    ensures { λ r. ⌜ r ≡ countAfter layout head width frame ⌝ }
 {
     let Widths::Within = frame::frame_widths(frame) else {
         return Count::Refused(5);
@@ -139,7 +143,7 @@ pub fn count_in(layout: Layout, width: usize, frame: Frame) -> Count
     let Clock::Hour = frame::clock_of(header.z) else {
         return Count::Refused(7);
     };
-    let Counted::Entries(count) = entries_in(width, frame.n) else {
+    let Counted::Entries(count) = entries_in(head, width, frame.n) else {
         return Count::Refused(8);
     };
     Count::Of(count)
@@ -155,9 +159,9 @@ fn index_of(count: usize, index: usize) -> Indexed
     Indexed::Below
 }
 
-// Where entry number `index` of `width` bits starts in a frame of a layout: 5, 6, 7, 8, 9.
-pub fn entry_place(layout: Layout, width: usize, frame: Frame, index: usize) -> Place
-    ensures { λ r. ⌜ r ≡ placeBy layout width frame index ⌝ }
+// Where entry number `index` of `width` bits starts in a frame of a layout, behind a head of `head` bits: 5, 6, 7, 8, 9.
+pub fn entry_place(layout: Layout, head: usize, width: usize, frame: Frame, index: usize) -> Place
+    ensures { λ r. ⌜ r ≡ placeAfter layout head width frame index ⌝ }
 {
     let Widths::Within = frame::frame_widths(frame) else {
         return Place::Refused(5);
@@ -169,13 +173,13 @@ pub fn entry_place(layout: Layout, width: usize, frame: Frame, index: usize) -> 
     let Clock::Hour = frame::clock_of(header.z) else {
         return Place::Refused(7);
     };
-    let Counted::Entries(count) = entries_in(width, frame.n) else {
+    let Counted::Entries(count) = entries_in(head, width, frame.n) else {
         return Place::Refused(8);
     };
     let Indexed::Below = index_of(count, index) else {
         return Place::Refused(9);
     };
-    Place::At((index * width) as u32)
+    Place::At((head + index * width) as u32)
 }
 
 // Whether N is the one that the type has.

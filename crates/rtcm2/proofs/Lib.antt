@@ -7,6 +7,7 @@ pub mod LineLaws
 pub mod LineOrders
 pub mod LineTaking
 pub mod MakeOrders
+pub mod ObservationOrders
 pub mod NumberLaws
 pub mod Orders
 pub mod PositionLaws

@@ -84,7 +84,7 @@ module _ (kind station z sequence code : ℕ) (buffer : List ℕ) where
   module _ (asked : Layout) (more : List Check) (made : Frame) (make : Header → Made)
       (is : make H ≡ inOrder (makeOrder asked H more) refusedMade (doneMade made))
       (within : NoneApplies (makeOrder asked H more) → outside made ≡ false) where
-    make-order : keptTo (andThen (headed kind station z sequence code) (λ h. saysMade (make h))) buffer
+    pub make-order : keptTo (andThen (headed kind station z sequence code) (λ h. saysMade (make h))) buffer
         ≡ inOrder (madeOrder kind station z sequence code asked more made buffer) refuses (answers (3 * made .n + 9))
     unfolding refusedMade doneMade
     make-order =

@@ -81,14 +81,14 @@ module _ (bs : List ℕ) (fits : AreBytes bs) where
 module _ (bs : List ℕ) (fits : AreBytes bs) (asked : Layout) (wrongN : Bool) (more : List Check) {A B : Type 0}
     (says : B → Says A) (refuse : ℕ → B) (refusal : (n : ℕ) → says (refuse n) ≡ refuses n) (read : Frame → B) (answer : B) {value : A}
     (ready : says answer ≡ answers value) (is : read (frameFrom bs) ≡ inOrder (readOrder asked (frameFrom bs) wrongN more) refuse answer) where
-  record-order : andThen (frameSaid bs) (λ f. says (read f))
+  pub record-order : andThen (frameSaid bs) (λ f. says (read f))
       ≡ inOrder (recallOrder bs ++ recordChecks asked (frameFrom bs) wrongN more) refuses (answers value)
   record-order =
       read-order bs fits (λ f. says (read f)) [] (recordChecks asked (frameFrom bs) wrongN more) value
       (ap says is ∙ says-order says refuse refusal answer (readOrder asked (frameFrom bs) wrongN more) ready)
 
 -- a row after an order: its own 13 comes last
-row-order : {A : Type 0} (k : Coding A) (cs : List Check) (e : A) (lent : List ℕ)
+pub row-order : {A : Type 0} (k : Coding A) (cs : List Check) (e : A) (lent : List ℕ)
     → rowTo k (inOrder cs refuses (answers e)) lent ≡ inOrder (cs ++ ((ltb (length lent) (rowSize k), 13) ∷ [])) refuses (answers tt)
 row-order k cs e lent =
     order-map (λ s. rowTo k s lent) cs refuses (answers e)

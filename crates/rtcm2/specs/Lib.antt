@@ -13,4 +13,5 @@ pub mod Mending
 pub mod Rows
 pub mod Corrections
 pub mod Healths
+pub mod Observations
 pub mod Orders

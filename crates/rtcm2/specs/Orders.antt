@@ -1,5 +1,5 @@
 -- The refusals of each call in the order that include/rtcm2.h gives: whether each applies, and its number. Assumes nothing.
-use mathlib.Core.Bool.{Bool, not}
+use mathlib.Core.Bool.{Bool, not, _||_}
 use mathlib.Core.List.{List, [], _∷_, _++_}
 use Prim.Native.Nat.{ℕ, _+_, _*_, _/_, _%_}
 use lib.Dec.{ltb, leb, eqb}
@@ -21,13 +21,18 @@ use Rattle.journal.specs.Forms.{wordsAfter}
 use Rattle.journal.specs.Journal.{recallOrder}
 use Rattle.journal.specs.Words.{pairNumbered, carriedIn, dataIn, recallWordsOrder}
 use Rattle.writer.specs.Sending.{lineLength}
-use Rattle.record_fields.specs.Coding.{Coding, frameBits, entryIn, frameWith}
-use Rattle.record_stages.specs.Stages.{wrongCount, otherLayout, entriesHeld, misfit, wrongSize, makeOrder}
+use Rattle.record_fields.specs.Coding.{Coding, frameBits, entryIn, frameWith, frameAfter}
+use Rattle.record_stages.specs.Stages.{wrongCount, otherLayout, heldAfter, misfitAfter, entriesHeld, misfit, wrongSize, makeOrder}
 use Rattle.record_corrections.specs.Corrections as correction
 use Rattle.record_healths.specs.Healths as health
 use Rattle.record_positions.specs.Positions as position
 use Rattle.record_nulls.specs.Nulls as null
 use Rattle.record_texts.specs.Texts as text
+use Rattle.record_observations.specs.Observations as observation
+use Rattle.record_observations.specs.Editions.{quantityOf}
+use Rattle.record_observations.specs.declared.Edition.{Edition}
+use Rattle.record_observations.specs.declared.Epoch.{Epoch}
+use Rattle.record_observations.specs.declared.Observation.{Observation}
 use Rattle.record_corrections.specs.declared.Correction.{Correction}
 use Rattle.record_healths.specs.declared.SatelliteHealth.{SatelliteHealth}
 use Rattle.record_positions.specs.declared.Position.{Position}
@@ -36,6 +41,8 @@ use Rattle.rtcm2_rows.specs.Rows.{rowSize, countOf, entriesFrom}
 use Rattle.rtcm2_rows.specs.Corrections as correction-bytes
 use Rattle.rtcm2_rows.specs.Healths as health-bytes
 use Rattle.rtcm2.specs.Send.{pairOf}
+use Rattle.rtcm2_rows.specs.Observations as observation-bytes
+use Rattle.rtcm2.specs.Observations.{editionNamed}
 
 -- ---- reading the line
 
@@ -113,6 +120,32 @@ correctionChecks bs i = (correction.outOfRange (systemFrom bs) (correctionIn bs 
 abbrev pub healthIn : List ℕ → ℕ → SatelliteHealth
 healthIn bs i = entryIn (health.coding (systemFrom bs)) i (frameBits (frameFrom bs))
 
+-- observations have a head of 24 bits, and 48 a satellite: 6, 7, 8, then their own
+abbrev pub observationChecks : Frame → List Check → List Check
+observationChecks f more = recordChecks layout.Observation f (misfitAfter 24 48 (f .n)) more
+
+-- 10 for the time of the head
+abbrev pub lateChecks : Frame → List Check
+lateChecks f = (observation.lateTime (observation.epochIn f), 10) ∷ []
+
+-- their count: then 6, 7, 8; the head: then 6, 7, 8, 10
+abbrev pub observationsCounted : List ℕ → List Check
+observationsCounted bs = recallOrder bs ++ observationChecks (frameFrom bs) []
+
+abbrev pub epochOrder : List ℕ → List Check
+epochOrder bs = recallOrder bs ++ observationChecks (frameFrom bs) (lateChecks (frameFrom bs))
+
+-- a satellite: then 5 for the edition, 6, 7, 8, 9, 10, and 13 for its row
+abbrev pub observationIn : ℕ → List ℕ → ℕ → Observation
+observationIn e bs i = observation.satelliteIn (editionNamed e) (frameFrom bs) i
+
+abbrev pub satelliteChecks : Frame → ℕ → List Check
+satelliteChecks f i = observationChecks f ((leb (heldAfter 24 48 (f .n)) i, 9) ∷ lateChecks f)
+
+abbrev pub observationOrder : ℕ → List ℕ → ℕ → List ℕ → List Check
+observationOrder e bs i lent =
+    (recallOrder bs ++ ((ltb 1 e, 5) ∷ satelliteChecks (frameFrom bs) i)) ++ ((ltb (length lent) (rowSize observation-bytes.row), 13) ∷ [])
+
 -- POSITION: then 6, 7, 8, 10
 abbrev pub positionOrder : List ℕ → List Check
 positionOrder bs =
@@ -178,6 +211,27 @@ module _ (kind station z sequence code : ℕ) where
       madeOrder layout.Health
       (listChecks 31 (health.outOfRange S) (entriesFrom (health-bytes.row S) 31 bs) (countOf (rowSize (health-bytes.row S)) (length bs)))
       (healthsFrame bs) buffer
+
+  -- observations, in an edition: 12, 10
+  module _ (e : ℕ) (a : Epoch) (bs : List ℕ) where
+    abbrev pub observationRows : List Observation
+    observationRows = entriesFrom observation-bytes.row 15 bs
+
+    abbrev pub observationCount : ℕ
+    observationCount = countOf (rowSize observation-bytes.row) (length bs)
+
+    abbrev pub observationsFrame : Frame
+    observationsFrame =
+        frameAfter (observation.epochBits a) 0 (observation.coding (editionNamed e) (quantityOf kind)) H (take observationCount observationRows)
+
+    abbrev pub observationsOwn : List Check
+    observationsOwn =
+        (wrongCount 15 observationCount, 12)
+        ∷ (observation.epochOut a || anyOf (observation.outOfRange (editionNamed e) (quantityOf kind)) (take observationCount observationRows), 10) ∷ []
+
+    -- 5 for the edition comes first
+    abbrev pub observationsOrder : List ℕ → List Check
+    observationsOrder buffer = (ltb 1 e, 5) ∷ madeOrder layout.Observation observationsOwn observationsFrame buffer
 
   -- a position: 10
   abbrev pub positionFrame : Position → Frame

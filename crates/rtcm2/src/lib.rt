@@ -6,6 +6,7 @@ pub mod health;
 pub mod line;
 pub mod mending;
 pub mod null;
+pub mod observation;
 pub mod position;
 mod rows;
 pub mod send;

@@ -24,6 +24,8 @@ use Rattle.record_fields.specs.Coding.{Coding}
 use Rattle.rtcm2_rows.specs.Rows.{putOrder, putBy, saysPut}
 use Rattle.rtcm2_rows.specs.declared.row.Put.the-variants as put
 use Rattle.rtcm2_rows.specs.Corrections as correction
+use Rattle.rtcm2_rows.specs.Observations as observation
+use Rattle.rtcm2.proofs.ObservationOrders as orders
 use Rattle.rtcm2_rows.specs.Healths as health
 use Rattle.rtcm2.specs.Line.{fedIn}
 use Rattle.rtcm2.specs.Orders as in-order
@@ -82,6 +84,12 @@ library-numbers = record {
       ordered (in-order.entryOrder layout.Health 24 (health.row Gps) bs i [] lent) _ (reads.health-row-order bs fits i lent) refl refl;
   make-healths = λ kind station z sequence code bs buffer.
       ordered (in-order.healthsOrder kind station z sequence code bs buffer) _ (makes.healths-made kind station z sequence code buffer bs) refl refl;
+  count-observations = λ bs fits. ordered (in-order.observationsCounted bs) _ (orders.observations-counted bs fits) refl refl;
+  read-epoch = λ bs fits. ordered (in-order.epochOrder bs) _ (orders.epoch-order bs fits) refl refl;
+  observation-at = λ e bs fits i lent. ordered (in-order.observationOrder e bs i lent) _ (orders.observation-row-order bs fits e i lent) refl refl;
+  make-observations = λ kind station z sequence code e f s t bs buffer.
+      ordered (in-order.observationsOrder kind station z sequence code e (record { frequency = f; smoothing = s; time = t }) bs buffer) _
+      (orders.observations-made kind station z sequence code e (record { frequency = f; smoothing = s; time = t }) bs buffer) refl refl;
   read-position = λ bs fits. ordered (in-order.positionOrder bs) _ (reads.position-order bs fits) refl refl;
   make-position = λ kind station z sequence code x y up buffer.
       ordered (in-order.positionMadeOrder kind station z sequence code (record { x = x; y = y; z = up }) buffer) _
@@ -102,6 +110,7 @@ library-numbers = record {
   mend = λ bs at searching report. carries-its-number .mend bs at (isNonzero searching) report;
   put-start = put-stored;
   put-state = λ r bytes. put-stored (r .candidate) bytes;
+  put-observation = put-ordered observation.row;
   put-correction = put-ordered (correction.row Gps);
   put-health = put-ordered (health.row Gps);
 }

@@ -13,6 +13,7 @@ use Rattle.reader.specs.declared.Reader.{Reader}
 use Rattle.record_fields.specs.Coding.{Coding}
 use Rattle.rtcm2_state.specs.State.{storedBy, startPut, statePut, saysStored}
 use Rattle.rtcm2_rows.specs.Corrections as correction
+use Rattle.rtcm2_rows.specs.Observations as observation
 use Rattle.rtcm2_rows.specs.Healths as health
 use Rattle.rtcm2.specs.Header.{headed}
 use Rattle.rtcm2.specs.Frames.{frameSaid, keepSaid, keptTo, heldTo, sizeTo}
@@ -24,6 +25,7 @@ use Rattle.frame.specs.Frames.{afterPair}
 use native.Mathlib.Omega.{arith}
 use Rattle.rtcm2.specs.Rows.{rowTo, rowHeld}
 use Rattle.rtcm2.specs.Corrections as corrections
+use Rattle.rtcm2.specs.Observations as observations
 use Rattle.rtcm2.specs.Healths as healths
 use Rattle.rtcm2.specs.Positions as positions
 use Rattle.rtcm2.specs.Nulls as nulls
@@ -98,6 +100,10 @@ library-keeps = record {
   count-healths = λ frame count n e. rw e;
   health-at = λ frame i. entry-keeps (health.row Gps) (healths.entrySaid (frameSaid frame) i);
   make-healths = λ kind station z sequence code rows. made-keeps (healths.madeSaid (headed kind station z sequence code) rows);
+  count-observations = λ frame count n e. rw e;
+  read-epoch = λ frame f s t. (λ n e. rw e, λ n e. rw e, λ n e. rw e);
+  observation-at = λ e frame i. entry-keeps observation.row (observations.entrySaid e (frameSaid frame) i);
+  make-observations = λ e kind station z sequence code f s t rows. made-keeps (observations.madeSaid e (headed kind station z sequence code) f s t rows);
   read-position = λ frame x y up. (λ n e. rw e, λ n e. rw e, λ n e. rw e);
   make-position = λ kind station z sequence code x y up. made-keeps (positions.makeSaid kind station z sequence code x y up);
   read-null = λ frame m n e. rw e;
@@ -116,6 +122,7 @@ library-keeps = record {
   mend-read = λ bs at searching report read n e. rw e;
   mend-written = λ bs at searching report written n e. rw e;
   remainder = λ window remainder n e. absurd (refuses-apart n _ (sym e));
+  put-observation = λ entry lent. entry-keeps observation.row (answers entry) lent;
   put-correction = λ entry lent. entry-keeps (correction.row Gps) (answers entry) lent;
   put-health = λ entry lent. entry-keeps (health.row Gps) (answers entry) lent;
   put-start = start-keeps;

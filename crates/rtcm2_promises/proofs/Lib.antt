@@ -9,6 +9,8 @@ pub mod Slices
 pub mod Demand3
 pub mod Counters
 pub mod KeptBack
+pub mod Framed
+pub mod ObservationsBack
 pub mod ReadsBack
 pub mod KeptAgain
 pub mod LineBack

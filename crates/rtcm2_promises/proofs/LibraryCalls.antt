@@ -14,6 +14,13 @@ library-calls = record {
   put-start = record { asks-nothing = λ κs a. tt; settles = λ κs a z e p. p .0; leaves = λ κs a z e p. p .1; ends = rtcm2_state.put_start.Met.met };
   put-state = record { asks-nothing = λ κs a. tt; settles = λ κs a z e p. p .0; leaves = λ κs a z e p. p .1; ends = rtcm2_state.put_state.Met.met };
   count-of = record { asks-nothing = λ κs a. tt; settles = λ κs a z e p. p; ends = rtcm2_rows.row.count_of.Met.met };
+  observations-in = record { asks-nothing = λ κs a. tt; settles = λ κs a z e p. p; ends = rtcm2_rows.observation.observations_in.Met.met };
+  put-observation = record {
+    asks-nothing = λ κs a. tt;
+    settles = λ κs a z e p. p .0;
+    leaves = λ κs a z e p. p .1;
+    ends = rtcm2_rows.observation.put_observation.Met.met;
+  };
   corrections-in = record { asks-nothing = λ κs a. tt; settles = λ κs a z e p. p; ends = rtcm2_rows.correction.corrections_in.Met.met };
   put-correction = record {
     asks-nothing = λ κs a. tt;
@@ -92,6 +99,30 @@ library-calls = record {
     settles = λ κs a z e p. p .0;
     leaves = λ κs a z e p. two-places (p .1);
     ends = rtcm2.health.rtcm2_make_healths.Met.met;
+  };
+  count-observations = record {
+    asks-nothing = λ κs a. tt;
+    settles = λ κs a z e p. p .0;
+    leaves = λ κs a z e p. p .1;
+    ends = rtcm2.observation.rtcm2_count_observations.Met.met;
+  };
+  read-epoch = record {
+    asks-nothing = λ κs a. tt;
+    settles = λ κs a z e p. p .0;
+    leaves = λ κs a z e p. three-places (p .1);
+    ends = rtcm2.observation.rtcm2_read_epoch.Met.met;
+  };
+  observation-at = record {
+    asks-nothing = λ κs a. tt;
+    settles = λ κs a z e p. p .0;
+    leaves = λ κs a z e p. p .1;
+    ends = rtcm2.observation.rtcm2_observation_at.Met.met;
+  };
+  make-observations = record {
+    asks-nothing = λ κs a. tt;
+    settles = λ κs a z e p. p .0;
+    leaves = λ κs a z e p. two-places (p .1);
+    ends = rtcm2.observation.rtcm2_make_observations.Met.met;
   };
   read-position = record {
     asks-nothing = λ κs a. tt;

@@ -30,7 +30,7 @@ use Rattle.journal.specs.Journal.{recordOf}
 use Rattle.journal.proofs.ByteLaws.{length-bytes}
 use Rattle.journal.proofs.WordLaws.{written-words}
 use Rattle.record_fields.specs.Coding.{Coding, entryBits, frameWith, Each}
-use Rattle.record_fields.proofs.Round.{Faithful}
+use Rattle.record_fields.proofs.Faithful.{Faithful}
 use Rattle.record_stages.specs.Stages.{wrongCount, makeOrder, refusedMade, doneMade, saysMade}
 use Rattle.record_stages.specs.declared.Made.{Made}
 use Rattle.record_stages.proofs.StageLaws.{done-apart, done-frame}
@@ -64,14 +64,11 @@ use Rattle.promises.proofs.CarriesItsNumber.{carries-its-number, says-inj, none
 use Rattle.promises.proofs.PairBeside.{made-told}
 use Rattle.promises.proofs.Demand2.{reads-back-equal}
 use Rattle.rtcm2_promises.specs.ReadsBack.{GivesBack, RowsBack, LibraryReadsBack}
+use Rattle.rtcm2_promises.proofs.Framed.{framed-by}
 use Rattle.rtcm2_promises.proofs.KeptBack.{gives-back}
+use Rattle.rtcm2_promises.proofs.ObservationsBack.{observations-back}
 
 -- ---- what is made is a frame of its header and words
-
-framed-by : (cs : List Check) (h : Header) (ws : List ℕ) (m : Made) → m ≡ inOrder cs refusedMade (doneMade (framed h ws))
-    → (f : Frame) → saysMade m ≡ answers f → (words : List ℕ) × (framed h words ≡ f)
-framed-by cs h ws m is f e =
-    (ws, done-frame (order-told refusedMade (doneMade (framed h ws)) (doneMade f) (λ n. done-apart n f) cs (sym is ∙ made-told m f e) .1))
 
 module _ (h : Header) where
   corrections-framed : (es : List Correction) (c : ℕ) (f : Frame) → saysMade (correction.makeCorrections h es c) ≡ answers f → (ws : List ℕ) × (framed h ws ≡ f)
@@ -251,6 +248,8 @@ module _ (kind station z sequence code : ℕ) where
           told-some-few c 31 (none-told (carries-its-number .make-healths H es c) f e .1 .1 .1 .0) .1,
           reads-back-equal .healths H es c (entryOf (health-bytes.row s) []) f (length-entries (health-bytes.row s) 31 rows) e,
         ));
+    make-observations = λ e f s t rows b.
+        observations-back kind station z sequence code e (record { frequency = f; smoothing = s; time = t }) rows b;
     make-position = λ x y up typed.
         let p : Position = record { x = x; y = y; z = up } in
         gives-back kind station z sequence code (λ h. saysMade (position.makePosition h p)) _ (position-framed H p)

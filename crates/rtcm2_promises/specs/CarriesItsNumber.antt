@@ -17,6 +17,7 @@ use Rattle.reader.specs.declared.Reader.{Reader}
 use Rattle.rtcm2_state.specs.State.{stateIn, putChecks, storedBy, saysStored}
 use Rattle.rtcm2_rows.specs.Rows.{putOrder, putBy, saysPut}
 use Rattle.rtcm2_rows.specs.Corrections as correction
+use Rattle.rtcm2_rows.specs.Observations as observation
 use Rattle.rtcm2_rows.specs.Healths as health
 use Rattle.rtcm2.specs.Header.{headed}
 use Rattle.rtcm2.specs.Frames.{frameSaid, keptTo, keepSaid, recallSaid}
@@ -25,6 +26,7 @@ use Rattle.rtcm2.specs.Send.{openSaid, writeSaid}
 use Rattle.rtcm2.specs.Words.{wordsKept, liveSaid, backSaid}
 use Rattle.rtcm2.specs.Rows.{rowTo}
 use Rattle.rtcm2.specs.Corrections as corrections
+use Rattle.rtcm2.specs.Observations as observations
 use Rattle.rtcm2.specs.Healths as healths
 use Rattle.rtcm2.specs.Positions as positions
 use Rattle.rtcm2.specs.Nulls as nulls
@@ -88,6 +90,18 @@ pub record LibraryNumbers : Type 0 where
       → Ordered (afterHeader (12 ∷ 10 ∷ 13 ∷ [])) (in-order.healthsOrder kind station z sequence code bs buffer)
       (keptTo (healths.madeSaid (headed kind station z sequence code) bs) buffer)
   -- the station's position
+  pub count-observations : (bs : List ℕ) → AreBytes bs
+      → Ordered (afterRecord (6 ∷ 7 ∷ 8 ∷ [])) (in-order.observationsCounted bs) (observations.countSaid (frameSaid bs))
+  pub read-epoch : (bs : List ℕ) → AreBytes bs
+      → Ordered (afterRecord (6 ∷ 7 ∷ 8 ∷ 10 ∷ [])) (in-order.epochOrder bs) (observations.epochSaid (frameSaid bs))
+  -- 5 for the edition comes behind the record's own, and first of all where a frame is made
+  pub observation-at : (e : ℕ) (bs : List ℕ) → AreBytes bs → (i : ℕ) (lent : List ℕ)
+      → Ordered (afterRecord (5 ∷ 6 ∷ 7 ∷ 8 ∷ 9 ∷ 10 ∷ 13 ∷ [])) (in-order.observationOrder e bs i lent)
+      (rowTo observation.row (observations.entrySaid e (frameSaid bs) i) lent)
+  pub make-observations : (kind station z sequence code e frequency smoothing time : ℕ) (bs buffer : List ℕ)
+      → Ordered (5 ∷ afterHeader (12 ∷ 10 ∷ 13 ∷ []))
+      (in-order.observationsOrder kind station z sequence code e (record { frequency = frequency; smoothing = smoothing; time = time }) bs buffer)
+      (keptTo (observations.madeSaid e (headed kind station z sequence code) frequency smoothing time bs) buffer)
   pub read-position : (bs : List ℕ) → AreBytes bs
       → Ordered (afterRecord (6 ∷ 7 ∷ 8 ∷ 10 ∷ [])) (in-order.positionOrder bs) (positions.positionSaid (frameSaid bs))
   pub make-position : (kind station z sequence code : ℕ) (x y up : ℤ) (buffer : List ℕ)
@@ -118,5 +132,6 @@ pub record LibraryNumbers : Type 0 where
   -- an entry as a row of bytes
   pub put-start : (c : Candidate) (bytes : List ℕ) → Ordered (5 ∷ 13 ∷ []) (putChecks c bytes) (saysStored (storedBy c bytes))
   pub put-state : (r : Reader) (bytes : List ℕ) → Ordered (5 ∷ 13 ∷ []) (putChecks (r .candidate) bytes) (saysStored (storedBy (r .candidate) bytes))
+  pub put-observation : (lent : List ℕ) → Ordered (13 ∷ []) (putOrder observation.row lent) (saysPut (putBy observation.row lent))
   pub put-correction : (lent : List ℕ) → Ordered (13 ∷ []) (putOrder (correction.row Gps) lent) (saysPut (putBy (correction.row Gps) lent))
   pub put-health : (lent : List ℕ) → Ordered (13 ∷ []) (putOrder (health.row Gps) lent) (saysPut (putBy (health.row Gps) lent))

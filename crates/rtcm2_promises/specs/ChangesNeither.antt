@@ -10,12 +10,14 @@ use Rattle.frame.specs.declared.System.the-variants.{Gps}
 use Rattle.reader.specs.declared.Candidate.{Candidate}
 use Rattle.reader.specs.declared.Reader.{Reader}
 use Rattle.record_corrections.specs.declared.Correction.{Correction}
+use Rattle.record_observations.specs.declared.Observation.{Observation}
 use Rattle.record_healths.specs.declared.SatelliteHealth.{SatelliteHealth}
 use Rattle.journal.specs.Journal.{heldBy}
 use Rattle.writer.specs.Answer.{openedTo}
 use Rattle.rtcm2_state.specs.State.{storedBy, startPut, statePut, saysStored}
 use Rattle.rtcm2_rows.specs.Rows.{putBy, rowAfter, saysPut}
 use Rattle.rtcm2_rows.specs.Corrections as entry-corrections
+use Rattle.rtcm2_rows.specs.Observations as entry-observations
 use Rattle.rtcm2_rows.specs.Healths as entry-healths
 use Rattle.rtcm2.specs.Answer.{left}
 use Rattle.rtcm2.specs.Line.{startedIn, countsIn, fedIn, fedAllIn, endedIn, takenIn}
@@ -27,6 +29,7 @@ use Rattle.rtcm2.specs.Frames.{recallSaid, kindSaid, stationSaid, zCountSaid, s
 use Rattle.rtcm2.specs.Rows.{rowTo, rowHeld}
 use Rattle.rtcm2.specs.Header.{headed}
 use Rattle.rtcm2.specs.Corrections as corrections
+use Rattle.rtcm2.specs.Observations as observations
 use Rattle.rtcm2.specs.Healths as healths
 use Rattle.rtcm2.specs.Positions as positions
 use Rattle.rtcm2.specs.Nulls as nulls
@@ -87,6 +90,16 @@ pub record LibraryKeeps : Type 0 where
   pub make-healths : (kind station z sequence code : ℕ) (rows frame : List ℕ) (size : ℕ)
       → let s = healths.madeSaid (headed kind station z sequence code) rows in
       Keeps (keptTo s frame) (heldTo s frame) frame × Keeps (keptTo s frame) (left (keptTo s frame) (λ k. k) size) size
+  -- observations
+  pub count-observations : (frame : List ℕ) (count : ℕ) → let s = observations.countSaid (frameSaid frame) in Keeps s (left s (λ k. k) count) count
+  pub read-epoch : (frame : List ℕ) (frequency smoothing time : ℕ) → let s = observations.epochSaid (frameSaid frame) in
+      Keeps s (left s observations.frequencySaid frequency) frequency × Keeps s (left s observations.smoothingSaid smoothing) smoothing
+      × Keeps s (left s observations.timeSaid time) time
+  pub observation-at : (e : ℕ) (frame : List ℕ) (i : ℕ) (lent : List ℕ) → let s = observations.entrySaid e (frameSaid frame) i in
+      Keeps (rowTo entry-observations.row s lent) (rowHeld entry-observations.row s lent) lent
+  pub make-observations : (e kind station z sequence code frequency smoothing time : ℕ) (rows frame : List ℕ) (size : ℕ)
+      → let s = observations.madeSaid e (headed kind station z sequence code) frequency smoothing time rows in
+      Keeps (keptTo s frame) (heldTo s frame) frame × Keeps (keptTo s frame) (sizeTo s frame size) size
   -- the station's position
   pub read-position : (frame : List ℕ) (x y up : ℤ) → let s = positions.positionSaid (frameSaid frame) in
       Keeps s (left s positions.xSaid x) x × Keeps s (left s positions.ySaid y) y × Keeps s (left s positions.zSaid up) up
@@ -126,6 +139,8 @@ pub record LibraryKeeps : Type 0 where
       → Keeps (mendSaid bs at searching report) (left (mendSaid bs at searching report) (λ v. v .1) written) written
   pub remainder : (window remainder : ℕ) → Keeps (remainderSaid window) (left (remainderSaid window) (λ k. k) remainder) remainder
   -- an entry as a row of bytes
+  pub put-observation : (entry : Observation) (lent : List ℕ)
+      → Keeps (saysPut (putBy entry-observations.row lent)) (rowAfter entry-observations.row entry lent) lent
   pub put-correction : (entry : Correction) (lent : List ℕ)
       → Keeps (saysPut (putBy (entry-corrections.row Gps) lent)) (rowAfter (entry-corrections.row Gps) entry lent) lent
   pub put-health : (entry : SatelliteHealth) (lent : List ℕ)

@@ -32,9 +32,11 @@ use Rattle.mender.specs.Run.{onOf}
 use Rattle.mender.specs.Steps.{bytesTo, outputTo}
 use Rattle.rtcm2.specs.Mending.{stepNumber, mendSaid}
 use Rattle.rtcm2_rows.specs.Corrections as entry-corrections
+use Rattle.rtcm2_rows.specs.Observations as entry-observations
 use Rattle.rtcm2_rows.specs.Healths as entry-healths
 use Rattle.rtcm2.specs.Send as send
 use Rattle.rtcm2.specs.Corrections as corrections
+use Rattle.rtcm2.specs.Observations as observations
 use Rattle.rtcm2.specs.Healths as healths
 use Rattle.rtcm2.specs.Positions as positions
 use Rattle.rtcm2.specs.Nulls as nulls
@@ -48,6 +50,8 @@ use Rattle.rtcm2_state.proofs.put_state
 use Rattle.rtcm2_rows.proofs.row.count_of
 use Rattle.rtcm2_rows.proofs.correction.corrections_in
 use Rattle.rtcm2_rows.proofs.correction.put_correction
+use Rattle.rtcm2_rows.proofs.observation.observations_in
+use Rattle.rtcm2_rows.proofs.observation.put_observation
 use Rattle.rtcm2_rows.proofs.health.healths_in
 use Rattle.rtcm2_rows.proofs.health.put_health
 use Rattle.rtcm2.proofs.line.rtcm2_state_size
@@ -66,6 +70,10 @@ use Rattle.rtcm2.proofs.words.rtcm2_recall_words
 use Rattle.rtcm2.proofs.correction.rtcm2_count_corrections
 use Rattle.rtcm2.proofs.correction.rtcm2_correction_at
 use Rattle.rtcm2.proofs.correction.rtcm2_make_corrections
+use Rattle.rtcm2.proofs.observation.rtcm2_count_observations
+use Rattle.rtcm2.proofs.observation.rtcm2_read_epoch
+use Rattle.rtcm2.proofs.observation.rtcm2_observation_at
+use Rattle.rtcm2.proofs.observation.rtcm2_make_observations
 use Rattle.rtcm2.proofs.health.rtcm2_count_healths
 use Rattle.rtcm2.proofs.health.rtcm2_health_at
 use Rattle.rtcm2.proofs.health.rtcm2_make_healths
@@ -106,6 +114,12 @@ pub record LibraryCalls : Type 2 where
   -- rtcm2_rows::row
   pub count-of : Answered count_of.Reads.Asked count_of.Reads.Learnt count_of.Statement.statement
       (λ κs (size, (length, _)). countOf size length)
+  -- rtcm2_rows::observation
+  pub observations-in : Answered observations_in.Reads.Asked observations_in.Reads.Learnt observations_in.Statement.statement
+      (λ κs (bytes, _). entriesFrom entry-observations.row 15 (now bytes))
+  pub put-observation : AnsweredLent put_observation.Reads.Asked put_observation.Reads.Learnt put_observation.Statement.statement
+      (λ κs (_, (bytes, _)). putBy entry-observations.row (now bytes))
+      (λ κs (_, (bytes, _)). now bytes) (λ κs (entry, (bytes, _)). rowAfter entry-observations.row entry (now bytes))
   -- rtcm2_rows::correction
   pub corrections-in : Answered corrections_in.Reads.Asked corrections_in.Reads.Learnt corrections_in.Statement.statement
       (λ κs (system, (bytes, _)). entriesFrom (entry-corrections.row system) 18 (now bytes))
@@ -240,6 +254,31 @@ pub record LibraryCalls : Type 2 where
       (λ κs (kind, (station, (z, (sequence, (health, (rows, (frame, (length, _)))))))).
       let s = healths.madeSaid (headed kind station z sequence health) (now rows) in
       (heldTo s (now frame), left (keptTo s (now frame)) (λ k. k) (now length)))
+  -- rtcm2::observation
+  pub count-observations : AnsweredLent
+      rtcm2_count_observations.Reads.Asked rtcm2_count_observations.Reads.Learnt rtcm2_count_observations.Statement.statement
+      (λ κs (frame, _). numberOf (observations.countSaid (frameSaid (now frame))))
+      (λ κs (_, (count, _)). now count) (λ κs (frame, (count, _)). left (observations.countSaid (frameSaid (now frame))) (λ k. k) (now count))
+  pub read-epoch : AnsweredLent {B = ℕ × (ℕ × ℕ)}
+      rtcm2_read_epoch.Reads.Asked rtcm2_read_epoch.Reads.Learnt rtcm2_read_epoch.Statement.statement
+      (λ κs (frame, _). numberOf (observations.epochSaid (frameSaid (now frame))))
+      (λ κs (_, (frequency, (smoothing, (time, _)))). (now frequency, (now smoothing, now time)))
+      (λ κs (frame, (frequency, (smoothing, (time, _)))). let s = observations.epochSaid (frameSaid (now frame)) in
+      (left s observations.frequencySaid (now frequency), (left s observations.smoothingSaid (now smoothing), left s observations.timeSaid (now time))))
+  pub observation-at : AnsweredLent rtcm2_observation_at.Reads.Asked rtcm2_observation_at.Reads.Learnt rtcm2_observation_at.Statement.statement
+      (λ κs (edition, (frame, (index, (bytes, _)))).
+      numberOf (rowTo entry-observations.row (observations.entrySaid edition (frameSaid (now frame)) index) (now bytes)))
+      (λ κs (_, (_, (_, (bytes, _)))). now bytes)
+      (λ κs (edition, (frame, (index, (bytes, _)))).
+      rowHeld entry-observations.row (observations.entrySaid edition (frameSaid (now frame)) index) (now bytes))
+  pub make-observations : AnsweredLent {B = List ℕ × ℕ}
+      rtcm2_make_observations.Reads.Asked rtcm2_make_observations.Reads.Learnt rtcm2_make_observations.Statement.statement
+      (λ κs (edition, (kind, (station, (z, (sequence, (health, (frequency, (smoothing, (time, (rows, (frame, _))))))))))).
+      numberOf (keptTo (observations.madeSaid edition (headed kind station z sequence health) frequency smoothing time (now rows)) (now frame)))
+      (λ κs (_, (_, (_, (_, (_, (_, (_, (_, (_, (_, (frame, (length, _)))))))))))). (now frame, now length))
+      (λ κs (edition, (kind, (station, (z, (sequence, (health, (frequency, (smoothing, (time, (rows, (frame, (length, _)))))))))))).
+      let s = observations.madeSaid edition (headed kind station z sequence health) frequency smoothing time (now rows) in
+      (heldTo s (now frame), sizeTo s (now frame) (now length)))
   -- rtcm2::position
   pub read-position : AnsweredLent {B = ℤ × (ℤ × ℤ)}
       rtcm2_read_position.Reads.Asked rtcm2_read_position.Reads.Learnt rtcm2_read_position.Statement.statement

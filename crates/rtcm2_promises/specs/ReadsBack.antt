@@ -13,6 +13,7 @@ use Rattle.record_fields.specs.Coding.{Coding}
 use Rattle.record_positions.specs.Positions as position
 use Rattle.rtcm2_rows.specs.Rows.{rowSize, countOf}
 use Rattle.rtcm2_rows.specs.Corrections as entry-corrections
+use Rattle.rtcm2_rows.specs.Observations as entry-observations
 use Rattle.rtcm2_rows.specs.Healths as entry-healths
 use Rattle.rtcm2.specs.Answer.{andThen}
 use Rattle.rtcm2.specs.Header.{headed}
@@ -20,6 +21,7 @@ use Rattle.rtcm2.specs.Frames.{frameSaid, keptTo, keepSaid, heldTo, recallSaid,
 use Rattle.rtcm2.specs.Rows.{rowTo, rowHeld}
 use Rattle.rtcm2.specs.Corrections as corrections
 use Rattle.rtcm2.specs.Healths as healths
+use Rattle.rtcm2.specs.Observations as observations
 use Rattle.rtcm2.specs.Positions as positions
 use Rattle.rtcm2.specs.Nulls as nulls
 use Rattle.rtcm2.specs.Texts as texts
@@ -55,6 +57,11 @@ module _ (kind station z sequence code : ℕ) where
         (λ bytes. RowsBack (entry-corrections.row Gps) rows (corrections.countSaid (frameSaid bytes)) (corrections.entrySaid (frameSaid bytes)))
     pub make-healths : (rows : List ℕ) → AreBytes rows → GivesBack (healths.madeSaid (headed kind station z sequence code) rows)
         (λ bytes. RowsBack (entry-healths.row Gps) rows (healths.countSaid (frameSaid bytes)) (healths.entrySaid (frameSaid bytes)))
+    -- in one edition: the head, and the rows
+    pub make-observations : (e frequency smoothing time : ℕ) (rows : List ℕ) → AreBytes rows
+        → GivesBack (observations.madeSaid e (headed kind station z sequence code) frequency smoothing time rows)
+        (λ bytes. (observations.epochSaid (frameSaid bytes) ≡ answers (record { frequency = frequency; smoothing = smoothing; time = time }))
+        × RowsBack entry-observations.row rows (observations.countSaid (frameSaid bytes)) (observations.entrySaid e (frameSaid bytes)))
     pub make-position : (x y up : ℤ) → position.Typed (record { x = x; y = y; z = up }) → GivesBack (positions.makeSaid kind station z sequence code x y up)
         (λ bytes. positions.positionSaid (frameSaid bytes) ≡ answers (record { x = x; y = y; z = up }))
     pub make-null : (n : ℕ) → GivesBack (nulls.makeSaid kind station z sequence code n) (λ bytes. nulls.nullSaid (frameSaid bytes) ≡ answers n)

@@ -10,7 +10,7 @@ use lib.Seq.{sets}
 use Rattle.bits.specs.Fields.{Fit}
 use Rattle.bits.specs.Signed.{signed, code}
 use Rattle.bits.proofs.SignedLaws.{code-signed, signed-code, code-lt}
-use Rattle.record_fields.proofs.Round.{Faithful}
+use Rattle.record_fields.proofs.Faithful.{Faithful}
 use Rattle.record_fields.proofs.TableRound.{fit-below, fit-places}
 use Rattle.frame.specs.declared.System.{System}
 use Rattle.frame.specs.declared.System.the-variants.{Gps, Glonass}

@@ -8,7 +8,7 @@ use lib.ListN.{getD}
 use lib.Seq.{sets}
 use Rattle.frame.specs.declared.System.{System}
 use Rattle.frame.specs.declared.System.the-variants.{Gps, Glonass}
-use Rattle.record_fields.proofs.Round.{Faithful}
+use Rattle.record_fields.proofs.Faithful.{Faithful}
 use Rattle.record_fields.proofs.TableRound.{fit-below, fit-places}
 use Rattle.record_healths.specs.declared.Condition.{Condition}
 use Rattle.record_healths.specs.declared.Condition.the-variants.{Code, Data}

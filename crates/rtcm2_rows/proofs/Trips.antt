@@ -13,7 +13,7 @@ use borrow.Author.Tests.{le-ltb, ltb-false}
 use Rattle.bits.specs.Fields.{Fit, octets, AreBytes}
 use Rattle.bits.proofs.FieldLaws.{length-fit, fit-take, fit-drop}
 use Rattle.record_fields.specs.Coding.{Coding, Each}
-use Rattle.record_fields.proofs.Round.{Faithful}
+use Rattle.record_fields.proofs.Faithful.{Faithful}
 use Rattle.frame.specs.declared.System.{System}
 use Rattle.record_corrections.specs.declared.Correction.{Correction}
 use Rattle.record_healths.specs.declared.SatelliteHealth.{SatelliteHealth}

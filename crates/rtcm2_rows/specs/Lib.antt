@@ -1,3 +1,4 @@
 pub mod Rows
 pub mod Corrections
 pub mod Healths
+pub mod Observations

@@ -1,4 +1,5 @@
 // Entries of the list records as lent bytes, a row of bytes for each entry.
 pub mod correction;
 pub mod health;
+pub mod observation;
 pub mod row;

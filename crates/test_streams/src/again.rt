@@ -1,4 +1,5 @@
 // A frame's record: its fields are summed in the order sent, and made into a frame again.
+use crate::observed::observed;
 use crate::sum::Sum;
 use crate::sum::with_byte;
 use crate::sum::with_bytes;
@@ -25,7 +26,7 @@ pub(crate) struct Again {
 }
 
 // The record cannot be read: the refusal's number is summed.
-fn refused(sum: Sum, number: u8) -> Again {
+pub(crate) fn refused(sum: Sum, number: u8) -> Again {
     let made = Made {
         answer: Making::Refused(number),
         frame: frame::no_frame(),
@@ -221,6 +222,7 @@ pub(crate) fn made_again(frame: Frame, sum: Sum) -> Again {
         Layout::Position => position(frame, sum),
         Layout::Null => null(frame, sum),
         Layout::Text => text(frame, sum),
+        Layout::Observation => observed(frame, sum),
         Layout::Plain => refused(sum, 6),
     }
 }

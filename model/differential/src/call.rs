@@ -34,6 +34,10 @@ pub enum Function {
     MakeNull,
     ReadText,
     MakeText,
+    CountObservations,
+    ReadEpoch,
+    ObservationAt,
+    MakeObservations,
     PrcMm,
     RrcMmS,
     Stops,
@@ -141,6 +145,26 @@ pub const FUNCTIONS: &[Row] = &[
         "rtcm2_make_text",
         &[0, 5, 6, 7, 11, 12, 13],
     ),
+    row(
+        Function::CountObservations,
+        "rtcm2_count_observations",
+        &[0, 6, 7, 8, 14, 15, 16],
+    ),
+    row(
+        Function::ReadEpoch,
+        "rtcm2_read_epoch",
+        &[0, 6, 7, 8, 10, 14, 15, 16],
+    ),
+    row(
+        Function::ObservationAt,
+        "rtcm2_observation_at",
+        &[0, 5, 6, 7, 8, 9, 10, 13, 14, 15, 16],
+    ),
+    row(
+        Function::MakeObservations,
+        "rtcm2_make_observations",
+        &[0, 5, 6, 7, 10, 12, 13],
+    ),
     row(Function::PrcMm, "rtcm2_prc_mm", &[0, 10]),
     row(Function::RrcMmS, "rtcm2_rrc_mm_s", &[0, 10]),
     row(Function::Stops, "rtcm2_stops", &[0]),
@@ -170,14 +194,16 @@ pub struct Call {
 }
 
 impl Call {
-    /// The header's five numbers, of a call that makes a frame.
+    /// The header's five numbers, of a call that makes a frame; else zeros where there
+    /// are none.
     pub fn head(&self) -> Head {
+        let number = |i: usize| self.given.get(i).copied().unwrap_or(0);
         Head {
-            kind: self.given[0] as u8,
-            station: self.given[1] as u16,
-            z: self.given[2] as u16,
-            sequence: self.given[3] as u8,
-            health: self.given[4] as u8,
+            kind: number(0) as u8,
+            station: number(1) as u16,
+            z: number(2) as u16,
+            sequence: number(3) as u8,
+            health: number(4) as u8,
         }
     }
 }

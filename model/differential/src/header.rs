@@ -178,6 +178,38 @@ unsafe extern "C" {
         frame_size: usize,
         length: *mut usize,
     ) -> u8;
+    pub fn rtcm2_count_observations(frame: *const u8, frame_size: usize, count: *mut usize) -> u8;
+    pub fn rtcm2_read_epoch(
+        frame: *const u8,
+        frame_size: usize,
+        frequency: *mut u8,
+        smoothing: *mut u8,
+        time: *mut u32,
+    ) -> u8;
+    pub fn rtcm2_observation_at(
+        edition: u8,
+        frame: *const u8,
+        frame_size: usize,
+        index: usize,
+        observation: *mut u8,
+        observation_size: usize,
+    ) -> u8;
+    pub fn rtcm2_make_observations(
+        edition: u8,
+        kind: u8,
+        station: u16,
+        z: u16,
+        sequence: u8,
+        health: u8,
+        frequency: u8,
+        smoothing: u8,
+        time: u32,
+        observations: *const u8,
+        observations_size: usize,
+        frame: *mut u8,
+        frame_size: usize,
+        length: *mut usize,
+    ) -> u8;
     pub fn rtcm2_prc_mm(scale: u8, prc: i16, stop: *mut u8, mm: *mut i32) -> u8;
     pub fn rtcm2_rrc_mm_s(scale: u8, rrc: i8, stop: *mut u8, mm_s: *mut i32) -> u8;
     pub fn rtcm2_stops(prc: i16, rrc: i8, stop: *mut u8) -> u8;

@@ -1,6 +1,7 @@
 //! The calls through the static library.
 
 mod journals;
+mod observations;
 
 use crate::call::{Call, Function};
 use crate::header::*;
@@ -29,6 +30,10 @@ pub fn answer(call: &mut Call) -> u64 {
         }
         Function::MakePosition => u64::from(make_position(call)),
         Function::MakeNull => u64::from(make_null(call)),
+        Function::CountObservations
+        | Function::ReadEpoch
+        | Function::ObservationAt
+        | Function::MakeObservations => u64::from(observations::observations(call)),
         Function::PrcMm | Function::RrcMmS | Function::UdreLimitMm | Function::Cn0Dbhz => {
             u64::from(number(call))
         }

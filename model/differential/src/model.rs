@@ -1,6 +1,7 @@
 //! The same calls through the model.
 
 mod journals;
+mod observations;
 
 use crate::call::{Call, Function};
 use crate::place::Place;
@@ -33,6 +34,10 @@ pub fn answer(call: &mut Call) -> u64 {
         | Function::MakePosition
         | Function::MakeNull
         | Function::MakeText => u64::from(make(call)),
+        Function::CountObservations
+        | Function::ReadEpoch
+        | Function::ObservationAt
+        | Function::MakeObservations => u64::from(observations::observations(call)),
         Function::PrcMm | Function::RrcMmS | Function::UdreLimitMm | Function::Cn0Dbhz => {
             u64::from(number(call))
         }

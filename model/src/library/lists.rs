@@ -69,7 +69,7 @@ fn healths_made(head: Head, rows: &[u8], frame: &mut [u8], length: &mut usize) -
 }
 
 /// Rows in the bytes; none where they are no whole number of rows.
-fn row_count(rows: &[u8], size: usize) -> usize {
+pub(super) fn row_count(rows: &[u8], size: usize) -> usize {
     if rows.len().is_multiple_of(size) {
         rows.len() / size
     } else {
@@ -78,7 +78,7 @@ fn row_count(rows: &[u8], size: usize) -> usize {
 }
 
 /// Puts a row into the first of the lent bytes. Refuses with 13.
-fn put_row(row: &[u8], lent: &mut [u8]) -> Answer<()> {
+pub(super) fn put_row(row: &[u8], lent: &mut [u8]) -> Answer<()> {
     let place = lent.get_mut(..row.len()).ok_or(Refusal::BufferTooShort)?;
     place.copy_from_slice(row);
     Ok(())

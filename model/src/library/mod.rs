@@ -8,6 +8,7 @@ pub mod journals;
 pub mod line;
 pub mod lists;
 pub mod numbers;
+pub mod observations;
 pub mod records;
 pub mod state;
 pub mod words;

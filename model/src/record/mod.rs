@@ -5,6 +5,7 @@ pub mod correction;
 pub mod fields;
 pub mod health;
 pub mod null;
+pub mod observation;
 pub mod position;
 pub mod text;
 pub mod values;
@@ -25,6 +26,8 @@ pub enum Layout {
     Null,
     /// Types 16 and 36.
     Text,
+    /// Types 18 and 19.
+    Observation,
     /// Every other type number.
     Plain,
 }
@@ -37,6 +40,7 @@ pub fn layout(type_number: u16, n: u8) -> Layout {
         5 | 33 => Layout::Health,
         6 => Layout::Null,
         16 | 36 => Layout::Text,
+        18 | 19 => Layout::Observation,
         34 if n <= 1 => Layout::Null,
         34 => Layout::Correction,
         _ => Layout::Plain,

@@ -79,7 +79,10 @@ fn false_off_grid(rng: &mut Rng, offset: usize, n: u8, more: usize) -> Vec<u8> {
     for _ in 0..3 {
         let (first, _) = push_hiding(&mut bits, rng, &Hidden { offset, n, more });
         bits.turn(first + rng.place(30));
-        bits.push_frames(&small_frames(rng, 8));
+        for _ in 0..2 {
+            bits.push_frame(&samples::any_null_frame(rng, 6));
+        }
+        bits.push_frames(&small_frames(rng, 6));
     }
     bits.push_frames(&samples::frames(rng, 4));
     bits.to_bytes()

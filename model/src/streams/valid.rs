@@ -27,6 +27,8 @@ pub(super) const STREAMS: &[Entry] = &[
     ("nulls-34", |rng| nulls(rng, 34)),
     ("texts", |rng| texts(rng, 16)),
     ("texts-36", |rng| texts(rng, 36)),
+    ("observations-18", |rng| observations(rng, 18)),
+    ("observations-19", |rng| observations(rng, 19)),
     ("other-system", other_system),
     ("plain-a", |rng| repeat(rng, 20, samples::other_frame)),
     ("plain-b", |rng| repeat(rng, 20, samples::other_frame)),
@@ -36,6 +38,7 @@ pub(super) const STREAMS: &[Entry] = &[
     ("n-31", n_31),
     ("every-n", |rng| every_n(rng, 2)),
     ("every-n-6", |rng| every_n(rng, 6)),
+    ("every-n-18", |rng| every_n(rng, 18)),
     ("every-n-34", |rng| every_n(rng, 34)),
     ("every-health", every_health),
     ("z-over-5999", z_over_5999),
@@ -90,6 +93,24 @@ fn texts(rng: &mut Rng, type_number: u16) -> Vec<u8> {
     ];
     let make = |count| samples::text_frame(rng, type_number, count);
     written(&counts.into_iter().map(make).collect::<Vec<Frame>>())
+}
+
+/// Observations, each frame also under the other type number; the last one has a time
+/// that is past its range.
+fn observations(rng: &mut Rng, type_number: u16) -> Vec<u8> {
+    let mut frames = Vec::new();
+    for count in 1..=15 {
+        let mut frame = samples::observation_frame(rng, type_number, count);
+        frames.push(frame);
+        frame.header.type_number = 37 - type_number;
+        frames.push(frame);
+    }
+    for time in [599_999, 600_000, 1_048_575] {
+        let mut frame = samples::observation_frame(rng, type_number, 1);
+        frame.words[0] = time;
+        frames.push(frame);
+    }
+    written(&frames)
 }
 
 /// Records of one system with the type number of the other: a tb from 120 on or a

@@ -1,5 +1,5 @@
 //! One frame each, made from a record of a known type: the streams of the
-//! worked records, V, G or N and the type number, then a letter.
+//! worked records, V, G, N or O and the type number, then a letter.
 
 use super::Entry;
 
@@ -116,6 +116,33 @@ pub(super) const STREAMS: &[Entry] = &[
     }),
     ("G36a", |_| {
         bytes("40 66 65 40 68 68 7F 6C 73 7D 6C 7F 45 60 7F 68 42 7C 7F 7F 4A")
+    }),
+    ("O18a", |_| {
+        bytes("40 66 49 41 68 49 40 53 4C 46 6C 7F 7F 7F 7F 5A 40 42 40 40 49 40 40 40 40 40")
+    }),
+    ("O18b", |_| {
+        bytes("40 66 49 41 68 49 40 53 4C 45 47 5F 52 5E 7F 6F 78 43 60 7F 55 40 40 40 40 65 45 6C 57 40 51 7F 7F 7F 7F 55")
+    }),
+    ("O18c", |_| {
+        bytes("40 66 49 41 68 49 40 53 4C 46 6C 5E 6C 40 66 4E 63 66 70 7F 62 40 40 40 40 6A")
+    }),
+    ("O19a", |_| {
+        bytes("40 66 49 43 68 56 40 53 4C 46 49 40 40 40 40 40 40 42 40 40 6C 7F 7F 7F 7F 5A")
+    }),
+    ("O19b", |_| {
+        bytes("40 66 49 43 68 56 40 53 4C 45 62 61 6D 61 40 60 78 43 40 40 58 7F 7F 7F 7F 55 5D 44 5E 40 68 7F 7F 7F 7F 5A")
+    }),
+    ("V18a", |_| {
+        bytes("40 66 49 41 68 49 40 53 4C 46 6C 5F 6C 40 66 5B 41 68 78 7F 4E 7F 7F 4F 40 64")
+    }),
+    ("V18b", |_| {
+        bytes("40 66 49 41 68 49 40 53 4C 45 47 5D 52 5E 7F 64 5D 41 60 7F 60 7F 7F 7F 7F 5A 5F 40 60 7F 72 40 40 40 40 4F")
+    }),
+    ("V19a", |_| {
+        bytes("40 66 49 43 68 56 40 53 4C 46 49 48 40 40 40 4E 40 4A 6F 60 6E 6E 4D 51 4B 55")
+    }),
+    ("V19b", |_| {
+        bytes("40 66 49 43 68 56 40 53 4C 45 62 72 70 6C 73 42 47 7C 70 7F 50 7F 7F 7F 7F 55 79 43 47 40 4C 40 40 40 40 40")
     }),
 ];
 

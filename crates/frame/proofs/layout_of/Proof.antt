@@ -1,7 +1,11 @@
 -- `layout_of` meets its contract: number by number. Assumes nothing.
-use mathlib.Core.Path.{sym, ap}
-use mathlib.Core.Logic.{⊎-elim, inl, inr}
-use borrow.Author.Tests.{ne-eqb}
+use mathlib.Core.Path.{_≡_, refl, sym, ap}
+use mathlib.Core.Bool.{Bool, true, false}
+use mathlib.Core.Logic.{_⊎_, ⊎-elim, inl, inr}
+use Prim.Native.Nat.{ℕ, _≤_, _<_}
+use native.Mathlib.Omega.{arith}
+use lib.Dec.{eqb}
+use borrow.Author.Tests.{ne-eqb, eqb-true, eqb-false}
 use Rattle.frame.specs.Layout.{layoutOf}
 use Rattle.frame.proofs.layout_of.Statement.{statement}
 use Rattle.frame.proofs.layout_of.Tie as tie
@@ -30,10 +34,28 @@ returns-6 : tie.Need-returns-6
 unfolding layoutOf
 returns-6 c = ⊎-elim (λ e. sym (ap layoutOf e)) (λ e. sym (ap layoutOf e)) (c .match .keys6)
 
+-- 18 and 19 are told by their range
+pair : (k : ℕ) → 18 ≤ k → k < 20 → (k ≡ 18) ⊎ (k ≡ 19)
+pair k l h = go (eqb k 18) refl
+  where
+    go : (b : Bool) → eqb k 18 ≡ b → (k ≡ 18) ⊎ (k ≡ 19)
+    go true e = inl (eqb-true k 18 e)
+    go false e = inr (let n = eqb-false k 18 e in rest n)
+      where
+        rest : (k ≡ 18 → ⊥) → k ≡ 19
+        rest n = omega (arith, n)
+
 returns-7 : tie.Need-returns-7
 unfolding layoutOf
-returns-7 c =
-    let r = c .match .rest in
+returns-7 c = ⊎-elim (λ e. sym (ap layoutOf e)) (λ e. sym (ap layoutOf e)) (pair (c .before .before .before .args .kind) (c .before .if1 .left) (c .if2 .taken))
+
+returns-8 : tie.Need-returns-8
+unfolding layoutOf
+returns-8 c =
+    let r = c .before .match .rest in
+    let k = c .before .before .args .kind in
+    let n18 : k ≡ 18 → ⊥ = λ e. omega (arith, c .if1 .taken) in
+    let n19 : k ≡ 19 → ⊥ = λ e. omega (arith, c .if1 .taken) in
     simp (
       ne-eqb _ _ (λ e. r .0 .0 .0 .0 .0 .1 (inl e)),
       ne-eqb _ _ (λ e. r .0 .0 .0 .0 .0 .1 (inr (inl e))),
@@ -46,9 +68,34 @@ returns-7 c =
       ne-eqb _ _ (r .0 .1),
       ne-eqb _ _ (λ e. r .1 (inl e)),
       ne-eqb _ _ (λ e. r .1 (inr e)),
+      ne-eqb _ _ n18,
+      ne-eqb _ _ n19,
+    )
+
+returns-9 : tie.Need-returns-9
+unfolding layoutOf
+returns-9 c =
+    let r = c .before .before .match .rest in
+    let k = c .before .before .before .args .kind in
+    let n18 : k ≡ 18 → ⊥ = λ e. omega (arith, c .if2 .left) in
+    let n19 : k ≡ 19 → ⊥ = λ e. omega (arith, c .if2 .left) in
+    simp (
+      ne-eqb _ _ (λ e. r .0 .0 .0 .0 .0 .1 (inl e)),
+      ne-eqb _ _ (λ e. r .0 .0 .0 .0 .0 .1 (inr (inl e))),
+      ne-eqb _ _ (λ e. r .0 .0 .0 .0 .0 .1 (inr (inr e))),
+      ne-eqb _ _ (r .0 .0 .0 .0 .1),
+      ne-eqb _ _ (λ e. r .0 .0 .0 .1 (inl e)),
+      ne-eqb _ _ (λ e. r .0 .0 .0 .1 (inr e)),
+      ne-eqb _ _ (λ e. r .0 .0 .1 (inl e)),
+      ne-eqb _ _ (λ e. r .0 .0 .1 (inr e)),
+      ne-eqb _ _ (r .0 .1),
+      ne-eqb _ _ (λ e. r .1 (inl e)),
+      ne-eqb _ _ (λ e. r .1 (inr e)),
+      ne-eqb _ _ n18,
+      ne-eqb _ _ n19,
     )
 
 pub layout-of-spec : {M : Type 1} → statement M
 layout-of-spec =
     tie.close
-    (tie.spec returns returns-2 returns-3 returns-4 returns-5 returns-6 returns-7)
+    (tie.spec returns returns-2 returns-3 returns-4 returns-5 returns-6 returns-7 returns-8 returns-9)

@@ -22,7 +22,7 @@ entry-from-requires : tie.Need-entry-from-requires
 entry-from-requires c κs =
     let p = c .before .before .before in
     let a = p .before .before .before .before .args in
-    placed-room layout.Correction 40 (a .frame) (a .index) (p .entry-place .result) (p .entry-place .ensures) _ (c .before .place .given .1)
+    placed-room layout.Correction 0 40 (a .frame) (a .index) (p .entry-place .result) (p .entry-place .ensures) _ (c .before .place .given .1)
 
 -- the step at which the entry's place is known; the system of the frame's type
 abbrev placing : tie.After-entry-from → tie.After-entry-place

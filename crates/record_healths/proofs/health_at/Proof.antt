@@ -20,7 +20,7 @@ entry-from-requires : tie.Need-entry-from-requires
 entry-from-requires c κs =
     let p = c .before .before .before in
     let a = p .before .before .before .before .args in
-    placed-room layout.Health 24 (a .frame) (a .index) (p .entry-place .result) (p .entry-place .ensures) _ (c .before .place .given .1)
+    placed-room layout.Health 0 24 (a .frame) (a .index) (p .entry-place .result) (p .entry-place .ensures) _ (c .before .place .given .1)
 
 returns : tie.Need-returns
 unfolding healthAt

@@ -16,18 +16,18 @@ use Rattle.frame.proofs.FrameLaws.{n-within}
 use Rattle.record_stages.specs.declared.Asked.the-variants.{Same}
 use Rattle.record_stages.specs.declared.Place.{Place}
 use Rattle.record_stages.specs.declared.Place.the-variants as place
-use Rattle.record_stages.specs.Stages.{askedOf, entriesHeld, misfit, entryOrder}
+use Rattle.record_stages.specs.Stages.{askedOf, heldAfter, misfitAfter, headedOrder}
 use Rattle.record_stages.proofs.StageLaws.{read5, read6, read7, read8, read-on, told-misfit, told-entries, told-past, told-below, last-wrong, last-fine}
-use Rattle.record_stages.proofs.ListLaws.{entry-room}
+use Rattle.record_stages.proofs.ListLaws.{entry-room, head-room}
 use Rattle.record_stages.proofs.entry_place.Statement.{statement}
 use Rattle.record_stages.proofs.entry_place.Tie as tie
 
 -- the checks of 8 and 9, and the answer
 abbrev eight : tie.Start → Bool
-eight s = misfit (s .args .width) (s .args .frame .n)
+eight s = misfitAfter (s .args .head) (s .args .width) (s .args .frame .n)
 
 abbrev total : tie.Start → ℕ
-total s = entriesHeld (s .args .width) (s .args .frame .n)
+total s = heldAfter (s .args .head) (s .args .width) (s .args .frame .n)
 
 abbrev past : tie.Start → Bool
 past s = leb (total s) (s .args .index)
@@ -36,7 +36,7 @@ abbrev nine : tie.Start → List Check
 nine s = (past s, 9) ∷ []
 
 abbrev found : tie.Start → Place
-found s = place.At (s .args .index * s .args .width)
+found s = place.At (s .args .head + s .args .index * s .args .width)
 
 -- from where a stage is passed back to the stage before it, and to the start
 abbrev start : tie.After-enum-told → tie.Start
@@ -98,7 +98,7 @@ returns-4 c =
 
 -- past 8, what 9 decides is the answer
 nine-decides : (c : tie.After-count) (r : Place) → let s = begun c in r ≡ inOrder (nine s) place.Refused (found s)
-    → r ≡ inOrder (entryOrder (s .args .layout) (s .args .width) (s .args .frame) (s .args .index) []) place.Refused (found s)
+    → r ≡ inOrder (headedOrder (s .args .layout) (s .args .head) (s .args .width) (s .args .frame) (s .args .index) []) place.Refused (found s)
 nine-decides c r e =
     let s = begun c in
     e ∙ read-on (s .args .layout) (s .args .frame) (eight s) (nine s) place.Refused (found s)
@@ -118,14 +118,14 @@ below c =
     let c8 = c .before .before .before .before in
     ap (λ n. leb n (begun c8 .args .index)) (sym (counted c8 .1)) ∙ told-below _ (sym (c .enum-told8 .given .1) ∙ c .before .before .index-of .ensures)
 
-room : (c : tie.After-enum-told8) → let a = begun (c .before .before .before .before) .args in a .index * a .width + a .width ≤ 744
+room : (c : tie.After-enum-told8) → let a = begun (c .before .before .before .before) .args in a .head + a .index * a .width + a .width ≤ 744
 room c =
     let c8 = c .before .before .before .before in
     let a = begun c8 .args in
     omega (
       arith,
       n-within (a .frame) (told-within (outside (a .frame)) (within (five (six (seven c8))))),
-      entry-room (a .width) (a .frame .n) (a .index) (below c),
+      entry-room (a .head) (a .width) (a .frame .n) (a .index) (head-room (a .head) (a .width) (a .frame .n) (counted c8 .0)) (below c),
     )
 
 returns-6 : tie.Need-returns-6
@@ -141,4 +141,4 @@ entry-place-spec =
     (λ c. search needs) (λ c. search needs) returns-2 (λ c κs. search needs) (λ c. search needs)
     (λ c. search needs) returns-3 (λ c κs. search needs) (λ c. search needs) (λ c. search needs) returns-4
     (λ c κs. search needs) (λ c. search needs) (λ c. search needs) returns-5 (λ c. record { fits = omega (arith, room c) })
-    (λ c. record { fits = omega (arith, room c) }) returns-6)
+    (λ c. record { fits = omega (arith, room c) }) (λ c. record { fits = omega (arith, room c) }) returns-6)

@@ -5,6 +5,7 @@ use super::ends::inside;
 use rtcm2_model::frame::{Frame, Header, State};
 use rtcm2_model::record::correction::{self, Correction, Issue, LAST_TB};
 use rtcm2_model::record::health::{self, Condition, Health};
+use rtcm2_model::record::observation::{self, Edition, Epoch, Mark, Measured, Observation};
 use rtcm2_model::record::position::{self, Position};
 use rtcm2_model::record::{null, system, text, System};
 use rtcm2_model::rng::Rng;
@@ -47,6 +48,37 @@ pub fn satellite_health(rng: &mut Rng, system: System) -> Health {
         loss_warning: inside(rng, 0, 1) as u8,
         time: inside(rng, 0, 15) as u8,
         reserved_last: inside(rng, 0, 3) as u8,
+    }
+}
+
+/// The epoch of observations.
+pub fn epoch(rng: &mut Rng) -> Epoch {
+    Epoch {
+        frequency: inside(rng, 0, 3) as u8,
+        smoothing: inside(rng, 0, 3) as u8,
+        time: inside(rng, 0, observation::LAST_TIME.into()) as u32,
+    }
+}
+
+/// A satellite's observation.
+pub fn observation(rng: &mut Rng, edition: Edition, type_number: u16) -> Observation {
+    let bit = inside(rng, 0, 1) as u8;
+    Observation {
+        mark: Mark::of(edition, type_number, bit),
+        code: inside(rng, 0, 1) as u8,
+        system: inside(rng, 0, 1) as u8,
+        satellite: inside(rng, 1, 32) as u8,
+        quality: inside(rng, 0, if type_number == 18 { 7 } else { 15 }) as u8,
+        measured: match type_number {
+            18 => Measured::Phase {
+                losses: inside(rng, 0, 31) as u8,
+                phase: inside(rng, i32::MIN.into(), i32::MAX.into()) as i32,
+            },
+            _ => Measured::Range {
+                multipath: inside(rng, 0, 15) as u8,
+                range: inside(rng, 0, u32::MAX.into()) as u32,
+            },
+        },
     }
 }
 
@@ -99,6 +131,12 @@ pub fn frame(rng: &mut Rng, type_number: u16) -> Frame {
             health::make(&header, &entries, count(rng, health::MOST))
         }
         6 => null::make(&header, rng.below(2) as u8),
+        18 | 19 => {
+            let edition = samples::edition(rng);
+            let entries = [(); observation::MOST].map(|()| observation(rng, edition, type_number));
+            let count = count(rng, observation::MOST);
+            observation::make(edition, &header, &epoch(rng), &entries, count)
+        }
         16 | 36 => {
             let count = count(rng, text::MOST);
             text::make(&header, &characters(rng, type_number, count))

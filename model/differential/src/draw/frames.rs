@@ -7,7 +7,8 @@ use crate::place::Place;
 use rtcm2_model::frame::Frame;
 use rtcm2_model::journal;
 use rtcm2_model::library::lists::{CORRECTION_SIZE, HEALTH_SIZE};
-use rtcm2_model::record::{correction, text};
+use rtcm2_model::library::observations::OBSERVATION_SIZE;
+use rtcm2_model::record::{correction, observation, text};
 use rtcm2_model::rng::Rng;
 use rtcm2_model::samples;
 
@@ -23,6 +24,9 @@ pub fn call(rng: &mut Rng) -> Call {
         Function::ReadPosition,
         Function::ReadNull,
         Function::ReadText,
+        Function::CountObservations,
+        Function::ReadEpoch,
+        Function::ObservationAt,
     ];
     match rng.below(40) {
         0 => {
@@ -45,8 +49,15 @@ fn call_on(function: Function, rng: &mut Rng) -> Call {
             lent.push(room(rng, 5 * (usize::from(frame.n) + 2)));
             lent.extend(numbers(rng, 1));
         }
-        Function::CountCorrections | Function::CountHealths | Function::ReadNull => {
-            lent = numbers(rng, 1);
+        Function::CountCorrections
+        | Function::CountHealths
+        | Function::ReadNull
+        | Function::CountObservations => lent = numbers(rng, 1),
+        Function::ReadEpoch => lent = numbers(rng, 3),
+        Function::ObservationAt => {
+            given.push(edition(rng));
+            given.push(index(rng, observation::count(&frame).unwrap_or(0)));
+            lent.push(room(rng, OBSERVATION_SIZE));
         }
         Function::CorrectionAt => {
             given.push(index(rng, correction::count(&frame).unwrap_or(0)));
@@ -78,8 +89,12 @@ fn frame_for(function: Function, rng: &mut Rng) -> Frame {
         3 | 4 => of_another_type(function, rng),
         _ => entries::frame(rng, kind),
     };
-    if function == Function::CorrectionAt && rng.bit() {
-        any_issues(rng, &mut frame);
+    match function {
+        Function::CorrectionAt if rng.bit() => any_issues(rng, &mut frame),
+        Function::ReadEpoch | Function::ObservationAt if rng.below(4) == 0 => {
+            any_time(rng, &mut frame);
+        }
+        _ => {}
     }
     match rng.below(16) {
         0 => frame.header.z_count = inside(rng, 6000, 8191) as u16,
@@ -115,6 +130,19 @@ fn any_issues(rng: &mut Rng, frame: &mut Frame) {
     }
 }
 
+/// Gives a frame's first word a time at the end of its range or past it.
+fn any_time(rng: &mut Rng, frame: &mut Frame) {
+    let time = one_of(rng, &[599_998, 599_999, 600_000, 600_001, 1_048_575]);
+    if frame.n > 0 {
+        frame.words[0] = frame.words[0] & 0xF0_0000 | time;
+    }
+}
+
+/// An edition, mostly 0 or 1.
+pub fn edition(rng: &mut Rng) -> i64 {
+    around(rng, 0, 1, 8)
+}
+
 /// A type number that the function reads; any for a function that reads all.
 fn kind_of(function: Function, rng: &mut Rng) -> u16 {
     match function {
@@ -123,6 +151,9 @@ fn kind_of(function: Function, rng: &mut Rng) -> u16 {
         Function::ReadPosition => one_of(rng, &[3, 32]),
         Function::ReadNull => one_of(rng, &[6, 34]),
         Function::ReadText => one_of(rng, &[16, 36]),
+        Function::CountObservations | Function::ReadEpoch | Function::ObservationAt => {
+            one_of(rng, &[18, 19])
+        }
         _ => inside(rng, 1, 64) as u16,
     }
 }

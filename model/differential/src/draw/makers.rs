@@ -2,11 +2,12 @@
 //! bytes, any count of them.
 
 use super::ends::{around, inside, longer, one_of, z_count};
-use super::{entries, numbers, parts, room, RECORDS};
+use super::{entries, frames, headed, numbers, parts, room, RECORDS};
 use crate::call::{Call, Function};
 use crate::place::Place;
 use rtcm2_model::journal::length_for;
 use rtcm2_model::library::lists::{correction_row, health_row, CORRECTION_SIZE, HEALTH_SIZE};
+use rtcm2_model::library::observations::OBSERVATION_SIZE;
 use rtcm2_model::record::{correction, health, system, text, System};
 use rtcm2_model::rng::Rng;
 
@@ -19,6 +20,7 @@ pub fn call(rng: &mut Rng) -> Call {
         Function::MakePosition,
         Function::MakeNull,
         Function::MakeText,
+        Function::MakeObservations,
     ];
     let function = one_of(rng, &functions);
     let mut given = head(function, rng);
@@ -30,6 +32,14 @@ pub fn call(rng: &mut Rng) -> Call {
             let n = wanted_n(rng);
             size = n as usize;
             given.push(n);
+        }
+        Function::MakeObservations => {
+            let edition = frames::edition(rng);
+            given.push(edition);
+            given.extend(headed::epoch(rng));
+            let bytes = headed::observations(rng, given[0] as u16, edition);
+            size = bytes.len();
+            read.push(Place::starting(rng, &bytes));
         }
         _ => {
             let kind = given[0] as u16;
@@ -49,6 +59,7 @@ fn words(function: Function, size: usize) -> usize {
         Function::Keep => size / 3,
         Function::MakeCorrections => correction::n_for(size / CORRECTION_SIZE),
         Function::MakeHealths => size / HEALTH_SIZE,
+        Function::MakeObservations => 2 * (size / OBSERVATION_SIZE) + 1,
         Function::MakePosition => 4,
         Function::MakeText => size.div_ceil(3),
         _ => size,
@@ -76,6 +87,7 @@ fn kind(function: Function, rng: &mut Rng) -> i64 {
         Function::MakePosition => one_of(rng, &[3, 32]),
         Function::MakeNull => one_of(rng, &[6, 34]),
         Function::MakeText => one_of(rng, &[16, 36]),
+        Function::MakeObservations => one_of(rng, &[18, 19]),
         _ => inside(rng, 1, 64),
     };
     match rng.below(24) {
@@ -181,14 +193,14 @@ fn count(rng: &mut Rng, most: usize) -> usize {
 }
 
 /// Rows of right entries; very many of them are a hundred again and again.
-fn rows(rng: &mut Rng, most: usize, row: impl Fn(&mut Rng) -> Vec<u8>) -> Vec<u8> {
+pub fn rows(rng: &mut Rng, most: usize, row: impl Fn(&mut Rng) -> Vec<u8>) -> Vec<u8> {
     let count = count(rng, most);
     let rows: Vec<Vec<u8>> = (0..count.min(100)).map(|_| row(rng)).collect();
     rows.iter().cycle().take(count).flatten().copied().collect()
 }
 
 /// Changes a byte or two, adds or takes some at the end, or makes all of them random.
-fn spoil(rng: &mut Rng, bytes: &mut Vec<u8>, highest: &[u8]) {
+pub fn spoil(rng: &mut Rng, bytes: &mut Vec<u8>, highest: &[u8]) {
     let size = bytes.len();
     let longer = match rng.below(20) {
         0..=2 => return change(rng, bytes, highest),
@@ -198,7 +210,7 @@ fn spoil(rng: &mut Rng, bytes: &mut Vec<u8>, highest: &[u8]) {
         }
         4 => return bytes.iter_mut().for_each(|byte| *byte = rng.byte()),
         5 => return bytes.truncate(size.saturating_sub(1 + rng.place(4))),
-        6 => size + rng.place(CORRECTION_SIZE + HEALTH_SIZE),
+        6 => size + rng.place(CORRECTION_SIZE + OBSERVATION_SIZE),
         7 => longer(rng, size),
         _ => size,
     };

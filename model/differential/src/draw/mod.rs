@@ -4,6 +4,7 @@ mod bits;
 mod ends;
 mod entries;
 mod frames;
+mod headed;
 mod journals;
 mod makers;
 mod readers;
@@ -111,7 +112,7 @@ fn window(rng: &mut Rng) -> u32 {
 const CODES: [u8; 8] = [0, 1, 2, 127, 128, 191, 192, 255];
 
 /// The type numbers that have a record.
-const RECORDS: [u16; 11] = [1, 3, 5, 6, 9, 16, 31, 32, 33, 34, 36];
+const RECORDS: [u16; 13] = [1, 3, 5, 6, 9, 16, 18, 19, 31, 32, 33, 34, 36];
 
 /// A call of these parts.
 fn parts(function: Function, given: Vec<i64>, read: Vec<Place>, lent: Vec<Place>) -> Call {

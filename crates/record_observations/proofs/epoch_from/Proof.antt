@@ -1,0 +1,24 @@
+-- `epoch_from` meets its contract: the fields by the table. Assumes nothing.
+use mathlib.Core.Path.{_≡_, ap}
+use Prim.Native.Nat.{ℕ, _^_, _<_}
+use native.Mathlib.Omega.{arith}
+use lib.ListN.{getD}
+use borrow.Author.Needs.{needs}
+use Rattle.record_fields.proofs.TableLaws.{fields-fit, row-read}
+use Rattle.record_observations.specs.Observations.{epochWidths, epochMeant}
+use Rattle.record_observations.proofs.epoch_from.Statement.{statement}
+use Rattle.record_observations.proofs.epoch_from.Tie as tie
+
+fit : (c : tie.After-fields) (k : ℕ) → getD (c .fields .result) k 0 < 2 ^ getD epochWidths k 0
+fit c k = let a = c .before .before .args in fields-fit (a .words) epochWidths 0 (c .fields .result) (c .fields .ensures) k
+
+returns : tie.Need-returns
+returns c =
+    let a = c .before .before .args in
+    ap epochMeant (row-read (a .words) epochWidths 0 (c .fields .result) (c .fields .ensures) (search needs) (omega arith))
+
+pub epoch-from-spec : {M : Type 1} → statement M
+epoch-from-spec =
+    tie.close
+    (tie.spec (λ c. search needs) (λ c κs. search needs) (λ c. search needs) (λ c. record { fits = omega (arith, fit c 0) }) (λ c. search needs)
+    (λ c. record { fits = omega (arith, fit c 1) }) (λ c. search needs) returns)
