@@ -2,11 +2,11 @@
 use mathlib.Core.Path.{_≡_, refl, sym, ap, ap₂, _∙_}
 use mathlib.Core.Bool.{Bool, true, false, cond}
 use mathlib.Core.List.{List, [], _∷_, _++_}
-use Prim.Native.Nat.{ℕ, zero, suc, _+_, _*_, _%_, _^_, _≤_, _<_}
+use Prim.Native.Nat.{ℕ, suc, _+_, _*_, _%_, _^_, _≤_, _<_}
 use native.Mathlib.Numerals.{add-one}
 use native.Mathlib.Omega.{arith}
 use lib.Dec.{eqb}
-use lib.ListN.{length, take, drop, getD, set, length-append, length-drop}
+use lib.ListN.{length, take, drop, getD, set, length-append}
 use lib.Seq.{sets, take-suc, drop-cons, drop-length, length-take-le, getD-at, set-at, append-snoc}
 use Rattle.bits.proofs.Stores.{sets-append}
 use Rattle.mender.proofs.TextLaws.{change-short}
@@ -46,7 +46,8 @@ module _ (at : ℕ) (bs ws : List ℕ) (i : ℕ) (h : i < length ws) (long : len
   y = getD ws i 0
 
   split : from at bs ws i ≡ changesFrom (at + i) (x ∷ drop (i + 1) bs) (y ∷ drop (i + 1) ws)
-  split = ap₂ (changesFrom (at + i)) (drop-cons bs i 0 (omega arith) ∙ ap (λ j. x ∷ drop j bs) (sym (add-one i))) (drop-cons ws i 0 h ∙ ap (λ j. y ∷ drop j ws) (sym (add-one i)))
+  split = ap₂ (changesFrom (at + i)) (drop-cons bs i 0 (omega arith) ∙ ap (λ j. x ∷ drop j bs) (sym (add-one i))) (drop-cons ws i 0 h
+      ∙ ap (λ j. y ∷ drop j ws) (sym (add-one i)))
 
   onward : changesFrom (suc (at + i)) (drop (i + 1) bs) (drop (i + 1) ws) ≡ from at bs ws (i + 1)
   onward = ap (λ o. changesFrom o (drop (i + 1) bs) (drop (i + 1) ws)) same

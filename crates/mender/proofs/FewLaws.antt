@@ -1,16 +1,16 @@
 -- How many bytes of a record mending can change: one a word, and N. Assumes nothing.
 use mathlib.Core.Path.{_≡_, refl, sym, ap, ap₂, subst, _∙_}
-use mathlib.Core.Bool.{Bool, true, false, cond, not, _&&_, _||_, true≢false, and-eq-true-iff}
+use mathlib.Core.Bool.{Bool, true, false, cond, not, _&&_, and-eq-true-iff}
 use mathlib.Core.List.{List, [], _∷_, _++_, map}
-use Prim.Native.Nat.{ℕ, zero, suc, _+_, _*_, _%_, _^_, _≤_, _<_}
+use Prim.Native.Nat.{ℕ, zero, suc, _+_, _*_, _≤_, _<_}
 use native.Mathlib.Nat.{mod-eq-of-lt}
 use native.Mathlib.Omega.{arith}
 use lib.Dec.{ltb, eqb}
 use lib.ListN.{length, take, drop, getD, length-append, length-drop, take-append-drop}
 use lib.Seq.{length-take-le}
-use borrow.Author.Tests.{eqb-true, eqb-false, eq-eqb, ltb-false, not-false}
-use Rattle.bits.specs.Bits.{_⊻_, _⊕_, val, weight, differ, bits, number}
-use Rattle.bits.specs.Fields.{Fit, packed, span, octets, AreBytes}
+use borrow.Author.Tests.{eqb-true, eqb-false, eq-eqb, not-false}
+use Rattle.bits.specs.Bits.{_⊻_, val, differ, bits, number}
+use Rattle.bits.specs.Fields.{Fit, packed, octets, AreBytes}
 use Rattle.bits.proofs.Xor.{xor-zero}
 use Rattle.bits.proofs.Numbers.{length-bits, number-bits}
 use Rattle.bits.proofs.FieldLaws.{packed-fields, fits-fields, fit-take, fit-drop}
@@ -20,7 +20,7 @@ use Rattle.journal.specs.Forms.{unmarked}
 use Rattle.journal.proofs.ByteLaws.{length-bytes, bytes-word}
 use Rattle.mender_words.specs.Words.{mendedTo}
 use Rattle.mender_words.proofs.Turned.{mended-near}
-use Rattle.mender.specs.Records.{windowsOf, recordFor}
+use Rattle.mender.specs.Records.{recordFor}
 use Rattle.mender.specs.Report.{Change, changesFrom, differs}
 use Rattle.mender.proofs.ChangeLaws.{first-count}
 
@@ -86,7 +86,8 @@ word-changes at v = omega (
   mended-near v,
 )
 
-pub changes-append : (at : ℕ) (a b c d : List ℕ) → length a ≡ length c → changesFrom at (a ++ b) (c ++ d) ≡ changesFrom at a c ++ changesFrom (at + length a) b d
+pub changes-append : (at : ℕ) (a b c d : List ℕ) → length a ≡ length c
+    → changesFrom at (a ++ b) (c ++ d) ≡ changesFrom at a c ++ changesFrom (at + length a) b d
 unfolding changesFrom
 changes-append at [] b [] d l = ap (λ o. changesFrom o b d) none
   where

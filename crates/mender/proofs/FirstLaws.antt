@@ -6,36 +6,35 @@ use mathlib.Core.List.{List, [], _∷_, _++_, map, append-nil}
 use Prim.Native.Nat.{ℕ, zero, suc, _+_, _*_, _-_, _/_, _%_, _^_, _≤_, _<_}
 use native.Mathlib.Nat.{add-zero, le-of-suc-le-suc, not-suc-le-zero}
 use native.Mathlib.Omega.{arith}
-use lib.Dec.{ltb, eqb}
-use lib.ListN.{length, take, drop, getD, replicate, length-append}
+use lib.Dec.{eqb}
+use lib.ListN.{length, getD, replicate}
 use borrow.Author.Tests.{eqb-true, le-ltb, not-false}
-use Rattle.answer.specs.Order.{answers, NoneApplies}
+use Rattle.answer.specs.Order.{NoneApplies}
 use Rattle.answer.proofs.OrderLaws.{none-parts, says-none, order-answers}
 use Rattle.bits.specs.Bits.{differ, bits, number}
 use Rattle.bits.specs.Fields.{Fit}
-use Rattle.bits.proofs.Numbers.{bits-number}
 use Rattle.word.specs.Word.{dataOf, passes}
 use Rattle.frame.specs.Header.{nOf}
 use Rattle.frame.specs.declared.Frame.{Frame}
 use Rattle.frame.proofs.WidthLaws.{both-false}
-use Rattle.journal.specs.Bytes.{wordIn, written, wordsFrom}
-use Rattle.journal.specs.Forms.{recordWith, nByte, wordsAfter, unmarked, startOrder}
+use Rattle.journal.specs.Bytes.{written, wordsFrom}
+use Rattle.journal.specs.Forms.{recordWith, nByte, wordsAfter, startOrder}
 use Rattle.journal.specs.Journal.{dataOrder, refusedRecall, saysRecalled}
-use Rattle.journal.specs.Words.{dataIn, brokenAfter, carriedIn, broken, liveOrder, recallWordsOrder, foundWords, recalledWords}
+use Rattle.journal.specs.Words.{dataIn, brokenAfter, carriedIn, broken, liveOrder, recallWordsOrder, foundWords}
 use Rattle.journal.proofs.WordLaws.{length-written, words-written}
 use Rattle.journal.proofs.FormLaws.{start-few, start-whole, record-starts, record-words}
 use Rattle.mender_words.specs.Words.{mendedBy, mendedTo}
 use Rattle.mender_words.specs.declared.MendedWord.the-variants.{Sound, Mended}
 use Rattle.mender_words.proofs.Turned.{found-back, back-to}
-use Rattle.mender.specs.Records.{nIn, countedBy, secondOf, countOf, extentOf, windowsOf, reads, recordFor, whole}
-use Rattle.mender.specs.Steps.{judgedAt, sought, stepBy}
+use Rattle.mender.specs.Records.{nIn, secondOf, countOf, extentOf, windowsOf, reads, recordFor}
+use Rattle.mender.specs.Steps.{stepBy}
 use Rattle.mender.specs.Damage.{FewTurned, OneTurned, AllTurned, joinedAll}
-use Rattle.mender.specs.Run.{Run, noRun, skipOf, searchesAfter, joined, runFrom, runOf}
+use Rattle.mender.specs.Run.{Run, skipOf, searchesAfter, joined, runFrom, runOf}
 use Rattle.mender.specs.declared.record.Extent.the-variants as extent
 use Rattle.mender.specs.declared.Step.the-variants.{Whole}
 use Rattle.mender.proofs.RecordLaws.{n-told, count-by}
-use Rattle.mender.proofs.ReadLaws.{clear-reads, whole-reads}
-use Rattle.mender.proofs.StepLaws.{step-judged, whole-judged, record-long}
+use Rattle.mender.proofs.ReadLaws.{clear-reads}
+use Rattle.mender.proofs.StepLaws.{step-judged, whole-judged}
 
 -- ---- words
 

@@ -1,14 +1,14 @@
 -- NO BYTE OF A LOST RECORD CHANGES, over a whole journal; and no byte of a record with a word of two turned bits in a step. Assumes nothing.
-use mathlib.Core.Path.{_≡_, refl, sym, ap, ap₂, subst, _∙_}
+use mathlib.Core.Path.{_≡_, refl, sym, ap, subst, _∙_}
 use mathlib.Core.Bool.{Bool, true, false, _||_, true≢false}
 use mathlib.Core.Logic.{_⊎_, inl, inr}
 use mathlib.Core.List.{List, [], _∷_, _++_, List·Memᴰ, List·Memᴰ·cases-cons, List·Memᴰ·not-nil}
-use Prim.Native.Nat.{ℕ, zero, suc, _+_, _*_, _-_, _^_, _≤_, _<_}
+use Prim.Native.Nat.{ℕ, zero, suc, _+_, _-_, _^_, _≤_, _<_}
 use native.Mathlib.Nat.{add-zero, le-of-suc-le-suc, not-suc-le-zero}
 use native.Mathlib.Omega.{arith}
 use lib.Dec.{ltb}
 use lib.ListN.{length, take, drop, getD}
-use lib.Seq.{drop-append-add, drop-drop, take-at, take-append-le, take-length, length-take-le}
+use lib.Seq.{drop-drop, take-at, length-take-le}
 use Rattle.bits.specs.Bits.{differ, bits}
 use Rattle.word.specs.Word.{passes}
 use Rattle.journal.specs.Forms.{unmarked}
@@ -16,13 +16,13 @@ use Rattle.mender_words.specs.Words.{mendedBy, brokenWord}
 use Rattle.mender_words.proofs.Turned.{two-kept}
 use Rattle.mender.specs.Records.{countOf, windowsOf, spoilt, recordFor}
 use Rattle.mender.specs.Steps.{stepBy, bytesAfter}
-use Rattle.mender.specs.Run.{LostAt, Run, noRun, skipOf, searchesAfter, joined, runFrom, runOf}
+use Rattle.mender.specs.Run.{LostAt, Run, skipOf, searchesAfter, joined, runFrom, runOf}
 use Rattle.mender.specs.declared.Step.{Step}
 use Rattle.mender.specs.declared.Step.the-variants.{End, Whole, Lost, Cut, Numberless, Passed}
 use Rattle.mender.proofs.FewLaws.{marked-by}
 use Rattle.mender.proofs.ReadLaws.{or-true}
 use Rattle.mender.proofs.StepLaws.{record-long, step-passed}
-use Rattle.mender.proofs.SeenLaws.{AllThere, Saw, saw, whole-parts}
+use Rattle.mender.proofs.SeenLaws.{Saw, saw, whole-parts}
 use Rattle.mender.proofs.PlaceLaws.{behind}
 
 -- ---- the first byte of a step stays

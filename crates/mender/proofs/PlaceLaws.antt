@@ -1,31 +1,29 @@
 -- The records of a run, by their places: one that it passed as whole reads from what it left, and no byte of a lost one changes. Assumes nothing.
-use mathlib.Core.Path.{_≡_, refl, sym, ap, ap₂, subst, _∙_}
+use mathlib.Core.Path.{_≡_, refl, sym, ap, subst, _∙_}
 use mathlib.Core.Bool.{Bool, true, false}
 use mathlib.Core.Logic.{_⊎_, inl, inr}
-use mathlib.Core.List.{List, [], _∷_, _++_, map, append-nil, List·Memᴰ, List·Memᴰ·cases-cons, List·Memᴰ·not-nil}
-use Prim.Native.Nat.{ℕ, zero, suc, _+_, _*_, _-_, _≤_}
+use mathlib.Core.List.{List, [], _∷_, _++_, map, List·Memᴰ, List·Memᴰ·cases-cons, List·Memᴰ·not-nil}
+use Prim.Native.Nat.{ℕ, zero, suc, _+_, _-_, _≤_}
 use native.Mathlib.Nat.{add-zero}
 use native.Mathlib.Omega.{arith}
-use lib.ListN.{length, take, drop, replicate, length-append}
-use lib.Seq.{drop-append-add, drop-drop, take-at, take-append-le, length-take-le, take-take}
+use lib.ListN.{length, take, drop, replicate}
+use lib.Seq.{drop-append-add, length-take-le}
 use Rattle.answer.specs.Order.{NoneApplies}
 use Rattle.answer.proofs.OrderLaws.{none-append, none-parts}
 use Rattle.bits.specs.Fields.{Fit}
-use Rattle.journal.specs.Forms.{recordWith, unmarked, wordsAfter, startOrder}
-use Rattle.journal.specs.Words.{liveOrder, recallWordsOrder}
+use Rattle.journal.specs.Forms.{recordWith, wordsAfter, startOrder}
+use Rattle.journal.specs.Words.{liveOrder}
 use Rattle.journal.proofs.WordLaws.{fit-words}
 use Rattle.journal.proofs.FormLaws.{record-starts, record-words}
 use Rattle.mender_words.specs.Words.{mendedTo}
 use Rattle.mender.specs.Records.{countOf, reads, windowsOf, recordFor}
 use Rattle.mender.specs.Steps.{stepBy}
-use Rattle.mender.specs.Run.{LostAt, Run, noRun, skipOf, searchesAfter, joined, runFrom, runOf}
+use Rattle.mender.specs.Run.{Run, skipOf, searchesAfter, joined, runFrom, runOf}
 use Rattle.mender.specs.declared.Step.{Step}
 use Rattle.mender.specs.declared.Step.the-variants.{End, Whole, Lost, Cut, Numberless, Passed}
-use Rattle.mender.proofs.FewLaws.{marked-by}
 use Rattle.mender.proofs.ReadLaws.{reads-clear, clear-reads, fit-mended, count-mended, words-mended}
-use Rattle.mender.proofs.StepLaws.{record-long, step-passed}
-use Rattle.mender.proofs.SeenLaws.{AllThere, Saw, saw, whole-parts}
-use Rattle.mender.proofs.RunLaws.{Told, run-told}
+use Rattle.mender.proofs.StepLaws.{record-long}
+use Rattle.mender.proofs.SeenLaws.{Saw, saw, whole-parts}
 
 -- ---- whole records
 
@@ -40,7 +38,8 @@ record-reads n ws rest h l f none =
 reads-more : (n : ℕ) (bs rest : List ℕ) → n ≤ 31 → reads (recordFor n bs) ≡ true → reads (recordFor n bs ++ rest) ≡ true
 unfolding recordFor
 reads-more n bs rest h e =
-    record-reads n (map mendedTo (windowsOf n bs)) rest h (count-mended n bs) (fit-mended (suc (suc n)) (windowsOf n bs) (fit-words 4 (suc (suc n)) (drop 3 bs)))
+    record-reads n (map mendedTo (windowsOf n bs)) rest h (count-mended n bs)
+    (fit-mended (suc (suc n)) (windowsOf n bs) (fit-words 4 (suc (suc n)) (drop 3 bs)))
     (subst (λ vs. NoneApplies (liveOrder n vs)) (words-mended n bs)
     (none-parts (startOrder 0x34 4 (recordFor n bs)) (liveOrder n (wordsAfter 4 (recordFor n bs))) (reads-clear (recordFor n bs) e) .1))
 
@@ -67,7 +66,8 @@ module _ (b : ℕ) (bs : List ℕ) (at : ℕ) where
   one-more : (k : ℕ) → 1 ≤ k → suc at + (k - 1) ≡ at + k
   one-more k h = omega arith
 
-  later : (k : ℕ) → 1 ≤ k → (new : List ℕ) → length new ≡ k → (next : Run) → Later (k - 1) next → (p : ℕ) → List·Memᴰ p (next .whole) → ReadsAt at (new ++ next .bytes) p
+  later : (k : ℕ) → 1 ≤ k → (new : List ℕ) → length new ≡ k → (next : Run) → Later (k - 1) next → (p : ℕ) → List·Memᴰ p (next .whole)
+      → ReadsAt at (new ++ next .bytes) p
   later k h new l next t p m = reads-behind k at new (next .bytes) p l (subst (λ o. ReadsAt o (next .bytes) p) (one-more k h) (t p m))
 
   joined-reads : (step : Step) → Saw (b ∷ bs) step → (next : Run) → (skipOf step ≤ length bs → Later (skipOf step) next)

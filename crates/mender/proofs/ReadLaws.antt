@@ -1,24 +1,22 @@
 -- Reading a record after mending: what it reads as, and that a record with a broken word does not read. Assumes nothing.
-use mathlib.Core.Path.{_≡_, refl, sym, ap, ap₂, subst, _∙_}
-use mathlib.Core.Bool.{Bool, true, false, cond, not, _&&_, _||_, true≢false}
+use mathlib.Core.Path.{_≡_, refl, sym, ap, _∙_}
+use mathlib.Core.Bool.{Bool, true, false, not, _&&_, _||_, true≢false}
 use mathlib.Core.Logic.{_⊎_, inl, inr}
-use mathlib.Core.List.{List, [], _∷_, _++_, map, append-nil}
-use Prim.Native.Nat.{ℕ, zero, suc, _+_, _*_, _/_, _%_, _^_, _≤_, _<_}
-use native.Mathlib.Omega.{arith}
+use mathlib.Core.List.{List, [], _∷_, map, append-nil}
+use Prim.Native.Nat.{ℕ, zero, suc, _/_, _%_, _^_}
 use lib.Dec.{eqb}
-use lib.ListN.{length, take, drop, replicate}
-use Rattle.answer.specs.Order.{Check, inOrder, NoneApplies, FirstIs}
-use Rattle.answer.proofs.OrderLaws.{first-or-none, order-answers, order-refuses, none-parts, none-append}
+use lib.ListN.{length, drop, replicate}
+use Rattle.answer.specs.Order.{NoneApplies, FirstIs}
+use Rattle.answer.proofs.OrderLaws.{first-or-none, order-answers, order-refuses, none-parts}
 use Rattle.bits.specs.Bits.{bits}
 use Rattle.bits.specs.Fields.{Fit}
 use Rattle.word.specs.Word.{passes}
-use Rattle.journal.specs.Bytes.{wordsFrom}
 use Rattle.journal.specs.Forms.{recordWith, nByte, wordsAfter, startOrder}
 use Rattle.journal.specs.Journal.{dataOrder, refusedRecall}
-use Rattle.journal.specs.Words.{dataIn, brokenAfter, broken, carriedIn, liveOrder, recallWordsOrder, foundWords, recalledWords}
+use Rattle.journal.specs.Words.{dataIn, brokenAfter, broken, carriedIn, liveOrder, recallWordsOrder, foundWords}
 use Rattle.journal.specs.declared.Recalled.{Recalled}
 use Rattle.journal.proofs.WordLaws.{length-words, fit-words}
-use Rattle.journal.proofs.FormLaws.{record-starts, record-words}
+use Rattle.journal.proofs.FormLaws.{record-words}
 use Rattle.mender_words.specs.Words.{mendedBy, brokenWord, mendedTo}
 use Rattle.mender_words.proofs.Turned.{broken-fails, mended-low}
 use Rattle.mender.specs.Records.{isRecord, reads, windowsOf, spoilt, recordFor, whole}

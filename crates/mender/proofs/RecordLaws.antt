@@ -1,10 +1,9 @@
 -- What the code reads and writes of a record: N, where it ends, and its words after mending. Assumes nothing.
 use mathlib.Core.Path.{_≡_, refl, sym, ap, ap₂, _∙_}
-use mathlib.Core.Bool.{Bool, true, false, cond}
+use mathlib.Core.Bool.{Bool}
 use mathlib.Core.List.{List, [], _∷_, _++_, map}
-use Prim.Native.Nat.{ℕ, zero, suc, _+_, _-_, _*_, _≤_, _<_}
+use Prim.Native.Nat.{ℕ, zero, suc, _+_, _-_, _<_}
 use native.Mathlib.Omega.{arith}
-use lib.Dec.{ltb}
 use lib.ListN.{length, take, drop, set, length-set}
 use lib.Seq.{sets, drop-drop}
 use Rattle.bits.specs.Bits.{bits, number}
@@ -17,7 +16,7 @@ use Rattle.journal.specs.Forms.{mark, nByte}
 use Rattle.journal.proofs.ByteLaws.{length-bytes}
 use Rattle.mender_words.specs.Words.{mendedBy, mendedTo}
 use Rattle.mender_words.specs.declared.MendedWord.{MendedWord}
-use Rattle.mender.specs.Records.{nIn, countedBy, secondOf, countOf, windowsOf, recordFor}
+use Rattle.mender.specs.Records.{nIn, countedBy, secondOf, countOf, recordFor}
 
 -- ---- N
 

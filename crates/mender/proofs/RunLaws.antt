@@ -1,23 +1,22 @@
 -- THE RUN leaves a journal of the same length, and reports exactly the bytes that differ. Assumes nothing.
-use mathlib.Core.Path.{_≡_, refl, sym, ap, ap₂, subst, _∙_}
-use mathlib.Core.Bool.{Bool, true, false, cond}
+use mathlib.Core.Path.{_≡_, refl, sym, ap, ap₂, _∙_}
+use mathlib.Core.Bool.{Bool, false, cond}
 use mathlib.Core.List.{List, [], _∷_, _++_, append-nil}
-use Prim.Native.Nat.{ℕ, zero, suc, _+_, _*_, _-_, _≤_}
+use Prim.Native.Nat.{ℕ, zero, suc, _+_, _-_, _≤_}
 use native.Mathlib.Nat.{add-zero}
 use native.Mathlib.Omega.{arith}
-use lib.Dec.{eqb}
 use lib.ListN.{length, take, drop, length-append, take-append-drop}
-use lib.Seq.{length-take-le, take-length}
+use lib.Seq.{length-take-le}
 use borrow.Author.Tests.{eq-eqb}
 use Rattle.mender.specs.Records.{countOf, recordFor}
-use Rattle.mender.specs.Report.{Change, changesFrom}
+use Rattle.mender.specs.Report.{changesFrom}
 use Rattle.mender.specs.Steps.{stepBy}
-use Rattle.mender.specs.Run.{LostAt, Run, noRun, skipOf, searchesAfter, joined, runFrom, runOf}
+use Rattle.mender.specs.Run.{Run, skipOf, searchesAfter, joined, runFrom, runOf}
 use Rattle.mender.specs.declared.Step.{Step}
 use Rattle.mender.specs.declared.Step.the-variants.{End, Whole, Lost, Cut, Numberless, Passed}
 use Rattle.mender.proofs.FewLaws.{changes-append}
 use Rattle.mender.proofs.StepLaws.{record-long}
-use Rattle.mender.proofs.SeenLaws.{AllThere, Saw, saw}
+use Rattle.mender.proofs.SeenLaws.{Saw, saw}
 
 -- ---- changes
 
@@ -84,7 +83,8 @@ joined-told : (b : ℕ) (bs : List ℕ) (at : ℕ) (step : Step) → Saw (b ∷ 
 joined-told b bs at End s next t = absurd (omega arith)
 joined-told b bs at (Whole size) s next t =
     let a = s .0 in
-    puts b bs at size (omega (arith, a .size-is)) (a .there) (recordFor (countOf (b ∷ bs)) (b ∷ bs)) (record-long (countOf (b ∷ bs)) (b ∷ bs) ∙ sym (a .size-is))
+    puts b bs at size (omega (arith, a .size-is)) (a .there) (recordFor (countOf (b ∷ bs)) (b ∷ bs)) (record-long (countOf (b ∷ bs)) (b ∷ bs)
+    ∙ sym (a .size-is))
     (joined (Whole size) at (b ∷ bs) next) next (t (omega (arith, a .there))) refl refl
 joined-told b bs at (Lost size) s next t =
     keeps b bs at size (omega (arith, s .size-is)) (s .there) (joined (Lost size) at (b ∷ bs) next) next (t (omega (arith, s .there))) refl refl

@@ -1,16 +1,14 @@
 -- What a step saw where it says what it found. Assumes nothing.
-use mathlib.Core.Path.{_≡_, refl, sym, ap, subst, _∙_}
-use mathlib.Core.Bool.{Bool, true, false, cond, not, _&&_, and-eq-true-iff}
-use mathlib.Core.List.{List, [], _∷_}
-use Prim.Native.Nat.{ℕ, suc, _+_, _*_, _≤_}
-use native.Mathlib.Omega.{arith}
+use mathlib.Core.Path.{_≡_, refl}
+use mathlib.Core.Bool.{Bool, true, false, cond, not, and-eq-true-iff}
+use mathlib.Core.List.{List}
+use Prim.Native.Nat.{ℕ, _+_, _*_, _≤_}
 use lib.Dec.{ltb, eqb}
 use lib.ListN.{length}
 use borrow.Author.Tests.{eqb-true, ltb-false, not-true}
 use Rattle.journal.specs.Forms.{unmarked}
 use Rattle.mender.specs.Records.{countOf, extentOf, reads, windowsOf, spoilt, recordFor, whole}
 use Rattle.mender.specs.Steps.{judgedAt, sought, stepBy}
-use Rattle.mender.specs.declared.record.Extent.{Extent}
 use Rattle.mender.specs.declared.record.Extent.the-variants as extent
 use Rattle.mender.specs.declared.Step.{Step}
 use Rattle.mender.specs.declared.Step.the-variants.{End, Whole, Lost, Cut, Numberless, Passed}

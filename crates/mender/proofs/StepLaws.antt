@@ -1,19 +1,18 @@
 -- A step by the tests of the code: what is answered and left for each. Assumes nothing.
 use mathlib.Core.Path.{_≡_, refl, sym, ap, ap₂, subst, _∙_}
 use mathlib.Core.Bool.{Bool, true, false, cond}
-use mathlib.Core.List.{List, [], _∷_, _++_}
-use Prim.Native.Nat.{ℕ, suc, _+_, _*_, _≤_, _<_}
+use mathlib.Core.List.{List, _++_}
+use Prim.Native.Nat.{ℕ, _+_, _*_, _≤_, _<_}
 use native.Mathlib.Omega.{arith}
-use lib.Dec.{ltb, eqb}
+use lib.Dec.{ltb}
 use lib.ListN.{length, take, drop}
 use lib.Seq.{sets, sets-eq, take-at}
 use borrow.Author.Tests.{le-ltb, lt-ltb, eq-eqb, ne-eqb, ltb-false}
 use Rattle.bits.specs.Fields.{AreBytes}
 use Rattle.journal.specs.Forms.{unmarked}
 use Rattle.journal.proofs.FormLaws.{length-with}
-use Rattle.mender_words.specs.Words.{mendedTo}
-use Rattle.mender.specs.Records.{countOf, extentOf, reads, windowsOf, recordFor, whole}
-use Rattle.mender.specs.Report.{changesFrom, changeLines, lostLine}
+use Rattle.mender.specs.Records.{countOf, extentOf, reads, recordFor}
+use Rattle.mender.specs.Report.{changesFrom, changeLines}
 use Rattle.mender.specs.Steps.{judgedAt, sought, stepBy, bytesAfter, reportOf, reportRoom, doneMend, foundBy, missedBy, missedText}
 use Rattle.mender.specs.Steps.{refusedMend, mendBy, bytesTo, outputTo}
 use Rattle.mender.specs.declared.record.Extent.{Extent}

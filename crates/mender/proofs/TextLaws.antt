@@ -1,13 +1,12 @@
 -- The lines of the report: how long they are, and that they are stored part after part. Assumes nothing.
-use mathlib.Core.Path.{_≡_, refl, sym, ap, _∙_}
+use mathlib.Core.Path.{_≡_, sym, _∙_}
 use mathlib.Core.Bool.{Bool, true, false, cond}
 use mathlib.Core.List.{List, [], _∷_, _++_}
-use Prim.Native.Nat.{ℕ, zero, suc, _+_, _*_, _/_, _%_, _^_, _≤_, _<_}
+use Prim.Native.Nat.{ℕ, suc, _+_, _/_, _≤_, _<_}
 use native.Mathlib.Omega.{arith}
 use lib.Dec.{ltb}
 use lib.ListN.{length, set, length-append, length-set}
 use lib.Seq.{sets}
-use borrow.Author.Tests.{lt-ltb}
 use Rattle.printing.specs.Printing.{digitsUpTo, decimal}
 use Rattle.printing.proofs.DigitLaws.{length-decimal, decimal-le, count-last}
 use Rattle.printing.proofs.StoreLaws.{length-stored, stored-then}

@@ -1,17 +1,17 @@
 -- PIECES: a step looks at no more than 135 bytes, so that a step on a window of a journal is the step on the journal. Assumes nothing.
-use mathlib.Core.Path.{_≡_, refl, sym, ap, ap₂, subst, _∙_}
+use mathlib.Core.Path.{_≡_, refl, sym, ap, ap₂, _∙_}
 use mathlib.Core.Bool.{Bool, true, false, cond, not, _&&_, _||_}
-use mathlib.Core.List.{List, [], _∷_, _++_, map, append-assoc}
-use Prim.Native.Nat.{ℕ, zero, suc, _+_, _*_, _≤_, _<_}
+use mathlib.Core.List.{List, _∷_, _++_, map, append-assoc}
+use Prim.Native.Nat.{ℕ, zero, suc, _+_, _*_, _≤_}
 use native.Mathlib.Omega.{arith}
 use lib.Dec.{ltb, eqb}
-use lib.ListN.{length, take, drop, getD, length-append, length-drop, List·getD-append}
+use lib.ListN.{length, take, drop, length-append, length-drop, List·getD-append}
 use lib.Seq.{take-append-le, drop-append-le}
 use borrow.Author.Tests.{le-ltb, ne-eqb, ltb-false}
 use Rattle.journal.specs.Bytes.{wordIn, wordsFrom}
-use Rattle.journal.specs.Forms.{recordWith, nByte, unmarked}
+use Rattle.journal.specs.Forms.{recordWith, unmarked}
 use Rattle.mender_words.specs.Words.{mendedBy, mendedTo}
-use Rattle.mender.specs.Records.{countedBy, secondOf, countOf, extentOf, windowsOf, spoilt, reads, recordFor, whole}
+use Rattle.mender.specs.Records.{countedBy, countOf, extentOf, windowsOf, spoilt, reads, recordFor, whole}
 use Rattle.mender.specs.Report.{changesFrom, changeLines}
 use Rattle.mender.specs.Steps.{judgedAt, sought, stepBy, bytesAfter, reportOf}
 use Rattle.mender.specs.declared.record.Extent.{Extent}
@@ -69,7 +69,8 @@ module _ (w e : List ℕ) (h : 135 ≤ length w) where
       later = cond (ltb 31 (countOf bs)) extent.Numberless (cond (ltb (length bs) (4 * countOf bs + 11)) extent.Cut (extent.N (countOf bs)))
 
       go : (t : Bool) → ltb 31 (countOf bs) ≡ t
-          → cond t extent.Numberless (cond (ltb (length bs) (4 * countOf bs + 11)) extent.Cut (extent.N (countOf bs))) ≡ cond t extent.Numberless (extent.N (countOf bs))
+          → cond t extent.Numberless (cond (ltb (length bs) (4 * countOf bs + 11)) extent.Cut (extent.N (countOf bs))) ≡ cond t extent.Numberless
+          (extent.N (countOf bs))
       go true q = refl
       go false q =
           ap (λ t. cond t extent.Cut (extent.N (countOf bs))) (le-ltb (length bs) (4 * countOf bs + 11) (omega (arith, ltb-false 31 (countOf bs) q)))

@@ -9,7 +9,8 @@ ghost use Rattle.journal.specs.Forms.{unmarked};
 ghost use Rattle.mender.specs.Records.{countOf, reads};
 ghost use Rattle.mender.specs.Report.{changesFrom, changeLines};
 ghost use Rattle.mender.specs.Run.{aheadBy, nextOf};
-ghost use Rattle.mender.specs.Steps.{judgedAt, sought, bytesAfter, reportOf, reportRoom, doneMend, foundBy, missedBy, missedText, mendBy, bytesTo, outputTo};
+ghost use Rattle.mender.specs.Steps.{judgedAt, sought, bytesAfter, reportOf, reportRoom, doneMend, foundBy, missedBy, missedText};
+ghost use Rattle.mender.specs.Steps.{mendBy, bytesTo, outputTo};
 ghost use Rattle.mender.specs.declared.record.Extent.the-variants.{N};
 
 mod record;
@@ -130,7 +131,8 @@ fn mend_record(n: usize, bytes: &mut [u8], at: u64, searching: bool, output: &mu
     requires { ⌜ reportRoom ≤ length (now output) ⌝ }
     ensures { λ r. ⌜ r ≡ foundBy (sought searching (judgedAt (N n) (now (bytes .entry)))) at (now (bytes .entry)) ⌝ }
     ensures { λ _. ⌜ now (bytes .exit) ≡ bytesAfter (sought searching (judgedAt (N n) (now (bytes .entry)))) (now (bytes .entry)) ⌝ }
-    ensures { λ _. ⌜ now (output .exit) ≡ sets (now (output .entry)) 0 (reportOf at (sought searching (judgedAt (N n) (now (bytes .entry)))) (now (bytes .entry))) ⌝ }
+    ensures { λ _. ⌜ now (output .exit)
+        ≡ sets (now (output .entry)) 0 (reportOf at (sought searching (judgedAt (N n) (now (bytes .entry)))) (now (bytes .entry))) ⌝ }
 {
     let mut copy = [0u8; LONGEST];
     record::put_record(n, bytes, &mut copy);

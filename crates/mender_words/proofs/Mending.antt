@@ -1,29 +1,26 @@
 -- Mending a window: what the code's tests say of it, and what is promised. Assumes nothing.
 use mathlib.Core.Path.{_≡_, refl, sym, ap, ap₂, subst, _∙_}
-use mathlib.Core.Bool.{Bool, true, false, cond, true≢false}
+use mathlib.Core.Bool.{Bool, true, false, cond}
 use mathlib.Core.List.{List, [], _∷_}
-use Prim.Native.Nat.{ℕ, zero, suc, _+_, _*_, _-_, _%_, _^_, _≤_, _<_}
-use native.Mathlib.Nat.{mod-eq-of-lt, pow-suc}
+use Prim.Native.Nat.{ℕ, zero, suc, _-_, _%_, _^_, _<_}
+use native.Mathlib.Nat.{mod-eq-of-lt}
 use native.Mathlib.Omega.{arith}
-use lib.Bits.{bitXor, xor-self as bitXor-self, xor-zero-l, xor-comm, xor-lt}
+use lib.Bits.{bitXor, xor-self as bitXor-self, xor-lt}
 use lib.Count.{ones}
-use lib.Dec.{eqb}
-use lib.ListN.{length, getD}
-use lib.Pow.{pow-pos}
-use borrow.Author.Tests.{eqb-true, eqb-false, eq-eqb}
-use Rattle.bits.specs.Bits.{_⊻_, _⊕_, odd, val, weight, differ, isNonzero, isOdd, bits, number}
-use Rattle.bits.proofs.Xor.{xor-self, xor-assoc, xor-cancel, length-xors, odd-weight}
-use Rattle.bits.proofs.Numbers.{length-bits, number-bits, number-lt, bits-number, bits-xor, number-inj, number-xor}
+use lib.ListN.{length}
+use borrow.Author.Tests.{eqb-true, eq-eqb}
+use Rattle.bits.specs.Bits.{_⊻_, _⊕_, odd, weight, differ, isNonzero, bits, number}
+use Rattle.bits.proofs.Xor.{xor-self, xor-assoc, xor-cancel}
+use Rattle.bits.proofs.Numbers.{length-bits, number-bits, number-lt, bits-number, bits-xor, number-xor}
 use Rattle.word.specs.Word.{remainderOf, passes}
 use Rattle.word.specs.Answer.{testedBy, remainderAt}
 use Rattle.word.specs.declared.Tested.the-variants.{Passed, Failed}
-use Rattle.word.proofs.Linearity.{remainder-xor, passes-zero, zeros}
-use Rattle.word.proofs.Distance.{odd-remainder, few-turned}
-use Rattle.word.proofs.Testing.{six-long, tested-passed, tested-failed, FailedWith, ones-odd, odd-told}
-use Rattle.mender_words.specs.Words.{ownRemainders, placeOf, turnedAt, mendedBy, brokenWord, windowAfter, mendedTo}
+use Rattle.word.proofs.Linearity.{remainder-xor}
+use Rattle.word.proofs.Testing.{six-long, tested-passed, tested-failed, FailedWith, ones-odd}
+use Rattle.mender_words.specs.Words.{placeOf, turnedAt, mendedBy}
 use Rattle.mender_words.specs.declared.MendedWord.{MendedWord}
 use Rattle.mender_words.specs.declared.MendedWord.the-variants.{Sound, Mended, Broken}
-use Rattle.mender_words.proofs.Places.{alone, alone-low, own-remainder, own-place, alone-one, Placed, every-place}
+use Rattle.mender_words.proofs.Places.{alone, alone-low, own-remainder, alone-one, Placed, every-place}
 
 -- ---- the three answers of the code
 

@@ -1,30 +1,22 @@
 -- A window with one turned bit is mended to what it was, one with two is not touched; and the window after mending. Assumes nothing.
-use mathlib.Core.Path.{_≡_, refl, sym, ap, ap₂, subst, _∙_}
-use mathlib.Core.Bool.{Bool, true, false, cond, true≢false}
+use mathlib.Core.Path.{_≡_, refl, sym, ap, _∙_}
+use mathlib.Core.Bool.{Bool, true, false, true≢false}
 use mathlib.Core.Logic.{_⊎_, inl, inr}
 use mathlib.Core.List.{List, [], _∷_}
-use Prim.Native.Nat.{ℕ, zero, suc, _+_, _*_, _-_, _%_, _^_, _≤_, _<_}
-use native.Mathlib.Nat.{mod-eq-of-lt, pow-suc}
+use Prim.Native.Nat.{ℕ, zero, suc, _+_, _*_, _-_, _^_, _≤_, _<_}
 use native.Mathlib.Omega.{arith}
-use lib.Bits.{bitXor, xor-self as bitXor-self, xor-zero-l, xor-comm, xor-lt}
-use lib.Count.{ones}
-use lib.Dec.{eqb}
+use lib.Bits.{bitXor, xor-zero-l, xor-comm, xor-lt}
 use lib.ListN.{length, getD}
-use lib.Pow.{pow-pos}
-use borrow.Author.Tests.{eqb-true, eqb-false, eq-eqb}
-use Rattle.bits.specs.Bits.{_⊻_, _⊕_, odd, val, weight, differ, isNonzero, isOdd, bits, number}
-use Rattle.bits.proofs.Xor.{xor-self, xor-assoc, xor-cancel, length-xors, odd-weight}
-use Rattle.bits.proofs.Numbers.{length-bits, number-bits, number-lt, bits-number, bits-xor, number-inj, number-xor}
+use Rattle.bits.specs.Bits.{_⊕_, odd, val, weight, differ, isOdd, bits, number}
+use Rattle.bits.proofs.Xor.{xor-self, length-xors, odd-weight}
+use Rattle.bits.proofs.Numbers.{length-bits, bits-xor}
 use Rattle.word.specs.Word.{remainderOf, passes}
-use Rattle.word.specs.Answer.{testedBy, remainderAt}
-use Rattle.word.specs.declared.Tested.the-variants.{Passed, Failed}
-use Rattle.word.proofs.Linearity.{remainder-xor, passes-zero, zeros}
-use Rattle.word.proofs.Distance.{odd-remainder, few-turned}
-use Rattle.word.proofs.Testing.{six-long, tested-passed, tested-failed, FailedWith, ones-odd, odd-told}
-use Rattle.mender_words.specs.Words.{ownRemainders, placeOf, turnedAt, mendedBy, brokenWord, windowAfter, mendedTo}
-use Rattle.mender_words.specs.declared.MendedWord.{MendedWord}
+use Rattle.word.specs.Answer.{remainderAt}
+use Rattle.word.proofs.Distance.{few-turned}
+use Rattle.word.proofs.Testing.{odd-told}
+use Rattle.mender_words.specs.Words.{ownRemainders, placeOf, mendedBy, brokenWord, windowAfter, mendedTo}
 use Rattle.mender_words.specs.declared.MendedWord.the-variants.{Sound, Mended, Broken}
-use Rattle.mender_words.proofs.Places.{alone, alone-low, own-remainder, own-place, alone-one, Placed, every-place}
+use Rattle.mender_words.proofs.Places.{alone, own-remainder, own-place}
 use Rattle.mender_words.proofs.Mending.{number-of, twice, remainder-of-xor, zero-passed, by-mended, turned-sound}
 
 -- ---- ONE TURNED BIT is turned back

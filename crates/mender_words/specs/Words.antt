@@ -1,7 +1,7 @@
 -- What mending makes of a window, the 32 bits of a word and of the two before it, as a number, the first sent highest. Assumes nothing.
 use mathlib.Core.Bool.{Bool, true, false, cond}
 use mathlib.Core.List.{List, [], _∷_}
-use Prim.Native.Nat.{ℕ, zero, suc, _-_, _^_}
+use Prim.Native.Nat.{ℕ, suc, _-_, _^_}
 use lib.Bits.{bitXor}
 use lib.Dec.{eqb}
 use Rattle.bits.specs.Bits.{odd, bits}

@@ -2,18 +2,17 @@
 -- common frame. Assumes nothing.
 use mathlib.Core.Path.{_≡_, refl, sym, ap, ap₂, subst, _∙_}
 use mathlib.Core.Bool.{Bool}
-use mathlib.Core.List.{List, _∷_, _++_, map, List·Memᴰ}
+use mathlib.Core.List.{List, _++_, map, List·Memᴰ}
 use Prim.Native.Nat.{ℕ}
 use lib.ListN.{length, drop}
 use lib.Seq.{drop-at}
 use Rattle.line.specs.Line.{lineBits}
-use Rattle.stream.specs.Standing.{Placed}
 use Rattle.stream.specs.Joining.{framesBy, onLine, laterThan}
 use Rattle.stream.proofs.Joining.{joined}
 use Rattle.reader.specs.Reading.{started}
 use Rattle.promises.specs.Calls.{Call, afterAll, bitsTaken, outcome}
 use Rattle.promises.specs.Demand3.{found}
-use Rattle.promises.specs.LateJoiners.{Joins, LateJoiner, FromAByteOn, LateJoiners}
+use Rattle.promises.specs.LateJoiners.{LateJoiner, FromAByteOn, LateJoiners}
 use Rattle.promises.proofs.Demand3.{nothing-lost, fresh-served, last-ended, last-none, last-bits}
 use Rattle.promises.proofs.Telling.{bits-after}
 

@@ -17,7 +17,7 @@ use Rattle.record_observations.specs.declared.Mark.the-variants.{Half, Reserved
 use Rattle.record_observations.specs.declared.meanings.Frequency.the-variants as frequency
 use Rattle.record_observations.specs.declared.meanings.Step.the-variants as step
 use Rattle.record_observations.specs.Editions.{quantityOf, markNumber}
-use Rattle.record_observations.specs.Meanings.{firstCode, otherBand, bandOf, frequencyOf, halfStep, stepOf, phaseStep, saysFrequency, saysStep}
+use Rattle.record_observations.specs.Meanings.{firstCode, otherBand, bandOf, frequencyOf, stepOf, phaseStep, saysFrequency, saysStep}
 
 -- a band is no refusal
 as-band : (e : Edition) (q : Quantity) (c : ℕ) → saysFrequency (bandOf e q c) ≡ answers (bandOf e q c)

@@ -1,5 +1,5 @@
 -- The xor law holds of windows as bits by the laws of `word`, and of windows as numbers through their 32 bits. Assumes nothing.
-use mathlib.Core.Path.{_≡_, refl, sym, ap, ap₂, _∙_}
+use mathlib.Core.Path.{_≡_, refl, sym, ap, _∙_}
 use mathlib.Core.Bool.{true, false, true≢false}
 use Prim.Native.Nat.{ℕ, _%_, _^_}
 use lib.Bits.{bitXor, xor-zero-r}

@@ -11,7 +11,7 @@ use lib.Dec.{eqb}
 use lib.Bits.{bitXor, xor-lt, xor-shr, xor-mod, xor-block, xor-self, xor-zero-l, xor-zero-r, xor-shifted}
 use lib.Pow.{pow-pos}
 use borrow.Author.Tests.{eqb-true, eqb-false, eq-eqb, ne-eqb}
-use Rattle.bits.specs.Bits.{_⊻_, _⊕_, isOdd, bits, number}
+use Rattle.bits.specs.Bits.{_⊕_, isOdd, bits, number}
 use Rattle.bits.proofs.Xor.{xor-four}
 use Rattle.bits.proofs.Numbers.{number-bits, bits-xor, number-xor}
 use Rattle.word.specs.Word.{remainderOf, received, computed, parity, dataOf, passes}

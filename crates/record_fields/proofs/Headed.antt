@@ -7,8 +7,8 @@ use Prim.Native.Nat.{ℕ, zero, suc, _+_, _*_, _-_, _/_, _%_, _≤_, _<_}
 use native.Mathlib.Omega.{arith}
 use lib.ListN.{length, take, drop, getD, length-take, length-drop, length-map, length-append, take-append-drop}
 use lib.Seq.{drop-at, take-at, take-add, ext-getD}
-use Rattle.bits.specs.Fields.{fieldsAt, span, Fit}
-use Rattle.bits.specs.Rows.{dataBits, cutWords, packedRows, rowsAt, AllFit, fillOf, filled, wordsIn, FillAfter}
+use Rattle.bits.specs.Fields.{span}
+use Rattle.bits.specs.Rows.{dataBits, cutWords, packedRows, rowsAt, fillOf, filled, wordsIn, FillAfter}
 use Rattle.bits.proofs.RowLaws.{rows-put, put-rows, fits-rows, length-rows-at, rows-at}
 use Rattle.bits.proofs.WordLaws.{length-data, length-words, length-fill, data-wordsIn}
 use Rattle.frame.specs.Frames.{framed, bare, dataWords}

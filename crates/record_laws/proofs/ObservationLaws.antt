@@ -1,7 +1,7 @@
 -- What the layout of types 18 and 19 owes, once over the edition and over what the type measures: its codes are faithful, and its ranges are
 -- those in words. Only the first bit goes by the edition, only the width of the quality and what is measured by the type. Assumes nothing.
-use mathlib.Core.Path.{_≡_, refl, ap, ap₂, _∙_}
-use mathlib.Core.Bool.{Bool, true, false, or-false}
+use mathlib.Core.Path.{_≡_, refl, ap, _∙_}
+use mathlib.Core.Bool.{true, false, or-false}
 use mathlib.Core.List.{List}
 use Prim.Native.Nat.{ℕ, _-_, _%_, _^_, _≤_, _<_}
 use native.Mathlib.Nat.{mod-eq-of-lt}

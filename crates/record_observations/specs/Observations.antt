@@ -6,7 +6,7 @@ use mathlib.Core.List.{List, [], _∷_}
 use Prim.Native.Nat.{ℕ, _+_, _*_, _-_, _^_, _≤_, _<_}
 use lib.Dec.{ltb}
 use lib.ListN.{length, take, getD}
-use Rattle.answer.specs.Order.{Says, refuses, answers, Check, inOrder}
+use Rattle.answer.specs.Order.{Says, refuses, answers, inOrder}
 use Rattle.bits.specs.Fields.{fieldsAt, packed}
 use Rattle.frame.specs.Widths.{anyOf, outside}
 use Rattle.frame.specs.declared.Header.{Header}

@@ -40,7 +40,13 @@ module _ (bs : List ℕ) (at searching : ℕ) (report : List ℕ) where
       sym (ap numberOf says),
       (
         bytes-is,
-        (report-is, (sym (ap (λ t. left t (λ v. stepNumber (v .0)) step) says), (sym (ap (λ t. left t (λ v. onOf (v .0) (length bs)) read) says), sym (ap (λ t. left t (λ v. v .1) written) says)))),
+        (
+          report-is,
+          (
+            sym (ap (λ t. left t (λ v. stepNumber (v .0)) step) says),
+            (sym (ap (λ t. left t (λ v. onOf (v .0) (length bs)) read) says), sym (ap (λ t. left t (λ v. v .1) written) says)),
+          ),
+        ),
       ),
     )
       where

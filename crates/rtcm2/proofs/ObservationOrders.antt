@@ -7,7 +7,7 @@ use Prim.Native.Nat.{ℕ, _+_, _*_, _≤_}
 use native.Mathlib.Omega.{arith}
 use lib.Dec.{ltb, leb}
 use lib.ListN.{length, take, length-take}
-use Rattle.answer.specs.Order.{Says, refuses, answers, Check, inOrder, NoneApplies}
+use Rattle.answer.specs.Order.{Says, refuses, answers, inOrder, NoneApplies}
 use Rattle.answer.proofs.OrderLaws.{order-map, says-order}
 use Rattle.bits.specs.Fields.{AreBytes, span}
 use Rattle.frame.specs.Widths.{outside}
@@ -16,7 +16,7 @@ use Rattle.frame.specs.declared.Header.{Header}
 use Rattle.frame.specs.declared.Layout.the-variants as layout
 use Rattle.journal.specs.Journal.{recallOrder}
 use Rattle.record_fields.proofs.Headed.{after-inside}
-use Rattle.record_stages.specs.Stages.{heldAfter, misfitAfter, wrongCount, readOrder, makeOrder, saysCount}
+use Rattle.record_stages.specs.Stages.{heldAfter, misfitAfter, readOrder, makeOrder, saysCount}
 use Rattle.record_stages.specs.declared.Count.the-variants as count
 use Rattle.record_stages.proofs.ListCode.{told-some-few}
 use Rattle.record_observations.specs.declared.Edition.{Edition}
@@ -35,7 +35,7 @@ use Rattle.rtcm2.specs.Frames.{frameSaid, keptTo}
 use Rattle.rtcm2.specs.Rows.{rowTo}
 use Rattle.rtcm2.specs.declared.observation.Named.the-variants as named
 use Rattle.rtcm2.specs.Observations.{editionNamed, saysNamed, editionSaid, countSaid, epochSaid, readSaid, entrySaid, rowsMade, madeSaid}
-use Rattle.rtcm2.specs.Orders.{frameFrom, headerWith, observationChecks, lateChecks, observationsCounted, epochOrder, observationIn, satelliteChecks}
+use Rattle.rtcm2.specs.Orders.{frameFrom, headerWith, lateChecks, observationsCounted, epochOrder, observationIn, satelliteChecks}
 use Rattle.rtcm2.specs.Orders.{observationOrder, observationRows, observationCount, observationsFrame, observationsOwn, observationsOrder}
 use Rattle.rtcm2.proofs.ReadOrders.{read-order, record-order, row-order}
 use Rattle.rtcm2.proofs.MakeOrders.{make-order}

@@ -48,7 +48,8 @@ pub extern "C" fn rtcm2_mend(
     ensures { λ _. ⌜ now (bytes .exit) ≡ bytesTo (now (bytes .entry)) (isNonzero searching) (now (report .entry)) ⌝ }
     ensures { λ _. ⌜ now (report .exit) ≡ outputTo (now (bytes .entry)) at (isNonzero searching) (now (report .entry)) ⌝ }
     ensures { λ _. ⌜ now (step .exit) ≡ left (mendSaid (now (bytes .entry)) at searching (now (report .entry))) (λ v. stepNumber (v .0)) (now (step .entry)) ⌝ }
-    ensures { λ _. ⌜ now (read .exit) ≡ left (mendSaid (now (bytes .entry)) at searching (now (report .entry))) (λ v. onOf (v .0) (length (now (bytes .entry)))) (now (read .entry)) ⌝ }
+    ensures { λ _. ⌜ now (read .exit)
+        ≡ left (mendSaid (now (bytes .entry)) at searching (now (report .entry))) (λ v. onOf (v .0) (length (now (bytes .entry)))) (now (read .entry)) ⌝ }
     ensures { λ _. ⌜ now (written .exit) ≡ left (mendSaid (now (bytes .entry)) at searching (now (report .entry))) (λ v. v .1) (now (written .entry)) ⌝ }
 {
     let count = bytes.len();

@@ -1,6 +1,6 @@
 -- Observations that the library makes read back in their edition: the head, and each row's own bytes. Assumes nothing.
 use mathlib.Core.Path.{_≡_, refl, sym, ap, subst, _∙_}
-use mathlib.Core.Bool.{Bool, true, false, _||_, cond}
+use mathlib.Core.Bool.{Bool, true, false, _||_}
 use mathlib.Core.List.{List, [], _∷_, _++_}
 use Prim.Native.Nat.{ℕ, _+_, _*_, _^_, _≤_, _<_}
 use native.Mathlib.Omega.{arith}
@@ -8,7 +8,7 @@ use lib.Dec.{ltb}
 use lib.ListN.{length, take, drop, getD, length-drop, length-take}
 use lib.Seq.{take-all, getD-take}
 use borrow.Author.Tests.{le-ltb}
-use Rattle.answer.specs.Order.{Says, refuses, answers, inOrder}
+use Rattle.answer.specs.Order.{Says, refuses, answers}
 use Rattle.answer.proofs.OrderLaws.{refuses-apart}
 use Rattle.bits.specs.Rows.{wordsIn}
 use Rattle.bits.specs.Fields.{AreBytes, Fit, octets}
@@ -29,8 +29,8 @@ use Rattle.record_observations.specs.declared.Epoch.{Epoch}
 use Rattle.record_observations.specs.declared.Observation.{Observation}
 use Rattle.record_observations.specs.Editions.{quantityOf}
 use Rattle.record_observations.specs.Observations as observation
-use Rattle.rtcm2_rows.specs.Rows.{rowSize, countOf, entryOf, entriesFrom, rowAfter}
-use Rattle.rtcm2_rows.specs.Observations.{row, measuredWith, fourBytes}
+use Rattle.rtcm2_rows.specs.Rows.{countOf, entryOf, entriesFrom, rowAfter}
+use Rattle.rtcm2_rows.specs.Observations.{row, fourBytes}
 use Rattle.rtcm2_rows.proofs.RowLaws.{entry-at, count-held, length-entries}
 use Rattle.rtcm2_rows.proofs.Trips.{byte-small, each-read}
 use Rattle.rtcm2_rows.proofs.ObservationRows.{named-again, sent-named, measured-typed}

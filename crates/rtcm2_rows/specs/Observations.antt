@@ -2,9 +2,8 @@
 -- multipath, which number it is (0 a phase, 1 a range), and the number in four bytes with the low one first. Assumes nothing.
 use mathlib.Core.Bool.{cond}
 use mathlib.Core.List.{List, [], _∷_}
-use Prim.Native.Nat.{ℕ, _+_, _*_, _/_, _%_, _^_, _≤_, _<_}
+use Prim.Native.Nat.{ℕ, _+_, _*_, _/_, _%_, _≤_}
 use lib.Dec.{eqb}
-use lib.Signed.{mag}
 use lib.ListN.{getD, replicate}
 use Rattle.bits.specs.Signed.{signed, code}
 use Rattle.record_fields.specs.Coding.{Coding}

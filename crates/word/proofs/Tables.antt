@@ -9,7 +9,7 @@ use lib.Dec.{lit<, eqb}
 use lib.Bits.{bitXor}
 use lib.ListN.{length, getD, replicate}
 use borrow.Author.Tests.{eqb-true}
-use Rattle.bits.specs.Bits.{_⊻_, _⊕_, isOdd, val, bits, number}
+use Rattle.bits.specs.Bits.{_⊕_, isOdd, val, bits, number}
 use Rattle.bits.proofs.Xor.{xor-false, val-odd}
 use Rattle.bits.proofs.Numbers.{length-bits, bits-split, bits-mod, number-xor}
 use Rattle.word.specs.Word.{d29*, d30*, rows, parity, dataOf}

@@ -4,9 +4,6 @@ use lib.ListN.{length}
 use borrow.Author.Needs.{needs}
 use Rattle.mend.proofs.lines_in.Statement.{statement}
 use Rattle.mend.proofs.lines_in.Tie as tie
-use Rattle.mend.proofs.lines_in.Reads as reads
-use Rattle.mend.proofs.lines_in.Lts as lts
-use Rattle.std.proofs.num.wrapping_add_u64.Reads as wrapping-add-u64-reads
 
 abbrev Inv-loop : tie.InvT-loop
 Inv-loop text lines₀ i₀ lines i = Unit {0}

@@ -4,12 +4,6 @@ use lib.ListN.{length}
 use borrow.Author.Needs.{needs}
 use Rattle.mend.proofs.mend_all.Statement.{statement}
 use Rattle.mend.proofs.mend_all.Tie as tie
-use Rattle.mend.proofs.mend_all.Reads as reads
-use Rattle.mend.proofs.mend_all.Lts as lts
-use Rattle.io.proofs.large_buffer.Reads as large-buffer-reads
-use Rattle.mend.proofs.mend_some.Reads as mend-some-reads
-use Rattle.mend.proofs.print_progress.Reads as print-progress-reads
-use Rattle.mend.proofs.print_totals.Reads as print-totals-reads
 
 abbrev Inv-loop : tie.InvT-loop
 Inv-loop input output is-told buffer₀ kept₀ state₀ turns₀ buffer kept state turns = length buffer ≡ 65536

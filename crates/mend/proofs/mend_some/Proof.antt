@@ -1,18 +1,10 @@
 -- `mend_some` is safe: no more bytes are dealt with than were read. Assumes nothing.
-use mathlib.Core.Path.{_≡_, sym}
+use mathlib.Core.Path.{sym}
 use native.Mathlib.Omega.{arith}
 use lib.Seq.{length-take-le}
 use borrow.Author.Needs.{needs}
 use Rattle.mend.proofs.mend_some.Statement.{statement}
 use Rattle.mend.proofs.mend_some.Tie as tie
-use Rattle.mend.proofs.mend_some.Reads as reads
-use Rattle.mend.proofs.mend_some.Lts as lts
-use Rattle.io.proofs.count.Reads as count-reads
-use Rattle.io.proofs.write_all.Reads as write-all-reads
-use Rattle.libc.proofs.read.Reads as read-reads
-use Rattle.mend.proofs.failure.Reads as failure-reads
-use Rattle.mend.proofs.mend_window.Reads as mend-window-reads
-use Rattle.mend.proofs.move_down.Reads as move-down-reads
 
 slice-aggregate-failure : tie.Need-slice-aggregate-failure
 slice-aggregate-failure c = search needs

@@ -1,20 +1,10 @@
 -- `mend_step` is safe: the report is no longer than its buffer. Assumes nothing.
-use mathlib.Core.Path.{_≡_, sym}
+use mathlib.Core.Path.{sym}
 use native.Mathlib.Omega.{arith}
 use lib.Seq.{length-take-le}
 use borrow.Author.Needs.{needs}
 use Rattle.mend.proofs.mend_step.Statement.{statement}
 use Rattle.mend.proofs.mend_step.Tie as tie
-use Rattle.mend.proofs.mend_step.Reads as reads
-use Rattle.mend.proofs.mend_step.Lts as lts
-use Rattle.io.proofs.buffer.Reads as buffer-reads
-use Rattle.io.proofs.write_all.Reads as write-all-reads
-use Rattle.mend.proofs.counted.Reads as counted-reads
-use Rattle.mend.proofs.is_passed.Reads as is-passed-reads
-use Rattle.mend.proofs.lines_in.Reads as lines-in-reads
-use Rattle.mend.proofs.print_stretch.Reads as print-stretch-reads
-use Rattle.mender.proofs.mend.Reads as mend-reads
-use Rattle.mender.proofs.next_of.Reads as next-of-reads
 
 buffer-requires : tie.Need-buffer-requires
 buffer-requires c κs = search needs

@@ -5,9 +5,6 @@ use lib.ListN.{length}
 use borrow.Author.Needs.{needs}
 use Rattle.mend.proofs.mend_window.Statement.{statement}
 use Rattle.mend.proofs.mend_window.Tie as tie
-use Rattle.mend.proofs.mend_window.Reads as reads
-use Rattle.mend.proofs.mend_window.Lts as lts
-use Rattle.mend.proofs.mend_step.Reads as mend-step-reads
 
 abbrev Inv-loop : tie.InvT-loop
 Inv-loop last window₀ state₀ used₀ window state used = length window ≡ length window₀

@@ -6,8 +6,6 @@ use lib.ListN.{length, length-set}
 use borrow.Author.Needs.{needs}
 use Rattle.mend.proofs.move_down.Statement.{statement}
 use Rattle.mend.proofs.move_down.Tie as tie
-use Rattle.mend.proofs.move_down.Reads as reads
-use Rattle.mend.proofs.move_down.Lts as lts
 
 abbrev Inv-loop : tie.InvT-loop
 Inv-loop from count buffer₀ i₀ buffer i = (i ≤ length buffer) × (length buffer ≡ length buffer₀)

@@ -1,5 +1,5 @@
 -- `is_read` meets its contract: recalling finds a record, or refuses. Assumes nothing.
-use mathlib.Core.Path.{_≡_, sym, ap, _∙_}
+use mathlib.Core.Path.{sym, ap, _∙_}
 use borrow.Author.Needs.{needs}
 use Rattle.mender.specs.Records.{isRecord, reads}
 use Rattle.mender.proofs.is_read.Statement.{statement}

@@ -1,5 +1,5 @@
 -- `mend_record` meets its contract: the copy holds the record after mending; where that reads it is put back, else nothing is. Assumes nothing.
-use mathlib.Core.Path.{_≡_, sym, ap, _∙_}
+use mathlib.Core.Path.{sym, ap, _∙_}
 use native.Mathlib.Omega.{arith}
 use lib.ListN.{length, replicate}
 use denote.Ref.{now}
@@ -56,7 +56,8 @@ returns-2 c =
     let a = s .args in
     let bs = now (a .bytes) in
     let same = copied (a .n) bs (replicate 135 0) (omega arith) (s .pre .1 .0) (put .put-record .ensures) in
-    let whole = whole-judged (a .n) bs (read .is-read .ensures ∙ ap reads same) (not-false (read .is-read .result) (changes .before .before .before .before .if1 .left)) in
+    let whole = whole-judged (a .n) bs (read .is-read .ensures
+    ∙ ap reads same) (not-false (read .is-read .result) (changes .before .before .before .before .if1 .left)) in
     whole-steps (a .n) bs (a .searching) whole (s .pre .0) (a .at) (now (a .output)) same (changes .put-changes .ensures .0)
     (changes .put-changes .ensures .1 .0) (changes .put-changes .ensures .1 .1)
 

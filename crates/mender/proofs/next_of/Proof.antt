@@ -1,5 +1,5 @@
 -- `next_of` meets its contract: by the six steps. Assumes nothing.
-use mathlib.Core.Path.{_≡_, sym, ap, _∙_}
+use mathlib.Core.Path.{sym, ap, _∙_}
 use borrow.Author.Needs.{needs}
 use Rattle.mender.specs.Run.{nextOf}
 use Rattle.mender.proofs.next_of.Statement.{statement}

@@ -1,11 +1,11 @@
 -- `bit_of` meets its contract: by a loop over the bits, of which none before this one has the remainder. Assumes nothing.
 use mathlib.Core.Path.{_≡_, refl, sym, ap, _∙_}
-use Prim.Native.Nat.{ℕ, _-_, _/_, _^_, _≤_, _<_}
+use Prim.Native.Nat.{_-_, _/_, _^_, _≤_, _<_}
 use native.Mathlib.Omega.{arith}
 use borrow.Author.Needs.{needs}
 use Rattle.word.specs.Answer.{remainderAt}
 use Rattle.mender_words.specs.Words.{placeOf}
-use Rattle.mender_words.proofs.Places.{Placed, every-place, found, further, halved}
+use Rattle.mender_words.proofs.Places.{every-place, found, further, halved}
 use Rattle.mender_words.proofs.bit_of.Statement.{statement}
 use Rattle.mender_words.proofs.bit_of.Tie as tie
 

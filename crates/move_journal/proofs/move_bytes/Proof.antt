@@ -17,7 +17,8 @@ abbrev μ-loop : tie.MeasureT-loop
 
 -- what is read so far is of the bytes
 moved : (c : tie.After-move-all Inv-loop μ-loop)
-    → c .before .before .before .before .loop .from + c .move-all .result .read ≤ length (now (c .before .before .before .before .before .before .before .args .bytes))
+    → c .before .before .before .before .loop .from + c .move-all .result .read ≤ length
+    (now (c .before .before .before .before .before .before .before .args .bytes))
 moved c =
     let v = c .before .before .before .before .loop in
     let bs = now (c .before .before .before .before .before .before .before .args .bytes) in
@@ -47,4 +48,7 @@ loop-again c = (moved (c .before .before .before .before .before .before .before
 pub move-bytes-spec : {M : Type 1} → statement M
 move-bytes-spec =
     tie.close
-    (tie.spec Inv-loop μ-loop (λ c κs. search needs) (λ c. search needs) (λ c. search needs) (λ c. search needs) (λ c. search needs) (λ c. search needs) (λ c. search needs) (λ c κs. search needs) add-from (λ c. search needs) slice-aggregate-write-all (λ c κs. search needs) (λ c. search needs) (λ c κs. search needs) returns (λ c. search needs) (λ c. search needs) returns-2 (λ c. search needs) returns-3 (λ c κs. search needs) (λ c κs. search needs) returns-4 (λ c. search needs) loop-again (λ c. search needs))
+    (tie.spec Inv-loop μ-loop (λ c κs. search needs) (λ c. search needs) (λ c. search needs) (λ c. search needs) (λ c. search needs) (λ c. search needs)
+    (λ c. search needs) (λ c κs. search needs) add-from (λ c. search needs) slice-aggregate-write-all (λ c κs. search needs) (λ c. search needs)
+    (λ c κs. search needs) returns (λ c. search needs) (λ c. search needs) returns-2 (λ c. search needs) returns-3 (λ c κs. search needs)
+    (λ c κs. search needs) returns-4 (λ c. search needs) loop-again (λ c. search needs))

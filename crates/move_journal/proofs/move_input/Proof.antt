@@ -21,10 +21,12 @@ slice-aggregate-move-bytes : tie.Need-slice-aggregate-move-bytes Inv-loop μ-loo
 slice-aggregate-move-bytes c = sym (length-take-le _ _ (c .before .before .before .fill .ensures .0))
 
 same-length : tie.Need-same-length Inv-loop μ-loop
-same-length c = c .before .before .before .before .before .before .fill .ensures .1 ∙ c .before .before .before .before .before .before .before .before .before .loop .inv .1
+same-length c = c .before .before .before .before .before .before .fill .ensures .1
+    ∙ c .before .before .before .before .before .before .before .before .before .loop .inv .1
 
 same-length-2 : tie.Need-same-length-2 Inv-loop μ-loop
-same-length-2 c = c .before .before .before .before .before .before .before .fill .ensures .1 ∙ c .before .before .before .before .before .before .before .before .before .before .loop .inv .1
+same-length-2 c = c .before .before .before .before .before .before .before .fill .ensures .1
+    ∙ c .before .before .before .before .before .before .before .before .before .before .loop .inv .1
 
 brought-requires : tie.Need-brought-requires Inv-loop μ-loop
 brought-requires c κs =
@@ -35,8 +37,11 @@ brought-requires c κs =
 loop-again : tie.Need-loop-again Inv-loop μ-loop
 loop-again c =
     let b = c .before .before in
-    let f = b .before .before .before .before .before .before .before .before .before .before in
-    (omega (arith, b .brought .ensures .0, b .brought .ensures .1, f .fill .ensures .0), b .brought .ensures .1 ∙ f .fill .ensures .1 ∙ f .before .before .before .loop .inv .1)
+    let f = b .before .before .before .before .before .before .before .before .before .before in (
+      omega (arith, b .brought .ensures .0, b .brought .ensures .1, f .fill .ensures .0),
+      b .brought .ensures .1 ∙ f .fill .ensures .1
+          ∙ f .before .before .before .loop .inv .1,
+    )
 
 same-length-3 : tie.Need-same-length-3 Inv-loop μ-loop
 same-length-3 c = c .before .loop .inv .1
@@ -44,4 +49,6 @@ same-length-3 c = c .before .loop .inv .1
 pub move-input-spec : {M : Type 1} → statement M
 move-input-spec =
     tie.close
-    (tie.spec Inv-loop μ-loop loop-holds (λ c. search needs) (λ c κs. search needs) (λ c. search needs) slice-aggregate-move-bytes (λ c κs. search needs) (λ c. search needs) (λ c. search needs) same-length (λ c. search needs) same-length-2 (λ c. search needs) (λ c κs. search needs) brought-requires (λ c. search needs) loop-again same-length-3 (λ c. search needs))
+    (tie.spec Inv-loop μ-loop loop-holds (λ c. search needs) (λ c κs. search needs) (λ c. search needs) slice-aggregate-move-bytes (λ c κs. search needs)
+    (λ c. search needs) (λ c. search needs) same-length (λ c. search needs) same-length-2 (λ c. search needs) (λ c κs. search needs) brought-requires
+    (λ c. search needs) loop-again same-length-3 (λ c. search needs))

@@ -35,8 +35,10 @@ is t =
     let a = p .before .before .before .before .args in
     t .epoch-from .ensures
     ∙ ap epochMeant
-    (head-is epochWidths (a .frame) (placed-inside layout.Observation 24 48 (a .frame) (a .index) (p .entry-place .result) (p .entry-place .ensures) _ (t .before .before .place .given .1))
-    (full (p .before .before .before .before)) (placed-head layout.Observation 24 48 (a .frame) (a .index) (p .entry-place .result) (p .entry-place .ensures) _ (t .before .before .place .given .1)))
+    (head-is epochWidths (a .frame)
+    (placed-inside layout.Observation 24 48 (a .frame) (a .index) (p .entry-place .result) (p .entry-place .ensures) _ (t .before .before .place .given .1))
+    (full (p .before .before .before .before))
+    (placed-head layout.Observation 24 48 (a .frame) (a .index) (p .entry-place .result) (p .entry-place .ensures) _ (t .before .before .place .given .1)))
 
 returns : tie.Need-returns
 unfolding observationAt
@@ -46,7 +48,8 @@ returns c =
     let a = p .before .before .before .before .args in
     last-wrong read.Refused (read.Entry (satelliteIn (a .edition) (a .frame) (a .index))) (lateTime (epochIn (a .frame))) 10
     (ap lateTime (sym (is t)) ∙ told-out _ (sym (c .enum-told2 .given .1) ∙ c .before .before .time-of .ensures))
-    ∙ placed-on layout.Observation 24 48 (a .frame) (a .index) (p .entry-place .result) (p .entry-place .ensures) (last (a .frame)) read.Refused (read.Entry (satelliteIn (a .edition) (a .frame) (a .index))) _ (t .before .before .place .given .1)
+    ∙ placed-on layout.Observation 24 48 (a .frame) (a .index) (p .entry-place .result) (p .entry-place .ensures) (last (a .frame)) read.Refused
+    (read.Entry (satelliteIn (a .edition) (a .frame) (a .index))) _ (t .before .before .place .given .1)
 
 entry-from-requires : tie.Need-entry-from-requires
 entry-from-requires c κs =
@@ -65,17 +68,20 @@ returns-2 c =
     let o = t .before .before .place .given .0 .0 in
     ap read.Entry
     (c .entry-from .ensures ∙ ap (λ u. meant (a .edition) u (fieldsAt (widths u) o (dataBits (a .frame .words)))) (p .before .quantity-of .ensures)
-    ∙ placed-is layout.Observation 24 48 (a .frame) (a .index) (p .entry-place .result) (p .entry-place .ensures) _ (t .before .before .place .given .1) (coding (a .edition) q) (span-48 q) (full (p .before .before .before .before)))
+    ∙ placed-is layout.Observation 24 48 (a .frame) (a .index) (p .entry-place .result) (p .entry-place .ensures) _ (t .before .before .place .given .1)
+    (coding (a .edition) q) (span-48 q) (full (p .before .before .before .before)))
     ∙ last-fine read.Refused (read.Entry (satelliteIn (a .edition) (a .frame) (a .index))) (lateTime (epochIn (a .frame))) 10
     (ap lateTime (sym (is t)) ∙ told-in _ (sym (c .before .enum-told .given .1) ∙ c .before .before .before .time-of .ensures))
-    ∙ placed-on layout.Observation 24 48 (a .frame) (a .index) (p .entry-place .result) (p .entry-place .ensures) (last (a .frame)) read.Refused (read.Entry (satelliteIn (a .edition) (a .frame) (a .index))) _ (t .before .before .place .given .1)
+    ∙ placed-on layout.Observation 24 48 (a .frame) (a .index) (p .entry-place .result) (p .entry-place .ensures) (last (a .frame)) read.Refused
+    (read.Entry (satelliteIn (a .edition) (a .frame) (a .index))) _ (t .before .before .place .given .1)
 
 returns-3 : tie.Need-returns-3
 unfolding observationAt
 returns-3 c =
     let p = c .before .before .before in
     let a = p .before .before .before .before .args in
-    not-placed layout.Observation 24 48 (a .frame) (a .index) (p .entry-place .result) (p .entry-place .ensures) (last (a .frame)) read.Refused (read.Entry (satelliteIn (a .edition) (a .frame) (a .index))) _ (c .before .place2 .given .1)
+    not-placed layout.Observation 24 48 (a .frame) (a .index) (p .entry-place .result) (p .entry-place .ensures) (last (a .frame)) read.Refused
+    (read.Entry (satelliteIn (a .edition) (a .frame) (a .index))) _ (c .before .place2 .given .1)
 
 pub observation-at-spec : {M : Type 1} → statement M
 observation-at-spec =

@@ -2,7 +2,6 @@
 use mathlib.Core.Path.{_≡_, sym, ap, _∙_}
 use mathlib.Core.List.{List, [], _∷_}
 use lib.ListN.{length}
-use native.Mathlib.Omega.{arith}
 use borrow.Author.Needs.{needs}
 use Rattle.answer.specs.Order.{Check}
 use Rattle.frame.specs.declared.Layout.the-variants as layout
@@ -27,7 +26,8 @@ is f =
     let k = f .before .before .before in
     let g = k .before .before .args .frame in
     f .epoch-from .ensures
-    ∙ ap epochMeant (head-is epochWidths g (counted-inside layout.Observation 24 48 g (k .count-in .result) (k .count-in .ensures) _ (f .before .enum-told .given .1))
+    ∙ ap epochMeant (head-is epochWidths g
+    (counted-inside layout.Observation 24 48 g (k .count-in .result) (k .count-in .ensures) _ (f .before .enum-told .given .1))
     (full (k .before .before)) (counted-head layout.Observation 24 48 g (k .count-in .result) (k .count-in .ensures) _ (f .before .enum-told .given .1)))
 
 returns : tie.Need-returns
@@ -38,7 +38,8 @@ returns c =
     let g = k .before .before .args .frame in
     last-wrong epoch.Refused (epoch.At (epochIn g)) (lateTime (epochIn g)) 10
     (ap lateTime (sym (is f)) ∙ told-out _ (sym (c .enum-told3 .given .1) ∙ c .before .before .time-of .ensures))
-    ∙ counted-on layout.Observation 24 48 g (k .count-in .result) (k .count-in .ensures) (last g) epoch.Refused (epoch.At (epochIn g)) _ (f .before .enum-told .given .1)
+    ∙ counted-on layout.Observation 24 48 g (k .count-in .result) (k .count-in .ensures) (last g) epoch.Refused (epoch.At (epochIn g)) _
+    (f .before .enum-told .given .1)
 
 returns-2 : tie.Need-returns-2
 unfolding readEpoch
@@ -49,14 +50,16 @@ returns-2 c =
     ap epoch.At (is f)
     ∙ last-fine epoch.Refused (epoch.At (epochIn g)) (lateTime (epochIn g)) 10
     (ap lateTime (sym (is f)) ∙ told-in _ (sym (c .enum-told2 .given .1) ∙ c .before .before .time-of .ensures))
-    ∙ counted-on layout.Observation 24 48 g (k .count-in .result) (k .count-in .ensures) (last g) epoch.Refused (epoch.At (epochIn g)) _ (f .before .enum-told .given .1)
+    ∙ counted-on layout.Observation 24 48 g (k .count-in .result) (k .count-in .ensures) (last g) epoch.Refused (epoch.At (epochIn g)) _
+    (f .before .enum-told .given .1)
 
 returns-3 : tie.Need-returns-3
 unfolding readEpoch
 returns-3 c =
     let k = c .before .before .before in
     let g = k .before .before .args .frame in
-    not-counted layout.Observation 24 48 g (k .count-in .result) (k .count-in .ensures) (last g) epoch.Refused (epoch.At (epochIn g)) _ (c .before .counted .given .1)
+    not-counted layout.Observation 24 48 g (k .count-in .result) (k .count-in .ensures) (last g) epoch.Refused (epoch.At (epochIn g)) _
+    (c .before .counted .given .1)
 
 pub read-epoch-spec : {M : Type 1} → statement M
 read-epoch-spec =

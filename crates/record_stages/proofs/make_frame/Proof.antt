@@ -5,7 +5,6 @@ use borrow.Author.Needs.{needs}
 use Rattle.answer.specs.Order.{Check, inOrder}
 use Rattle.frame.specs.Frames.{builtOf}
 use Rattle.record_stages.specs.declared.Made.{Made}
-use Rattle.record_stages.specs.declared.checks.Suited.the-variants as suited
 use Rattle.record_stages.specs.Stages.{wrongCount, makeOrder, entryRefusal, packedFrame, refusedMade, doneMade, madeBy}
 use Rattle.record_stages.proofs.StageLaws.{unsuited, suited-on, last-wrong, last-fine}
 use Rattle.record_stages.proofs.make_frame.Statement.{statement}

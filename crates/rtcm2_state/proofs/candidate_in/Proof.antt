@@ -15,7 +15,8 @@ returns c =
     let fresh = c .before in
     let h = fresh .before .before in
     ap (λ (r : Reader). r .candidate)
-    (fresh .new .ensures ∙ sym (read-none (now (h .before .before .args .bytes)) (sym (h .holds-state .ensures) ∙ not-true (h .holds-state .result) (fresh .before .if1 .taken))))
+    (fresh .new .ensures ∙ sym (read-none (now (h .before .before .args .bytes)) (sym (h .holds-state .ensures)
+    ∙ not-true (h .holds-state .result) (fresh .before .if1 .taken))))
 
 -- past the test a state is held
 held : (c : tie.Else1) → holdsState (now (c .before .before .before .args .bytes)) ≡ true

@@ -12,7 +12,8 @@ use Rattle.rtcm2_state.proofs.state_in.Tie as tie
 returns : tie.Need-returns
 returns c =
     let h = c .before .before in
-    c .new .ensures ∙ sym (read-none (now (h .before .before .args .bytes)) (sym (h .holds-state .ensures) ∙ not-true (h .holds-state .result) (c .before .if1 .taken)))
+    c .new .ensures ∙ sym (read-none (now (h .before .before .args .bytes)) (sym (h .holds-state .ensures)
+    ∙ not-true (h .holds-state .result) (c .before .if1 .taken)))
 
 -- past the test a state is held
 held : (c : tie.Else1) → holdsState (now (c .before .before .before .args .bytes)) ≡ true

@@ -5,10 +5,6 @@ use lib.ListN.{length}
 use borrow.Author.Needs.{needs}
 use Rattle.test_mender.proofs.mend_all.Statement.{statement}
 use Rattle.test_mender.proofs.mend_all.Tie as tie
-use Rattle.test_mender.proofs.mend_all.Reads as reads
-use Rattle.test_mender.proofs.mend_all.Lts as lts
-use Rattle.std.proofs.num.wrapping_add_u64.Reads as wrapping-add-u64-reads
-use Rattle.test_mender.proofs.step_on.Reads as step-on-reads
 
 abbrev Inv-loop : tie.InvT-loop
 Inv-loop journal₀ searching₀ passed₀ used₀ journal searching passed used = length journal ≡ length journal₀

@@ -4,9 +4,6 @@ use lib.ListN.{length}
 use borrow.Author.Needs.{needs}
 use Rattle.test_mender.proofs.show_bytes.Statement.{statement}
 use Rattle.test_mender.proofs.show_bytes.Tie as tie
-use Rattle.test_mender.proofs.show_bytes.Reads as reads
-use Rattle.test_mender.proofs.show_bytes.Lts as lts
-use Rattle.test_mender.proofs.show_byte.Reads as show-byte-reads
 
 abbrev Inv-loop : tie.InvT-loop
 Inv-loop bytes i₀ i = Unit {0}

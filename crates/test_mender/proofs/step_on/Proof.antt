@@ -1,17 +1,10 @@
 -- `step_on` is safe: the report is no longer than its buffer. Assumes nothing.
-use mathlib.Core.Path.{_≡_, sym}
+use mathlib.Core.Path.{sym}
 use native.Mathlib.Omega.{arith}
 use lib.Seq.{length-take-le}
 use borrow.Author.Needs.{needs}
 use Rattle.test_mender.proofs.step_on.Statement.{statement}
 use Rattle.test_mender.proofs.step_on.Tie as tie
-use Rattle.test_mender.proofs.step_on.Reads as reads
-use Rattle.test_mender.proofs.step_on.Lts as lts
-use Rattle.io.proofs.buffer.Reads as buffer-reads
-use Rattle.io.proofs.write_all.Reads as write-all-reads
-use Rattle.mender.proofs.mend.Reads as mend-reads
-use Rattle.mender.proofs.next_of.Reads as next-of-reads
-use Rattle.test_mender.proofs.passed_by.Reads as passed-by-reads
 
 buffer-requires : tie.Need-buffer-requires
 buffer-requires c κs = search needs

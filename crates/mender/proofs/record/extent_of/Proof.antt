@@ -1,5 +1,5 @@
 -- `extent_of` meets its contract: too few bytes, an N over 31, too few bytes for N, or N. Assumes nothing.
-use mathlib.Core.Path.{_≡_, sym, ap, _∙_}
+use mathlib.Core.Path.{ap}
 use Prim.Native.Nat.{_+_, _*_, _≤_, _<_}
 use native.Mathlib.Omega.{arith}
 use lib.ListN.{length}

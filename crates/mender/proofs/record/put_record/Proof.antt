@@ -1,9 +1,9 @@
 -- `put_record` meets its contract: the mark, N, and the words after mending. Assumes nothing.
-use mathlib.Core.Path.{_≡_, sym, ap, _∙_}
-use Prim.Native.Nat.{_+_, _*_}
+use mathlib.Core.Path.{ap, _∙_}
+use Prim.Native.Nat.{_+_}
 use native.Mathlib.Omega.{arith}
 use lib.ListN.{length, set, length-set, drop}
-use lib.Seq.{sets, length-sets}
+use lib.Seq.{length-sets}
 use denote.Ref.{now}
 use borrow.Author.Needs.{needs}
 use Rattle.mender.proofs.RecordLaws.{mendedWords, store-start, three-long}

@@ -1,14 +1,10 @@
 -- `put_change` meets its contract: three numbers with spaces between them, and a newline. Assumes nothing.
-use mathlib.Core.Path.{_≡_, refl, sym, ap, _∙_}
-use mathlib.Core.List.{_∷_}
+use mathlib.Core.Path.{refl}
 use native.Mathlib.Omega.{arith}
-use lib.ListN.{length, length-set}
-use lib.Seq.{sets}
 use denote.Ref.{now}
-use borrow.Author.Needs.{needs}
 use Rattle.printing.specs.Printing.{decimal}
 use Rattle.printing.proofs.DigitLaws.{decimal-le}
-use Rattle.printing.proofs.StoreLaws.{length-stored, length-marked}
+use Rattle.printing.proofs.StoreLaws.{length-stored}
 use Rattle.mender.proofs.TextLaws.{byte-short, last-room, newline-room, change-stored}
 use Rattle.mender.proofs.text.put_change.Statement.{statement}
 use Rattle.mender.proofs.text.put_change.Tie as tie

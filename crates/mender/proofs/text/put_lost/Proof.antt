@@ -1,9 +1,8 @@
 -- `put_lost` meets its contract: the label, the offset, and a newline. Assumes nothing.
-use mathlib.Core.Path.{_≡_, refl, sym, ap, _∙_}
+use mathlib.Core.Path.{refl}
 use mathlib.Core.List.{_∷_}
 use native.Mathlib.Omega.{arith}
 use denote.Ref.{now}
-use borrow.Author.Needs.{needs}
 use Rattle.printing.specs.Printing.{decimal}
 use Rattle.printing.proofs.DigitLaws.{decimal-le}
 use Rattle.printing.proofs.StoreLaws.{length-stored, length-marked}

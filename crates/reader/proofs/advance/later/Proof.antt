@@ -1,5 +1,5 @@
 -- `later` meets its contract. Assumes nothing.
-use mathlib.Core.Path.{sym, ap, _∙_}
+use mathlib.Core.Path.{sym, ap}
 use native.Mathlib.Omega.{arith}
 use Rattle.reader.specs.Reading.{later}
 use Rattle.reader.proofs.Ahead.{later-some}

@@ -1,6 +1,5 @@
 -- `bit_for` meets its contract. Assumes nothing.
 use borrow.Author.Tests.{eq-eqb, ne-eqb}
-use borrow.Author.Needs.{needs}
 use Rattle.record_observations.proofs.marks.bit_for.Statement.{statement}
 use Rattle.record_observations.proofs.marks.bit_for.Tie as tie
 

@@ -1,5 +1,5 @@
 -- `measured_of` meets its contract: by what the type measures. Assumes nothing.
-use mathlib.Core.Path.{_≡_, sym, ap, _∙_}
+use mathlib.Core.Path.{sym, ap, _∙_}
 use Prim.Native.Nat.{_^_, _<_}
 use mir.Syntax.{w32}
 use borrow.Author.Needs.{needs}

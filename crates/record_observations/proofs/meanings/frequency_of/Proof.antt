@@ -16,7 +16,8 @@ same c = told-same _ (sym (c .enum-told .given .1) ∙ c .before .before .asked-
 
 returns : tie.Need-returns
 unfolding frequencyOf
-returns c = rw (told-other (otherLayout layout.Observation (c .before .before .before .args .kind)) (sym (c .enum-told2 .given .1) ∙ c .before .before .asked-of .ensures))
+returns c = rw (told-other (otherLayout layout.Observation (c .before .before .before .args .kind)) (sym (c .enum-told2 .given .1)
+    ∙ c .before .before .asked-of .ensures))
 
 returns-2 : tie.Need-returns-2
 unfolding frequencyOf

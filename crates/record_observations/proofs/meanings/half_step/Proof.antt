@@ -1,6 +1,5 @@
 -- `half_step` meets its contract. Assumes nothing.
 use borrow.Author.Tests.{eq-eqb, ne-eqb}
-use borrow.Author.Needs.{needs}
 use Rattle.record_observations.proofs.meanings.half_step.Statement.{statement}
 use Rattle.record_observations.proofs.meanings.half_step.Tie as tie
 

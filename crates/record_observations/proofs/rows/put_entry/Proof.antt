@@ -1,11 +1,11 @@
 -- `put_entry` meets its contract: the row of the numbers, in the widths of the type and held to its ranges. Assumes nothing.
-use mathlib.Core.Path.{_≡_, ap, ap₂, _∙_}
+use mathlib.Core.Path.{_≡_, _∙_}
 use mathlib.Core.List.{List}
 use Prim.Native.Nat.{ℕ}
 use borrow.Author.Needs.{needs}
 use Rattle.record_fields.specs.declared.Rows.{Rows}
 use Rattle.record_fields.specs.Tables.{putRow}
-use Rattle.record_observations.specs.Observations.{widths, least, most, numbers}
+use Rattle.record_observations.specs.Observations.{least}
 use Rattle.record_observations.proofs.rows.put_entry.Statement.{statement}
 use Rattle.record_observations.proofs.rows.put_entry.Tie as tie
 

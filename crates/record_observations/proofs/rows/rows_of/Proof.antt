@@ -27,8 +27,10 @@ returns c =
     let l = c .before .before .loop in
     let h = c .before .before .before in
     let a = h .before .args in
-    sym (ap (putRows (widths (a .quantity)) least (most (a .quantity)) (map (numbers (a .edition) (a .quantity)) (take (a .count) (a .t4)))) (sym (h .head-rows .ensures)) ∙ l .inv .1
-    ∙ rows-end (numbers (a .edition) (a .quantity)) (widths (a .quantity)) least (most (a .quantity)) (a .t4) (a .count) (l .i) (l .rows) (omega (arith, length-take (a .count) (a .t4))))
+    sym (ap (putRows (widths (a .quantity)) least (most (a .quantity)) (map (numbers (a .edition) (a .quantity)) (take (a .count) (a .t4))))
+    (sym (h .head-rows .ensures)) ∙ l .inv .1
+    ∙ rows-end (numbers (a .edition) (a .quantity)) (widths (a .quantity)) least (most (a .quantity)) (a .t4) (a .count) (l .i) (l .rows)
+    (omega (arith, length-take (a .count) (a .t4))))
 
 loop-again : tie.Need-loop-again Inv-loop μ-loop
 loop-again c =
@@ -38,7 +40,8 @@ loop-again c =
     let full : length (a .t4) ≡ 15 = search needs in (
       omega arith,
       l .inv .1
-          ∙ rows-next (numbers (a .edition) (a .quantity)) (widths (a .quantity)) least (most (a .quantity)) (a .t4) (a .count) (l .i) _ (l .rows) (c .put-entry .result)
+          ∙ rows-next (numbers (a .edition) (a .quantity)) (widths (a .quantity)) least (most (a .quantity)) (a .t4) (a .count) (l .i) _ (l .rows)
+          (c .put-entry .result)
           (omega arith) (omega arith) (c .put-entry .ensures),
     )
 
@@ -48,8 +51,10 @@ returns-2 c =
     let h = c .before .before in
     let a = h .before .args in
     let full : length (a .t4) ≡ 15 = search needs in
-    sym (ap (putRows (widths (a .quantity)) least (most (a .quantity)) (map (numbers (a .edition) (a .quantity)) (take (a .count) (a .t4)))) (sym (h .head-rows .ensures)) ∙ l .inv .1
-    ∙ rows-end (numbers (a .edition) (a .quantity)) (widths (a .quantity)) least (most (a .quantity)) (a .t4) (a .count) (l .i) (l .rows) (omega (arith, length-take (a .count) (a .t4))))
+    sym (ap (putRows (widths (a .quantity)) least (most (a .quantity)) (map (numbers (a .edition) (a .quantity)) (take (a .count) (a .t4))))
+    (sym (h .head-rows .ensures)) ∙ l .inv .1
+    ∙ rows-end (numbers (a .edition) (a .quantity)) (widths (a .quantity)) least (most (a .quantity)) (a .t4) (a .count) (l .i) (l .rows)
+    (omega (arith, length-take (a .count) (a .t4))))
 
 pub rows-of-spec : {M : Type 1} → statement M
 rows-of-spec =

@@ -1,6 +1,5 @@
 -- `edition_of` meets its contract: number by number. Assumes nothing.
 use borrow.Author.Tests.{eq-eqb, ne-eqb, lt-ltb, le-ltb}
-use borrow.Author.Needs.{needs}
 use Rattle.rtcm2.specs.Observations.{editionNamed}
 use Rattle.rtcm2.proofs.observation.edition_of.Statement.{statement}
 use Rattle.rtcm2.proofs.observation.edition_of.Tie as tie

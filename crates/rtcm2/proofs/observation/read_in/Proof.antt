@@ -27,7 +27,8 @@ returns-2 c =
     let n = c .before .before .before in
     let a = n .before .before .args in
     puts-refused row (now (a .observation))
-    (ap (λ s. andThen (saysNamed s) (λ x. saysObservationRead (observationAt x (a .frame) (a .index)))) (sym (c .before .number .given .1) ∙ n .edition-of .ensures))
+    (ap (λ s. andThen (saysNamed s) (λ x. saysObservationRead (observationAt x (a .frame) (a .index)))) (sym (c .before .number .given .1)
+    ∙ n .edition-of .ensures))
 
 pub read-in-spec : {M : Type 1} → statement M
 read-in-spec =

@@ -22,7 +22,8 @@ returns c =
     let x = named .named .given .0 .0 in
     keeps-as (now (a .frame)) (now (a .length))
     (ap saysMade (m .made-of .ensures)
-    ∙ ap (λ s. andThen (saysHeaded s) (λ g. rowsMade x g (record { frequency = a .frequency; smoothing = a .smoothing; time = a .time }) (now (a .observations))))
+    ∙ ap (λ s. andThen (saysHeaded s)
+    (λ g. rowsMade x g (record { frequency = a .frequency; smoothing = a .smoothing; time = a .time }) (now (a .observations))))
     (sym (told .header .given .1) ∙ h .header-of .ensures)
     ∙ ap (λ s. andThen (saysNamed s) (λ y. andThen (headed (a .kind) (a .station) (a .z) (a .sequence) (a .health))
     (λ g. rowsMade y g (record { frequency = a .frequency; smoothing = a .smoothing; time = a .time }) (now (a .observations)))))
@@ -37,7 +38,8 @@ returns-2 c =
     let a = n .before .before .before .args in
     let x = named .named .given .0 .0 in
     keeps-refused (now (a .frame)) (now (a .length))
-    (ap (λ s. andThen (saysHeaded s) (λ g. rowsMade x g (record { frequency = a .frequency; smoothing = a .smoothing; time = a .time }) (now (a .observations))))
+    (ap (λ s. andThen (saysHeaded s)
+    (λ g. rowsMade x g (record { frequency = a .frequency; smoothing = a .smoothing; time = a .time }) (now (a .observations))))
     (sym (c .before .number .given .1) ∙ h .header-of .ensures)
     ∙ ap (λ s. andThen (saysNamed s) (λ y. andThen (headed (a .kind) (a .station) (a .z) (a .sequence) (a .health))
     (λ g. rowsMade y g (record { frequency = a .frequency; smoothing = a .smoothing; time = a .time }) (now (a .observations)))))

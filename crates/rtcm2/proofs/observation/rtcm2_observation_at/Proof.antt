@@ -1,5 +1,5 @@
 -- `rtcm2_observation_at` meets its contract: the record's refusal, or what is read of its frame in the edition. Assumes nothing.
-use mathlib.Core.Path.{sym, ap, _∙_}
+use mathlib.Core.Path.{sym, ap}
 use denote.Ref.{now}
 use borrow.Author.Needs.{needs}
 use Rattle.rtcm2_rows.specs.Observations.{row}

@@ -4,7 +4,7 @@ use native.Mathlib.Omega.{arith}
 use lib.ListN.{take, drop}
 use denote.Ref.{now}
 use borrow.Author.Needs.{needs}
-use Rattle.rtcm2_rows.specs.Observations.{markWith, measuredWith}
+use Rattle.rtcm2_rows.specs.Observations.{markWith}
 use Rattle.rtcm2_rows.proofs.RowLaws.{byte-first, byte-in}
 use Rattle.rtcm2_rows.proofs.ObservationRows.{entry-law, four-law, measured-as}
 use Rattle.rtcm2_rows.proofs.observation.entry_from.Statement.{statement}

@@ -20,7 +20,8 @@ returns-2 c =
     let i = c .before .before in
     let a = i .before .before .args in
     put-whole row (a .entry) (now (a .bytes)) _ refl (i .if1 .left)
-    (stores (now (a .bytes)) (a .entry) (c .before .mark-bytes .result) (c .measured-numbers .result) (c .before .mark-bytes .ensures) (c .measured-numbers .ensures))
+    (stores (now (a .bytes)) (a .entry) (c .before .mark-bytes .result) (c .measured-numbers .result) (c .before .mark-bytes .ensures)
+    (c .measured-numbers .ensures))
 
 pub put-observation-spec : {M : Type 1} → statement M
 put-observation-spec =
