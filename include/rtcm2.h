@@ -55,7 +55,10 @@ enum {
     RTCM2_NO_MARK = 14,       /* the bytes do not begin with the journal mark */
     RTCM2_CUT_SHORT = 15,     /* journal record cut short */
     RTCM2_BAD_RECORD = 16,    /* N of a journal record over 31 or not that of word 2, or its preamble wrong */
-    RTCM2_BROKEN = 17         /* a kept word fails parity, or its carried bits are not the last two of the word before */
+    RTCM2_BROKEN = 17,        /* a kept word fails parity, or its carried bits are not the last two of the word before */
+    RTCM2_OTHER_PROFILE = 20, /* the type is not of the small-beacon profile */
+    RTCM2_SATELLITES = 21,    /* more than three satellites in a frame of the profile */
+    RTCM2_TWICE = 22          /* one satellite twice */
 };
 
 /* Sizes in bytes. */
@@ -68,7 +71,8 @@ enum {
     RTCM2_OBSERVATION_SIZE = 12, /* one observation */
     RTCM2_HEALTH_SIZE = 10,     /* one satellite's health */
     RTCM2_TEXT_MAX = 90,        /* the longest text */
-    RTCM2_REPORT_MAX = 986      /* room for the report of any step of the mender */
+    RTCM2_REPORT_MAX = 986,     /* room for the report of any step of the mender */
+    RTCM2_CUT_MAX = 144         /* the longest list that is cut, six frames of three corrections */
 };
 
 /* ---- Reading the line. The reader's state lies in RTCM2_STATE_SIZE bytes that the caller lends; bytes past them are not
@@ -226,6 +230,20 @@ uint8_t rtcm2_read_text(const uint8_t *frame, size_t frame_size, uint8_t *text, 
 /* Refusals: 5, 6, 7, 12, 11, 13. */
 uint8_t rtcm2_make_text(uint8_t type, uint16_t station, uint16_t z, uint8_t sequence, uint8_t health, const uint8_t *text,
                         size_t text_size, uint8_t *frame, size_t frame_size, size_t *length);
+
+/* ---- The small-beacon profile of one harbour group: types 3, 5, 6, 9 and 16 alone, type 9 with at most three satellites, none of
+ * them twice. */
+
+/* Whether the frame is in the profile. Refusals: 14, 15, 16, 15, 16, then 7, 20, 8, 10 (type 3) or 11 (type 16), 21, 22. */
+uint8_t rtcm2_check_profile(const uint8_t *frame, size_t frame_size);
+
+/* Cuts 1 to 18 corrections for different satellites, one after the other in `corrections`, into frames of type 9, three in each
+ * but the last, in their order. The first has the given sequence, each other one more than that before it, modulo 8. The frames
+ * stand one after the other at the start of `frames`, `length` bytes in all. Refusals: 5, 6 (any type but 9), 7, 12, 10, 22 (one
+ * satellite twice in all of them), 13. */
+uint8_t rtcm2_cut_corrections(uint8_t type, uint16_t station, uint16_t z, uint8_t sequence, uint8_t health,
+                              const uint8_t *corrections, size_t corrections_size, uint8_t *frames, size_t frames_size,
+                              size_t *length);
 
 /* ---- What a record's numbers stand for. */
 

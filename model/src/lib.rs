@@ -15,6 +15,7 @@ pub mod line;
 pub mod listing;
 pub mod mangle;
 pub mod mender;
+pub mod profile;
 pub mod reader;
 pub mod record;
 pub mod refusal;

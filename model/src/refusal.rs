@@ -39,6 +39,12 @@ pub enum Refusal {
     /// A word kept in a journal fails parity, or its carried bits do not repeat the
     /// word before.
     BrokenWord = 17,
+    /// A type outside the small-beacon profile.
+    OutsideProfile = 20,
+    /// Too many satellites for the profile.
+    TooManySatellites = 21,
+    /// A satellite twice, where the profile allows it once.
+    SatelliteTwice = 22,
 }
 
 impl Refusal {

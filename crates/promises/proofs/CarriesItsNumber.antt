@@ -53,6 +53,10 @@ use Rattle.record_observations.specs.Meanings.{bandOf, stepOf}
 use Rattle.record_observations.specs.declared.Quantity.the-variants as quantity
 use Rattle.record_observations.specs.declared.EpochRead.the-variants as epoch
 use Rattle.record_observations.specs.declared.ObservationRead.the-variants as observation
+use Rattle.profile.specs.declared.Profile.the-variants as profile
+use Rattle.profile.specs.Profile.{checkProfile, saysProfile}
+use Rattle.profile.specs.Cutting.{cutOrder}
+use Rattle.profile.proofs.Said.{cut-said}
 use Rattle.record_values.specs.Values.{prcValue, rrcValue, udreValue, cn0Value, noLetter, letterValue}
 use Rattle.record_values.proofs.AnswerLaws.{prc-says, rrc-says, udre-says, cn0-says, minutes-says, z-says, letter-says}
 use Rattle.printing.specs.Printing.{printedBy, saysPrinted}
@@ -98,7 +102,8 @@ entry-numbered l = go (eqb (layoutNumber l) (layoutNumber layout.Text))
 
 pub carries-its-number : CarriesItsNumber
 unfolding fedBy fedAllBy endedBy takenBy countCorrections correctionAt makeCorrections countHealths healthAt makeHealths readPosition makePosition
-    countObservations readEpoch observationAt makeObservations readNull makeNull readText makeText refusedMade doneMade printedBy pieceBy finishBy linePut
+    countObservations readEpoch observationAt makeObservations readNull makeNull readText makeText checkProfile refusedMade doneMade printedBy pieceBy
+    finishBy linePut
 carries-its-number = record {
   feed = λ r b. told (λ (x : Next). saysAnswer (x .answer)) (λ n. record { answer = Refused n; reader = r }) _ tt refl refl refl;
   feed-all = λ r bs. told (λ (x : FedAll). saysAnswer (x .answer)) (λ n. record { answer = Refused n; used = 0; passed = 0; reader = r }) _ tt refl refl refl;
@@ -120,6 +125,8 @@ carries-its-number = record {
   make-position = λ h p. told saysMade refusedMade _ _ refl refl refl;
   make-null = λ h n. told saysMade refusedMade _ _ refl refl refl;
   make-text = λ h t. told saysMade refusedMade _ _ refl refl refl;
+  check-profile = λ f. told saysProfile profile.Refused profile.Inside tt refl refl refl;
+  cut-corrections = λ h es c. ordered (cutOrder h es c) _ (cut-said h es c) refl refl;
   write = λ f c buffer. told saysWritten written.Refused _ _ refl refl refl;
   writer-open = λ buffer. told saysOpened opened.Refused _ _ refl refl refl;
   put-frame = λ f buffer. told saysKept kept.Refused _ _ refl refl refl;

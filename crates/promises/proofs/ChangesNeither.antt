@@ -44,6 +44,8 @@ use Rattle.record_nulls.specs.Nulls.{makeNull}
 use Rattle.record_stages.specs.declared.Made.{Made}
 use Rattle.record_stages.specs.declared.Count.the-variants as count
 use Rattle.record_texts.specs.Texts.{lengthIn, textIn, readText, bufferAfter, makeText}
+use Rattle.profile.specs.declared.Cut.{Cut}
+use Rattle.profile.specs.Cutting.{refusedCut, cutCorrections}
 use Rattle.printing.specs.Printing.{printOrder, printedBy, printedTo, saysPrinted}
 use Rattle.printing.specs.declared.Printed.the-variants as printed
 use Rattle.listing.specs.Listing.{Lines, lineRoom, endRoom, refusedListing, listed, linesOf}
@@ -105,7 +107,7 @@ changes-neither = record {
 }
 
 pub number-alone : NumberAlone
-unfolding fedAllBy takenBy makeCorrections makeHealths makeObservations makePosition makeNull makeText refusedMade pieceBy finishBy
+unfolding fedAllBy takenBy makeCorrections makeHealths makeObservations makePosition makeNull makeText cutCorrections refusedMade refusedCut pieceBy finishBy
 number-alone = record {
   blank-outside = unfold blank outside headerOutside numbersOutside in refl;
   feed-all = λ r bs. keeps (carries-its-number .feed-all r bs) (λ (x : FedAll). (x .used, x .passed)) (fed-none r) _ _ (λ n. refl);
@@ -117,6 +119,7 @@ number-alone = record {
   make-healths = λ h es c. keeps (carries-its-number .make-healths h es c) (λ (x : Made). x .frame) refusedMade _ _ (λ n. refl);
   make-position = λ h p. keeps (carries-its-number .make-position h p) (λ (x : Made). x .frame) refusedMade _ _ (λ n. refl);
   make-null = λ h n. keeps (carries-its-number .make-null h n) (λ (x : Made). x .frame) refusedMade _ _ (λ n. refl);
+  cut-corrections = λ h es c. keeps (carries-its-number .cut-corrections h es c) (λ (x : Cut). x .frames) refusedCut _ _ (λ n. refl);
   make-text = λ h t. keeps (carries-its-number .make-text h t) (λ (x : Made). x .frame) refusedMade _ _ (λ n. refl);
   mend = λ bs at s out. keeps (carries-its-number .mend bs at s out) (λ (x : Mended). (x .step, x .written)) refusedMend _ _ (λ n. refl);
   list-piece = λ l bs room. keeps (carries-its-number .list-piece l bs room) (λ (x : Listed). (x .used, x .written)) (refusedListing l) _ _ (λ n. refl);

@@ -7,6 +7,7 @@ use Rattle.promises.proofs.Demand3.{handed-out, one-by-one, damage-begi
 use Rattle.promises.proofs.Slices.{in-slices}
 use Rattle.promises.proofs.LateJoiners.{late-joiners}
 use Rattle.promises.proofs.WordsKept.{words-kept}
+use Rattle.promises.proofs.SmallBeacon.{small-beacon}
 use Rattle.promises.proofs.Turned.{turned-is-same}
 use Rattle.promises.proofs.Counters.{counters}
 use Rattle.promises.proofs.EveryReader.{feed-all-is-feed}
@@ -38,6 +39,7 @@ demands = record {
   counters = counters;
   late = late-joiners;
   words = words-kept;
+  beacon = small-beacon;
   text = text-is-whole;
   nothing-left = nothing-left;
   taken = piece-taken;

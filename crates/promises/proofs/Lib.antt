@@ -26,6 +26,7 @@ pub mod Demand2
 pub mod Telling
 pub mod Slices
 pub mod LateJoiners
+pub mod SmallBeacon
 pub mod Pieces
 pub mod Whole
 pub mod Progress

@@ -7,6 +7,7 @@ use Rattle.record_positions.proofs as record-positions
 use Rattle.record_nulls.proofs as record-nulls
 use Rattle.record_texts.proofs as record-texts
 use Rattle.record_observations.proofs as record-observations
+use Rattle.profile.proofs as profile
 use Rattle.record_values.proofs as record-values
 use Rattle.promises.specs.RecordCalls.{RecordCalls}
 
@@ -51,6 +52,8 @@ record-calls = record {
   make-observations = record { asks-nothing = λ κs a. tt; settles = λ κs a z e p. p; ends = record-observations.make_observations.Met.met };
   frequency-of = record { asks-nothing = λ κs a. tt; settles = λ κs a z e p. p; ends = record-observations.meanings.frequency_of.Met.met };
   phase-step = record { asks-nothing = λ κs a. tt; settles = λ κs a z e p. p; ends = record-observations.meanings.phase_step.Met.met };
+  check-profile = record { asks-nothing = λ κs a. tt; settles = λ κs a z e p. p; ends = profile.check_profile.Met.met };
+  cut-corrections = record { asks-nothing = λ κs a. tt; settles = λ κs a z e p. p; ends = profile.cut_corrections.Met.met };
   prc-mm = record { asks-nothing = λ κs a. tt; settles = λ κs a z e p. p; ends = record-values.prc_mm.Met.met };
   rrc-mm-s = record { asks-nothing = λ κs a. tt; settles = λ κs a z e p. p; ends = record-values.rrc_mm_s.Met.met };
   stops = record { asks-nothing = λ κs a. tt; settles = λ κs a z e p. p; ends = record-values.stops.Met.met };

@@ -49,6 +49,8 @@ use Rattle.record_texts.specs.Texts as texts
 use Rattle.record_corrections.specs.declared.Correction.{Correction}
 use Rattle.record_healths.specs.declared.SatelliteHealth.{SatelliteHealth}
 use Rattle.record_positions.specs.declared.Position.{Position}
+use Rattle.profile.specs.Profile.{profileOrder, checkProfile, saysProfile}
+use Rattle.profile.specs.Cutting.{cutOrder, cutCorrections, saysCut}
 use Rattle.record_values.specs.Values.{noLetter}
 use Rattle.record_values.specs.Answer.{prcMm, rrcMmS, udreLimit, cn0DbHz, minutesOf, zTenths, letterOf}
 use Rattle.record_values.specs.Answer.{saysDistance, saysRate, saysLimit, saysStrength, saysTime, saysSinceHour, saysLetter}
@@ -134,6 +136,10 @@ pub record CarriesItsNumber : Type 0 where
       → Ordered (5 ∷ 6 ∷ 7 ∷ 12 ∷ 11 ∷ [])
       (makeOrder layout.Text h ((wrongCount 90 (length t), 12) ∷ (anyOf (texts.forbidden (systemOf (h .kind))) t, 11) ∷ []))
       (saysMade (texts.makeText h t))
+  -- the small-beacon profile: checking 5, 7, 20, 8, 10 or 11, 21, 22; cutting 5, 6, 7, 12, 10, 22
+  pub check-profile : (f : Frame) → Ordered (5 ∷ 7 ∷ 20 ∷ 8 ∷ 10 ∷ 11 ∷ 21 ∷ 22 ∷ []) (profileOrder f) (saysProfile (checkProfile f))
+  pub cut-corrections : (h : Header) (es : List Correction) (c : ℕ)
+      → Ordered (5 ∷ 6 ∷ 7 ∷ 12 ∷ 10 ∷ 22 ∷ []) (cutOrder h es c) (saysCut (cutCorrections h es c))
   -- writing a frame: 5, 7, 13; bad carried bits are 5 too; opening a stream: 13
   pub write : (f : Frame) (c : Carried) (buffer : List ℕ)
       → Ordered (5 ∷ 5 ∷ 5 ∷ 7 ∷ 13 ∷ []) (writeChecks f c buffer) (saysWritten (writtenBy f c buffer))

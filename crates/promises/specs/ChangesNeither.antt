@@ -31,6 +31,7 @@ use Rattle.record_texts.specs.Texts.{readText, bufferAfter, makeText}
 use Rattle.record_corrections.specs.declared.Correction.{Correction}
 use Rattle.record_healths.specs.declared.SatelliteHealth.{SatelliteHealth}
 use Rattle.record_positions.specs.declared.Position.{Position}
+use Rattle.profile.specs.Cutting.{noFrames, cutCorrections, saysCut}
 use Rattle.printing.specs.Printing.{printedBy, printedTo, saysPrinted}
 use Rattle.listing.specs.Listing.{pieceBy, pieceText, finishBy, finishText, linePut, lineTo}
 use Rattle.mender.specs.Steps.{mendBy, bytesTo, outputTo, saysMended}
@@ -80,6 +81,7 @@ pub record NumberAlone : Type 0 where
   pub make-text : (h : Header) (t : List ℕ) → Keeps (saysMade (makeText h t)) (makeText h t .frame) blank
   pub mend : (bs : List ℕ) (at : ℕ) (s : Bool) (out : List ℕ)
       → Keeps {B = Step × ℕ} (saysMended (mendBy bs at s out)) (mendBy bs at s out .step, mendBy bs at s out .written) (End, 0)
+  pub cut-corrections : (h : Header) (es : List Correction) (c : ℕ) → Keeps (saysCut (cutCorrections h es c)) (cutCorrections h es c .frames) noFrames
   pub list-piece : (l : Listing) (bs : List ℕ) (room : ℕ)
       → Keeps {B = ℕ × ℕ} (saysAnswer (pieceBy l bs room .answer)) (pieceBy l bs room .used, pieceBy l bs room .written) (0, 0)
   pub finish : (l : Listing) (room : ℕ)

@@ -1,4 +1,5 @@
--- EVERYTHING PROMISED, in one record: the three demands, how words failed, late joiners, the listing, the xor law, the mender and the
+-- EVERYTHING PROMISED, in one record: the three demands, how words failed, late joiners, the small-beacon profile, the listing, the xor law, the mender and
+-- the
 -- worked values. Assumes nothing.
 use mathlib.Core.List.{List}
 use Prim.Native.Nat.{ℕ}
@@ -8,6 +9,7 @@ use Rattle.promises.specs.Demand3.{Demand3}
 use Rattle.promises.specs.Counters.{Counters}
 use Rattle.promises.specs.LateJoiners.{LateJoiners}
 use Rattle.promises.specs.WordsKept.{WordsKept}
+use Rattle.promises.specs.SmallBeacon.{SmallBeacon}
 use Rattle.promises.specs.Course.{Piece, TextIsWhole, NothingLeft, PieceTaken, Reached, TextComes}
 use Rattle.promises.specs.XorLaw.{XorLaw}
 use Rattle.promises.specs.Mending.{Mending}
@@ -23,6 +25,8 @@ pub record Demands : Type 2 where
   pub late : LateJoiners
   -- a journal that keeps the words
   pub words : WordsKept
+  -- the small-beacon profile: its checker and its sender
+  pub beacon : SmallBeacon
   -- in whatever pieces a stream is listed, the text is that of the whole
   pub text : (bs : List ℕ) (ps : List Piece) (out : List ℕ) → TextIsWhole bs ps out
   -- a piece that writes nothing used all bytes lent; every piece with room for a line is taken; after enough of them nothing is left, and the whole

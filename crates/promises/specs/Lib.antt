@@ -14,6 +14,7 @@ pub mod Demand3
 pub mod Counters
 pub mod LateJoiners
 pub mod WordsKept
+pub mod SmallBeacon
 pub mod Demand1
 pub mod Course
 pub mod XorLaw

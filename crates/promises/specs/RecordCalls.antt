@@ -16,6 +16,8 @@ use Rattle.record_texts.specs.Texts.{readText, bufferAfter, makeText}
 use Rattle.record_observations.specs.Editions.{quantityOf}
 use Rattle.record_observations.specs.Observations.{countObservations, readEpoch, observationAt, makeObservations}
 use Rattle.record_observations.specs.Meanings.{frequencyOf, phaseStep}
+use Rattle.profile.specs.Profile.{checkProfile}
+use Rattle.profile.specs.Cutting.{cutCorrections}
 use Rattle.record_values.specs.Values.{stopsUse}
 use Rattle.record_values.specs.Answer.{prcMm, rrcMmS, udreLimit, cn0DbHz, minutesOf, zTenths, letterOf}
 use Rattle.record_fields.proofs.field
@@ -57,6 +59,8 @@ use Rattle.record_observations.proofs.observation_at
 use Rattle.record_observations.proofs.make_observations
 use Rattle.record_observations.proofs.meanings.frequency_of
 use Rattle.record_observations.proofs.meanings.phase_step
+use Rattle.profile.proofs.check_profile
+use Rattle.profile.proofs.cut_corrections
 use Rattle.record_values.proofs.prc_mm
 use Rattle.record_values.proofs.rrc_mm_s
 use Rattle.record_values.proofs.stops
@@ -155,6 +159,11 @@ pub record RecordCalls : Type 2 where
       (λ κs (edition, (kind, (code, _))). frequencyOf edition kind code)
   pub phase-step : Answered phase_step.Reads.Asked phase_step.Reads.Learnt phase_step.Statement.statement
       (λ κs (edition, (kind, (mark, _))). phaseStep edition kind mark)
+  -- profile
+  pub check-profile : Answered check_profile.Reads.Asked check_profile.Reads.Learnt check_profile.Statement.statement
+      (λ κs (frame, _). checkProfile frame)
+  pub cut-corrections : Answered cut_corrections.Reads.Asked cut_corrections.Reads.Learnt cut_corrections.Statement.statement
+      (λ κs (header, (entries, (count, _))). cutCorrections header entries count)
   -- record_values
   pub prc-mm : Answered prc_mm.Reads.Asked prc_mm.Reads.Learnt prc_mm.Statement.statement
       (λ κs (scale, (prc, _)). prcMm scale prc)

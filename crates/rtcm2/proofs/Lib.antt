@@ -22,3 +22,5 @@ pub mod TextLaws
 pub mod ValueOrders
 pub mod WordLaws
 pub mod MendLaws
+pub mod BeaconLaws
+pub mod BeaconOrders

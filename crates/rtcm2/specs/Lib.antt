@@ -14,4 +14,5 @@ pub mod Rows
 pub mod Corrections
 pub mod Healths
 pub mod Observations
+pub mod Beacon
 pub mod Orders

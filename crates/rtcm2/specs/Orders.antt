@@ -14,6 +14,7 @@ use Rattle.frame.specs.declared.Header.{Header}
 use Rattle.frame.specs.declared.Layout.{Layout}
 use Rattle.frame.specs.declared.Layout.the-variants as layout
 use Rattle.frame.specs.declared.System.{System}
+use Rattle.frame.specs.declared.System.the-variants.{Gps}
 use Rattle.stream.specs.Standing.{frameAt}
 use Rattle.reader.specs.Reading.{bitsOf, past, frameWaits}
 use Rattle.journal.specs.Bytes.{wordsFrom}
@@ -30,12 +31,13 @@ use Rattle.record_nulls.specs.Nulls as null
 use Rattle.record_texts.specs.Texts as text
 use Rattle.record_observations.specs.Observations as observation
 use Rattle.record_observations.specs.Editions.{quantityOf}
-use Rattle.record_observations.specs.declared.Edition.{Edition}
 use Rattle.record_observations.specs.declared.Epoch.{Epoch}
 use Rattle.record_observations.specs.declared.Observation.{Observation}
 use Rattle.record_corrections.specs.declared.Correction.{Correction}
 use Rattle.record_healths.specs.declared.SatelliteHealth.{SatelliteHealth}
 use Rattle.record_positions.specs.declared.Position.{Position}
+use Rattle.profile.specs.Profile.{typeOrder}
+use Rattle.profile.specs.Cutting.{cutFrames, cutOrder}
 use Rattle.rtcm2_state.specs.State.{stateSize, holdsState, stateIn}
 use Rattle.rtcm2_rows.specs.Rows.{rowSize, countOf, entriesFrom}
 use Rattle.rtcm2_rows.specs.Corrections as correction-bytes
@@ -43,6 +45,7 @@ use Rattle.rtcm2_rows.specs.Healths as health-bytes
 use Rattle.rtcm2.specs.Send.{pairOf}
 use Rattle.rtcm2_rows.specs.Observations as observation-bytes
 use Rattle.rtcm2.specs.Observations.{editionNamed}
+use Rattle.rtcm2.specs.Beacon.{recordsOf}
 
 -- ---- reading the line
 
@@ -164,6 +167,10 @@ textReadOrder bs buffer =
     ++ recordChecks layout.Text f (text.wrongWords (f .n))
     ((anyOf (text.forbidden (systemFrom bs)) (text.textIn f), 11) ∷ (ltb (length buffer) (text.lengthIn f), 13) ∷ [])
 
+-- THE SMALL-BEACON PROFILE: then 7, 20, 8, 10 or 11, 21, 22
+abbrev pub profileReadOrder : List ℕ → List Check
+profileReadOrder bs = let f = frameFrom bs in recallOrder bs ++ ((late (f .header .z), 7) ∷ typeOrder (f .header .kind) f)
+
 -- ---- a frame goes out: 5 first, 13 last
 
 -- the header of five numbers
@@ -261,6 +268,16 @@ module _ (kind station z sequence code : ℕ) where
   abbrev pub keptOrder : List ℕ → List ℕ → List Check
   keptOrder bs buffer =
       (ltb 7 code, 5) ∷ (not (eqb (length bs % 3) 0), 5) ∷ (ltb 31 (length bs / 3), 5) ∷ (headerOutside H, 5) ∷ shortFor (wordsFrame bs) buffer ∷ []
+
+  -- CUTTING corrections: 5, a health over 7 too, 6, 7, 12, 10, 22, 13 for all records
+  abbrev pub cutKeptFrames : List ℕ → List Frame
+  cutKeptFrames bs =
+      cutFrames H (take (countOf (rowSize (correction-bytes.row Gps)) (length bs)) (entriesFrom (correction-bytes.row Gps) 18 bs))
+
+  abbrev pub cutKeptOrder : List ℕ → List ℕ → List Check
+  cutKeptOrder bs buffer =
+      ((ltb 7 code, 5) ∷ cutOrder H (entriesFrom (correction-bytes.row Gps) 18 bs) (countOf (rowSize (correction-bytes.row Gps)) (length bs)))
+      ++ ((ltb (length buffer) (length (recordsOf (cutKeptFrames bs))), 13) ∷ [])
 
 -- ---- UDRE: 5 for a health over 7, 10
 abbrev pub limitOrder : ℕ → ℕ → List Check

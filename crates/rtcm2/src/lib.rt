@@ -1,4 +1,5 @@
 // The line package as a library for C and Rust: each exported function answers 0 or the refusal's number.
+pub mod beacon;
 pub mod correction;
 pub mod frames;
 mod header;

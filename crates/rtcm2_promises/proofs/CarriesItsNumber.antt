@@ -35,6 +35,7 @@ use Rattle.rtcm2.proofs.SendOrders.{open-order, write-order}
 use Rattle.rtcm2.proofs.WordsOrders.{keep-words-order, restore-order}
 use Rattle.rtcm2.proofs.ReadOrders as reads
 use Rattle.rtcm2.proofs.MakeOrders as makes
+use Rattle.rtcm2.proofs.BeaconOrders.{profile-order, cut-order}
 use Rattle.rtcm2.proofs.ValueOrders.{limit-order}
 use Rattle.promises.specs.CarriesItsNumber.{Ordered}
 use Rattle.promises.proofs.CarriesItsNumber.{ordered, carries-its-number}
@@ -94,6 +95,9 @@ library-numbers = record {
   make-position = λ kind station z sequence code x y up buffer.
       ordered (in-order.positionMadeOrder kind station z sequence code (record { x = x; y = y; z = up }) buffer) _
       (makes.position-made kind station z sequence code buffer x y up) refl refl;
+  check-profile = λ bs fits. ordered (in-order.profileReadOrder bs) _ (profile-order bs fits) refl refl;
+  cut-corrections = λ kind station z sequence code bs buffer.
+      ordered (in-order.cutKeptOrder kind station z sequence code bs buffer) _ (cut-order kind station z sequence code bs buffer) refl refl;
   read-null = λ bs fits. ordered (in-order.nullOrder bs) _ (reads.null-order bs fits) refl refl;
   make-null = λ kind station z sequence code n buffer.
       ordered (in-order.nullMadeOrder kind station z sequence code n buffer) _ (makes.null-made kind station z sequence code buffer n) refl refl;

@@ -1,8 +1,10 @@
 -- A refusal before the last stage leaves the place alone; one of the last stage is that of the package's own call. Assumes nothing.
 use mathlib.Core.Path.{_≡_, refl, sym}
 use mathlib.Core.Bool.{Bool}
-use mathlib.Core.List.{List}
+use mathlib.Core.List.{List, [], _∷_, _++_}
 use Prim.Native.Nat.{ℕ}
+use lib.Dec.{ltb}
+use lib.ListN.{length, drop}
 use Rattle.answer.specs.Order.{Says, refuses, answers}
 use Rattle.answer.proofs.OrderLaws.{refuses-apart}
 use Rattle.bits.specs.Bits.{isNonzero}
@@ -28,10 +30,12 @@ use Rattle.rtcm2.specs.Corrections as corrections
 use Rattle.rtcm2.specs.Observations as observations
 use Rattle.rtcm2.specs.Healths as healths
 use Rattle.rtcm2.specs.Positions as positions
+use Rattle.rtcm2.specs.Beacon.{recordsOf, cutSaid, keptAll, heldAll, sizeAll}
 use Rattle.rtcm2.specs.Nulls as nulls
 use Rattle.rtcm2.specs.Texts.{textSaid, textAfter}
 use Rattle.rtcm2.specs.Texts as texts
 use Rattle.promises.specs.ChangesNeither.{Keeps}
+use Rattle.promises.proofs.CarriesItsNumber.{ordered}
 use Rattle.promises.proofs.ChangesNeither.{keeps, changes-neither}
 use Rattle.rtcm2_promises.specs.ChangesNeither.{LibraryKeeps}
 use Rattle.rtcm2_promises.proofs.CarriesItsNumber.{put-ordered, put-stored}
@@ -68,6 +72,17 @@ entry-keeps row (refuses m) lent = λ n e. refl
 -- a frame that is made or kept, and its length
 made-keeps : (s : Says Frame) (frame : List ℕ) (size : ℕ) → Keeps (keptTo s frame) (heldTo s frame) frame × Keeps (keptTo s frame) (sizeTo s frame size) size
 made-keeps s frame size = (frame-keeps s frame, λ n e. rw e)
+
+-- frames that are cut and kept, and their length
+cut-keeps : (s : Says (List Frame)) (frames : List ℕ) (size : ℕ)
+    → Keeps (keptAll s frames) (heldAll s frames) frames × Keeps (keptAll s frames) (sizeAll s frames size) size
+cut-keeps s frames size = (held s, λ n e. rw e)
+  where
+    held : (s : Says (List Frame)) → Keeps (keptAll s frames) (heldAll s frames) frames
+    held (answers fs) =
+        keeps (ordered {numbers = 13 ∷ []} ((ltb (length frames) (length (recordsOf fs)), 13) ∷ []) (length (recordsOf fs)) refl refl refl) (λ b. b)
+        (λ n. frames) (recordsOf fs ++ drop (length (recordsOf fs)) frames) frames (λ n. refl)
+    held (refuses m) = λ n e. refl
 
 -- a state as bytes
 start-keeps : (c : Candidate) (ended : Bool) (bytes : List ℕ) → Keeps (saysStored (storedBy c bytes)) (startPut c ended bytes) bytes
@@ -106,6 +121,7 @@ library-keeps = record {
   make-observations = λ e kind station z sequence code f s t rows. made-keeps (observations.madeSaid e (headed kind station z sequence code) f s t rows);
   read-position = λ frame x y up. (λ n e. rw e, λ n e. rw e, λ n e. rw e);
   make-position = λ kind station z sequence code x y up. made-keeps (positions.makeSaid kind station z sequence code x y up);
+  cut-corrections = λ kind station z sequence code rows. cut-keeps (cutSaid (headed kind station z sequence code) rows);
   read-null = λ frame m n e. rw e;
   make-null = λ kind station z sequence code n. made-keeps (nulls.makeSaid kind station z sequence code n);
   read-text = λ frame text size. (text-keeps (frameSaid frame) text, λ n e. rw e);

@@ -14,5 +14,6 @@ pub mod ObservationsBack
 pub mod ReadsBack
 pub mod KeptAgain
 pub mod LineBack
+pub mod CutsBack
 pub mod LateJoiners
 pub mod Library

@@ -8,6 +8,7 @@ use Rattle.rtcm2_promises.proofs.KeptAgain.{kept-again}
 use Rattle.rtcm2_promises.proofs.Demand3.{takes-its-record, library-demand-3}
 use Rattle.rtcm2_promises.proofs.Counters.{library-counters}
 use Rattle.rtcm2_promises.proofs.LineBack.{line-gives-back}
+use Rattle.rtcm2_promises.proofs.CutsBack.{library-cuts-back}
 use Rattle.rtcm2_promises.proofs.LateJoiners.{library-late-joiners}
 
 pub library : Library
@@ -17,6 +18,7 @@ library = record {
   changes = library-keeps;
   reads-back = library-reads-back;
   kept-again = kept-again;
+  cuts-back = library-cuts-back;
   third = library-demand-3;
   takes-record = takes-its-record;
   counters = library-counters;

@@ -136,6 +136,13 @@ library-calls = record {
     leaves = λ κs a z e p. two-places (p .1);
     ends = rtcm2.position.rtcm2_make_position.Met.met;
   };
+  check-profile = record { asks-nothing = λ κs a. tt; settles = λ κs a z e p. p; ends = rtcm2.beacon.rtcm2_check_profile.Met.met };
+  cut-corrections = record {
+    asks-nothing = λ κs a. tt;
+    settles = λ κs a z e p. p .0;
+    leaves = λ κs a z e p. two-places (p .1);
+    ends = rtcm2.beacon.rtcm2_cut_corrections.Met.met;
+  };
   read-null = record { asks-nothing = λ κs a. tt; settles = λ κs a z e p. p .0; leaves = λ κs a z e p. p .1; ends = rtcm2.null.rtcm2_read_null.Met.met };
   make-null = record {
     asks-nothing = λ κs a. tt;

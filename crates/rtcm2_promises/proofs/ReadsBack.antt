@@ -8,7 +8,7 @@ use lib.Dec.{ltb, eqb}
 use lib.ListN.{length, take, drop, getD, replicate, length-append, length-drop}
 use lib.Seq.{take-all, take-at, drop-at}
 use borrow.Author.Tests.{le-ltb, eqb-true, not-false}
-use Rattle.answer.specs.Order.{Says, refuses, answers, Check, NoneApplies, inOrder}
+use Rattle.answer.specs.Order.{Says, refuses, answers, NoneApplies}
 use Rattle.answer.proofs.OrderLaws.{order-told, refuses-apart}
 use Rattle.bits.specs.Bits.{number}
 use Rattle.bits.specs.Fields.{AreBytes, octets}
@@ -31,9 +31,8 @@ use Rattle.journal.proofs.ByteLaws.{length-bytes}
 use Rattle.journal.proofs.WordLaws.{written-words}
 use Rattle.record_fields.specs.Coding.{Coding, entryBits, frameWith, Each}
 use Rattle.record_fields.proofs.Faithful.{Faithful}
-use Rattle.record_stages.specs.Stages.{wrongCount, makeOrder, refusedMade, doneMade, saysMade}
+use Rattle.record_stages.specs.Stages.{wrongCount, makeOrder, saysMade}
 use Rattle.record_stages.specs.declared.Made.{Made}
-use Rattle.record_stages.proofs.StageLaws.{done-apart, done-frame}
 use Rattle.record_stages.proofs.ListCode.{told-some-few}
 use Rattle.record_corrections.specs.Corrections as correction
 use Rattle.record_corrections.specs.Issues.{issueOf, issueIn, IssueTyped}
@@ -61,7 +60,6 @@ use Rattle.rtcm2.specs.Texts as texts
 use Rattle.rtcm2.specs.Orders.{headerWith}
 use Rattle.promises.specs.ReadsBack.{ListBack}
 use Rattle.promises.proofs.CarriesItsNumber.{carries-its-number, says-inj, none-told}
-use Rattle.promises.proofs.PairBeside.{made-told}
 use Rattle.promises.proofs.Demand2.{reads-back-equal}
 use Rattle.rtcm2_promises.specs.ReadsBack.{GivesBack, RowsBack, LibraryReadsBack}
 use Rattle.rtcm2_promises.proofs.Framed.{framed-by}
@@ -166,7 +164,7 @@ unfolding issueOf
 issue-typed Gps v h = omega arith
 issue-typed Glonass v h = (omega arith, omega arith)
 
-correction-typed : (s : System) (bs : List ℕ) → AreBytes bs → correction.Typed (entryOf (correction-bytes.row s) bs)
+pub correction-typed : (s : System) (bs : List ℕ) → AreBytes bs → correction.Typed (entryOf (correction-bytes.row s) bs)
 correction-typed s bs b =
     let vs = take (rowSize (correction-bytes.row s)) bs in
     let f = fit-take (rowSize (correction-bytes.row s)) bs b in

@@ -29,6 +29,7 @@ use Rattle.rtcm2.specs.Corrections as corrections
 use Rattle.rtcm2.specs.Observations as observations
 use Rattle.rtcm2.specs.Healths as healths
 use Rattle.rtcm2.specs.Positions as positions
+use Rattle.rtcm2.specs.Beacon.{profileSaid, cutSaid, keptAll}
 use Rattle.rtcm2.specs.Nulls as nulls
 use Rattle.rtcm2.specs.Texts as texts
 use Rattle.record_values.specs.Values.{noLetter}
@@ -107,6 +108,12 @@ pub record LibraryNumbers : Type 0 where
   pub make-position : (kind station z sequence code : ℕ) (x y up : ℤ) (buffer : List ℕ)
       → Ordered (afterHeader (10 ∷ 13 ∷ [])) (in-order.positionMadeOrder kind station z sequence code (record { x = x; y = y; z = up }) buffer)
       (keptTo (positions.makeSaid kind station z sequence code x y up) buffer)
+  -- the small-beacon profile
+  pub check-profile : (bs : List ℕ) → AreBytes bs
+      → Ordered (afterRecord (7 ∷ 20 ∷ 8 ∷ 10 ∷ 11 ∷ 21 ∷ 22 ∷ [])) (in-order.profileReadOrder bs) (profileSaid (frameSaid bs))
+  pub cut-corrections : (kind station z sequence code : ℕ) (bs buffer : List ℕ)
+      → Ordered (afterHeader (12 ∷ 10 ∷ 22 ∷ 13 ∷ [])) (in-order.cutKeptOrder kind station z sequence code bs buffer)
+      (keptAll (cutSaid (headed kind station z sequence code) bs) buffer)
   -- the null frame
   pub read-null : (bs : List ℕ) → AreBytes bs → Ordered (afterRecord (6 ∷ 7 ∷ 8 ∷ [])) (in-order.nullOrder bs) (nulls.nullSaid (frameSaid bs))
   pub make-null : (kind station z sequence code n : ℕ) (buffer : List ℕ)

@@ -32,6 +32,7 @@ use Rattle.rtcm2.specs.Corrections as corrections
 use Rattle.rtcm2.specs.Observations as observations
 use Rattle.rtcm2.specs.Healths as healths
 use Rattle.rtcm2.specs.Positions as positions
+use Rattle.rtcm2.specs.Beacon.{cutSaid, keptAll, heldAll, sizeAll}
 use Rattle.rtcm2.specs.Nulls as nulls
 use Rattle.rtcm2.specs.Texts as texts
 use Rattle.rtcm2.specs.Values.{prcSaid, stopFlag, exactOr0, rrcSaid, stopsSaid, limitSaid, limitFlag, limitOr0, strengthSaid, trackedFlag, dbHzOr0}
@@ -106,6 +107,10 @@ pub record LibraryKeeps : Type 0 where
   pub make-position : (kind station z sequence code : ℕ) (x y up : ℤ) (frame : List ℕ) (size : ℕ)
       → let s = positions.makeSaid kind station z sequence code x y up in
       Keeps (keptTo s frame) (heldTo s frame) frame × Keeps (keptTo s frame) (sizeTo s frame size) size
+  -- the small-beacon profile
+  pub cut-corrections : (kind station z sequence code : ℕ) (rows frames : List ℕ) (size : ℕ)
+      → let s = cutSaid (headed kind station z sequence code) rows in
+      Keeps (keptAll s frames) (heldAll s frames) frames × Keeps (keptAll s frames) (sizeAll s frames size) size
   -- the null frame
   pub read-null : (frame : List ℕ) (n : ℕ) → let s = nulls.nullSaid (frameSaid frame) in Keeps s (left s (λ k. k) n) n
   pub make-null : (kind station z sequence code n : ℕ) (frame : List ℕ) (size : ℕ) → let s = nulls.makeSaid kind station z sequence code n in

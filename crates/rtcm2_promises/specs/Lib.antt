@@ -6,5 +6,6 @@ pub mod Demand3
 pub mod Counters
 pub mod ReadsBack
 pub mod LineBack
+pub mod CutsBack
 pub mod LateJoiners
 pub mod Library

@@ -11,6 +11,7 @@ use Rattle.rtcm2_promises.specs.Counters.{LibraryCounters}
 use Rattle.rtcm2_promises.specs.LateJoiners.{LibraryLateJoiners}
 use Rattle.rtcm2_promises.specs.ReadsBack.{LibraryReadsBack, KeptAgain}
 use Rattle.rtcm2_promises.specs.LineBack.{LineGivesBack}
+use Rattle.rtcm2_promises.specs.CutsBack.{LibraryCutsBack}
 
 pub record Library : Type 2 where
   -- "Every byte sequence, frame and buffer gets a defined answer." "No call trusts its caller." "Every call ends."
@@ -22,6 +23,8 @@ pub record Library : Type 2 where
   -- "A record we write reads back equal."
   pub reads-back : (kind station z sequence code : ℕ) → LibraryReadsBack kind station z sequence code
   pub kept-again : KeptAgain
+  -- of the small-beacon profile: the records that are cut recall, one after the other, to frames that are the list cut well
+  pub cuts-back : LibraryCutsBack
   -- demand 3, of every state's bytes with room; a frame that is taken is the one whose record comes
   pub third : (state : List ℕ) → stateSize ≤ length state → LibraryDemand3 state
   pub takes-record : TakesItsRecord

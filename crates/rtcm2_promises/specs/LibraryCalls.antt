@@ -22,6 +22,7 @@ use Rattle.rtcm2.specs.Words.{wordsKept, wordsHeld, wordsSize, liveSaid, backSa
 use Rattle.rtcm2.specs.Rows.{rowTo, rowHeld}
 use Rattle.rtcm2.specs.Header.{headed}
 use Rattle.rtcm2.specs.Positions.{positionSaid, xSaid, ySaid, zSaid}
+use Rattle.rtcm2.specs.Beacon.{profileSaid, cutSaid, keptAll, heldAll, sizeAll}
 use Rattle.rtcm2.specs.Nulls.{nullSaid}
 use Rattle.rtcm2.specs.Texts.{textSaid, textAfter}
 use Rattle.rtcm2.specs.Values.{prcSaid, stopFlag, exactOr0, rrcSaid, stopsSaid, limitSaid, limitFlag, limitOr0, strengthSaid, trackedFlag, dbHzOr0}
@@ -79,6 +80,8 @@ use Rattle.rtcm2.proofs.health.rtcm2_health_at
 use Rattle.rtcm2.proofs.health.rtcm2_make_healths
 use Rattle.rtcm2.proofs.position.rtcm2_read_position
 use Rattle.rtcm2.proofs.position.rtcm2_make_position
+use Rattle.rtcm2.proofs.beacon.rtcm2_check_profile
+use Rattle.rtcm2.proofs.beacon.rtcm2_cut_corrections
 use Rattle.rtcm2.proofs.null.rtcm2_read_null
 use Rattle.rtcm2.proofs.null.rtcm2_make_null
 use Rattle.rtcm2.proofs.text.rtcm2_read_text
@@ -294,6 +297,17 @@ pub record LibraryCalls : Type 2 where
       (λ κs (kind, (station, (z, (sequence, (health, (xCm, (yCm, (zCm, (frame, (length, _)))))))))).
       let s = positions.makeSaid kind station z sequence health xCm yCm zCm in
       (heldTo s (now frame), sizeTo s (now frame) (now length)))
+  -- rtcm2::beacon
+  pub check-profile : Answered rtcm2_check_profile.Reads.Asked rtcm2_check_profile.Reads.Learnt rtcm2_check_profile.Statement.statement
+      (λ κs (frame, _). numberOf (profileSaid (frameSaid (now frame))))
+  pub cut-corrections : AnsweredLent {B = List ℕ × ℕ}
+      rtcm2_cut_corrections.Reads.Asked rtcm2_cut_corrections.Reads.Learnt rtcm2_cut_corrections.Statement.statement
+      (λ κs (kind, (station, (z, (sequence, (health, (rows, (frames, _))))))).
+      numberOf (keptAll (cutSaid (headed kind station z sequence health) (now rows)) (now frames)))
+      (λ κs (_, (_, (_, (_, (_, (_, (frames, (length, _)))))))). (now frames, now length))
+      (λ κs (kind, (station, (z, (sequence, (health, (rows, (frames, (length, _)))))))).
+      let s = cutSaid (headed kind station z sequence health) (now rows) in
+      (heldAll s (now frames), sizeAll s (now frames) (now length)))
   -- rtcm2::null
   pub read-null : AnsweredLent rtcm2_read_null.Reads.Asked rtcm2_read_null.Reads.Learnt rtcm2_read_null.Statement.statement
       (λ κs (frame, _). numberOf (nullSaid (frameSaid (now frame))))

@@ -110,7 +110,7 @@ fn print_data(words: [u32; 31], n: usize) {
 }
 
 // Writes the header words and the data words of a frame.
-fn print_frame(frame: Frame) {
+pub fn print_frame(frame: Frame) {
     let header = frame.header;
     match frame::header_words(header, frame.n) {
         HeaderWords::Words(first, second) => {

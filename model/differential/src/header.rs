@@ -210,6 +210,19 @@ unsafe extern "C" {
         frame_size: usize,
         length: *mut usize,
     ) -> u8;
+    pub fn rtcm2_check_profile(frame: *const u8, frame_size: usize) -> u8;
+    pub fn rtcm2_cut_corrections(
+        kind: u8,
+        station: u16,
+        z: u16,
+        sequence: u8,
+        health: u8,
+        corrections: *const u8,
+        corrections_size: usize,
+        frames: *mut u8,
+        frames_size: usize,
+        length: *mut usize,
+    ) -> u8;
     pub fn rtcm2_prc_mm(scale: u8, prc: i16, stop: *mut u8, mm: *mut i32) -> u8;
     pub fn rtcm2_rrc_mm_s(scale: u8, rrc: i8, stop: *mut u8, mm_s: *mut i32) -> u8;
     pub fn rtcm2_stops(prc: i16, rrc: i8, stop: *mut u8) -> u8;

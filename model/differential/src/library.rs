@@ -25,9 +25,12 @@ pub fn answer(call: &mut Call) -> u64 {
         | Function::CorrectionAt
         | Function::CountHealths
         | Function::HealthAt => u64::from(list(call)),
-        Function::Keep | Function::MakeCorrections | Function::MakeHealths | Function::MakeText => {
-            u64::from(make(call))
-        }
+        Function::Keep
+        | Function::MakeCorrections
+        | Function::MakeHealths
+        | Function::MakeText
+        | Function::CutCorrections => u64::from(make(call)),
+        Function::CheckProfile => u64::from(check_profile(call)),
         Function::MakePosition => u64::from(make_position(call)),
         Function::MakeNull => u64::from(make_null(call)),
         Function::CountObservations
@@ -149,13 +152,14 @@ fn list(call: &mut Call) -> u8 {
     }
 }
 
-/// The four makers that have the same arguments.
+/// The five makers that have the same arguments.
 fn make(call: &mut Call) -> u8 {
     let maker = match call.function {
         Function::Keep => rtcm2_keep,
         Function::MakeCorrections => rtcm2_make_corrections,
         Function::MakeHealths => rtcm2_make_healths,
         Function::MakeText => rtcm2_make_text,
+        Function::CutCorrections => rtcm2_cut_corrections,
         other => unreachable!("{other:?}"),
     };
     let head = call.head();
@@ -217,6 +221,11 @@ fn make_null(call: &mut Call) -> u8 {
             at(length),
         )
     }
+}
+
+fn check_profile(call: &mut Call) -> u8 {
+    let [frame] = of(&mut call.read);
+    unsafe { rtcm2_check_profile(at(frame), frame.size()) }
 }
 
 fn stops(call: &mut Call) -> u8 {

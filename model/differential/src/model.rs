@@ -7,7 +7,7 @@ use crate::call::{Call, Function};
 use crate::place::Place;
 use rtcm2_model::library::frames::{self, Recalled};
 use rtcm2_model::library::line::{self, Taking};
-use rtcm2_model::library::{lists, numbers, records, words as windows};
+use rtcm2_model::library::{lists, numbers, profile, records, words as windows};
 use rtcm2_model::record::position::Position;
 
 /// Makes the call and gives its answer.
@@ -33,7 +33,9 @@ pub fn answer(call: &mut Call) -> u64 {
         | Function::MakeHealths
         | Function::MakePosition
         | Function::MakeNull
-        | Function::MakeText => u64::from(make(call)),
+        | Function::MakeText
+        | Function::CutCorrections => u64::from(make(call)),
+        Function::CheckProfile => u64::from(check_profile(call)),
         Function::CountObservations
         | Function::ReadEpoch
         | Function::ObservationAt
@@ -155,6 +157,9 @@ fn make(call: &mut Call) -> u8 {
         Function::MakeCorrections => {
             lists::make_corrections(head, of::<1>(read)[0].bytes(), frame, length)
         }
+        Function::CutCorrections => {
+            profile::cut_corrections(head, of::<1>(read)[0].bytes(), frame, length)
+        }
         Function::MakeHealths => lists::make_healths(head, of::<1>(read)[0].bytes(), frame, length),
         Function::MakePosition => {
             let [x, y, z] = [5, 6, 7].map(|i| call.given[i] as i32);
@@ -164,6 +169,11 @@ fn make(call: &mut Call) -> u8 {
         Function::MakeText => records::make_text(head, of::<1>(read)[0].bytes(), frame, length),
         other => unreachable!("{other:?}"),
     }
+}
+
+fn check_profile(call: &mut Call) -> u8 {
+    let [frame] = of(&mut call.read);
+    profile::check_profile(frame.bytes())
 }
 
 fn stops(call: &mut Call) -> u8 {

@@ -32,13 +32,18 @@ pub fn make_corrections(head: Head, rows: &[u8], frame: &mut [u8], length: &mut 
 }
 
 fn corrections_made(head: Head, rows: &[u8], frame: &mut [u8], length: &mut usize) -> Answer<()> {
+    let count = row_count(rows, CORRECTION_SIZE);
+    let made = correction::make(&head.header()?, &corrections_of(head, rows), count)?;
+    keep_frame(&made, frame, length)
+}
+
+/// The corrections of the first rows, as many as a frame can have.
+pub(super) fn corrections_of(head: Head, rows: &[u8]) -> [Correction; correction::MOST] {
     let mut entries = [Correction::default(); correction::MOST];
     for (entry, row) in entries.iter_mut().zip(rows.chunks_exact(CORRECTION_SIZE)) {
         *entry = correction_of(row, system(head.kind.into()));
     }
-    let count = row_count(rows, CORRECTION_SIZE);
-    let made = correction::make(&head.header()?, &entries, count)?;
-    keep_frame(&made, frame, length)
+    entries
 }
 
 /// Number of satellites. Refuses with 14, 15, 16, 15, 16, 6, 7, 8.

@@ -9,6 +9,7 @@ pub mod line;
 pub mod lists;
 pub mod numbers;
 pub mod observations;
+pub mod profile;
 pub mod records;
 pub mod state;
 pub mod words;

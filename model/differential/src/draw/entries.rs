@@ -146,6 +146,39 @@ pub fn frame(rng: &mut Rng, type_number: u16) -> Frame {
     made.expect("a right record")
 }
 
+/// A frame of this type with one to four corrections, now and then of one satellite
+/// twice.
+pub fn few_corrections(rng: &mut Rng, type_number: u16) -> Frame {
+    let header = header(rng, type_number);
+    let entries = differing_corrections(rng, system(type_number));
+    let count = 1 + rng.place(4);
+    correction::make(&header, &entries, count).expect("a right record")
+}
+
+/// As many corrections as a frame can have, for different satellites, but now and then
+/// one of them twice, next to each other or anywhere.
+pub fn differing_corrections(rng: &mut Rng, system: System) -> [Correction; correction::MOST] {
+    let first = rng.below(32) as u8;
+    let step = 1 + 2 * rng.below(16) as u8;
+    let mut satellite = first;
+    let mut entries = [(); correction::MOST].map(|()| {
+        satellite = (satellite + step) % 32;
+        Correction {
+            satellite: satellite + 1,
+            ..correction(rng, system)
+        }
+    });
+    if rng.below(4) == 0 {
+        let (one, other) = match rng.below(3) {
+            0 => (0, 1),
+            1 => (rng.place(4), rng.place(4)),
+            _ => (rng.place(correction::MOST), rng.place(correction::MOST)),
+        };
+        entries[one].satellite = entries[other].satellite;
+    }
+    entries
+}
+
 /// A frame of this type and any words, as many as N can say.
 pub fn any_words(rng: &mut Rng, type_number: u16) -> Frame {
     let n = inside(rng, 0, 31) as u8;

@@ -27,6 +27,7 @@ pub fn call(rng: &mut Rng) -> Call {
         Function::CountObservations,
         Function::ReadEpoch,
         Function::ObservationAt,
+        Function::CheckProfile,
     ];
     match rng.below(40) {
         0 => {
@@ -86,6 +87,7 @@ fn frame_for(function: Function, rng: &mut Rng) -> Frame {
     let mut frame = match rng.below(12) {
         0 => samples::any_frame(rng),
         1 | 2 => entries::any_words(rng, kind),
+        5..=8 if kind == 9 => entries::few_corrections(rng, 9),
         3 | 4 => of_another_type(function, rng),
         _ => entries::frame(rng, kind),
     };
@@ -154,6 +156,12 @@ fn kind_of(function: Function, rng: &mut Rng) -> u16 {
         Function::CountObservations | Function::ReadEpoch | Function::ObservationAt => {
             one_of(rng, &[18, 19])
         }
+        Function::CheckProfile => match rng.below(10) {
+            0 => inside(rng, 1, 64) as u16,
+            1 => one_of(rng, &RECORDS),
+            2..=5 => 9,
+            _ => one_of(rng, &[3, 5, 6, 16]),
+        },
         _ => inside(rng, 1, 64) as u16,
     }
 }

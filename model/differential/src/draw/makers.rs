@@ -21,6 +21,7 @@ pub fn call(rng: &mut Rng) -> Call {
         Function::MakeNull,
         Function::MakeText,
         Function::MakeObservations,
+        Function::CutCorrections,
     ];
     let function = one_of(rng, &functions);
     let mut given = head(function, rng);
@@ -48,9 +49,23 @@ pub fn call(rng: &mut Rng) -> Call {
             read.push(Place::starting(rng, &bytes));
         }
     }
-    let mut lent = vec![room(rng, length_for(words(function, size)))];
+    let need = match function {
+        Function::CutCorrections => cut_length(size / CORRECTION_SIZE),
+        _ => length_for(words(function, size)),
+    };
+    let mut lent = vec![room(rng, need)];
     lent.extend(numbers(rng, 1));
     parts(function, given, read, lent)
+}
+
+/// Bytes of the records that so many corrections are cut into.
+fn cut_length(count: usize) -> usize {
+    let last = count % 3;
+    let whole = count.min(correction::MOST) / 3 * length_for(5);
+    match last {
+        0 => whole,
+        _ => whole + length_for(correction::n_for(last)),
+    }
 }
 
 /// How many words a frame of so many right bytes, or of this wanted N, has.
@@ -88,6 +103,10 @@ fn kind(function: Function, rng: &mut Rng) -> i64 {
         Function::MakeNull => one_of(rng, &[6, 34]),
         Function::MakeText => one_of(rng, &[16, 36]),
         Function::MakeObservations => one_of(rng, &[18, 19]),
+        Function::CutCorrections => match rng.below(16) {
+            0 => one_of(rng, &[1, 31, 34]),
+            _ => 9,
+        },
         _ => inside(rng, 1, 64),
     };
     match rng.below(24) {
@@ -133,6 +152,14 @@ fn bytes_for(function: Function, kind: u16, rng: &mut Rng) -> Vec<u8> {
                 System::Glonass => &HIGHEST_OF_GLONASS,
             };
             (rows(rng, correction::MOST, row), highest)
+        }
+        Function::CutCorrections => {
+            let count = count(rng, correction::MOST);
+            let system = drawn_for(kind, rng);
+            let entries = entries::differing_corrections(rng, system);
+            let rows = entries.iter().flat_map(correction_row);
+            let all = rows.cycle().take(CORRECTION_SIZE * count);
+            (all.collect(), &HIGHEST_OF_CORRECTION)
         }
         Function::MakeHealths => {
             let system = drawn_for(kind, rng);
