@@ -172,6 +172,7 @@ impl Way {
 fn main() {
     let arguments: Vec<String> = std::env::args().skip(1).collect();
     let runs: usize = arguments[1].parse().expect("a number of runs");
+    #[cfg_attr(not(other), allow(unused_mut))]
     let mut builds = vec![library()];
     #[cfg(other)]
     builds.push(other());

@@ -138,7 +138,7 @@ fn corrections_again(frame: &Frame, fields: &mut Sum) -> Answer<Frame> {
     correction::make(&frame.header, &entries, count)
 }
 
-/// The edition by which a frame is read here: 000 for an even sequence, 002 for an odd
+/// The edition by which a frame is read here: GOST for an even sequence, BD for an odd
 /// one.
 fn edition_of(frame: &Frame) -> Edition {
     match frame.header.sequence % 2 {

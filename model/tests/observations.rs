@@ -458,7 +458,7 @@ fn kept(frame: &Frame) -> Vec<u8> {
     buffer
 }
 
-/// O18b's rows by edition 000.
+/// O18b's rows by GOST's edition.
 const ROWS: &str = "00 01 01 01 20 07 1F 00 00 00 00 80 00 00 01 00 1F 01 01 00 FF FF FF 7F";
 
 #[test]

@@ -21,7 +21,7 @@ builtOf h n ws = record { header = h; carried = zeroPair; n = n; words = ws }
 unfoldable pub afterPair : Carried → Frame → Frame
 afterPair c f = record { header = f .header; carried = c; n = f .n; words = f .words }
 
--- THE FRAME WITHOUT ITS PAIR, which writer and journal do not look at: the same after 00
+-- THE FRAME WITHOUT ITS PAIR, which the writer and the journal of data do not look at: the same after 00
 abbrev pub bare : Frame → Frame
 bare f = afterPair zeroPair f
 

@@ -185,6 +185,7 @@ pub fn mend(bytes: &mut [u8], at: u64, searching: bool, output: &mut [u8]) -> Me
     }
 }
 
+// So many bytes on, searching there or not; or the run has ended.
 fn ahead(on: usize, searching: bool, ended: bool) -> Next
     ensures { λ r. ⌜ r ≡ aheadBy on searching ended ⌝ }
 {

@@ -74,7 +74,7 @@ pub(crate) fn extent_of(bytes: &[u8]) -> Extent
     Extent::N(n)
 }
 
-// Writes `count` words from the third byte on, each mended.
+// Writes `count` words from byte 3 on, each mended.
 fn put_words(count: usize, bytes: &[u8], copy: &mut [u8])
     requires { ⌜ count ≤ 33 ⌝ }
     requires { ⌜ (3 + 4 * count ≤ length (now bytes)) × (3 + 4 * count ≤ length (now copy)) ⌝ }

@@ -130,7 +130,7 @@ pub record RecordsOfRtcm : Type 0 where
   pub issue-glonass : (change tb : ℕ) → tb < 2 ^ 7 → issueIn Glonass (change * 2 ^ 7 + tb) ≡ Age change tb
   pub condition-gps : (v : ℕ) → conditionOf Gps v ≡ Code v
   pub condition-glonass : (health reserved : ℕ) → reserved < 2 ^ 2 → conditionOf Glonass (health * 2 ^ 2 + reserved) ≡ Data health reserved
-  -- the first bit of a satellite: in document 000 half a wavelength for type 18 and reserved for type 19, in 002 that more frames follow
+  -- the first bit of a satellite: in GOST half a wavelength for type 18 and reserved for type 19, in BD that more frames follow
   pub mark-half : (b : ℕ) → markOf Gost (quantityOf 18) b ≡ Half b
   pub mark-reserved : (b : ℕ) → markOf Gost (quantityOf 19) b ≡ Reserved b
   pub mark-more : (kind b : ℕ) → markOf Bd (quantityOf kind) b ≡ More b

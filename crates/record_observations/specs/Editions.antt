@@ -1,5 +1,5 @@
 -- What the editions and the two types tell differently: the first bit of a satellite is the edition's, the width of the quality and what is
--- measured are the type's. `Gost` is document 000, `Bd` document 002. Assumes nothing.
+-- measured are the type's. `Gost` is GOST R 53612-2009, `Bd` BD 410002-2015. Assumes nothing.
 use mathlib.Core.Bool.{cond}
 use Prim.Native.Nat.{ℕ, _^_, _≤_, _<_}
 use lib.Dec.{eqb}
@@ -25,7 +25,7 @@ qualityWidth quantity.Range = 4
 
 -- ---- the first bit
 
--- what it says: half a wavelength or reserved in 000, by the type; that more frames follow in 002
+-- what it says: half a wavelength or reserved in GOST, by the type; that more frames follow in BD
 unfoldable pub markOf : Edition → Quantity → ℕ → Mark
 markOf Gost quantity.Phase b = Half b
 markOf Gost quantity.Range b = Reserved b

@@ -18,7 +18,7 @@ use Rattle.record_observations.specs.declared.meanings.Step.{Step}
 use Rattle.record_observations.specs.declared.meanings.Step.the-variants as step
 use Rattle.record_observations.specs.Editions.{quantityOf, markNumber}
 
--- FREQUENCY CODES: 0 is L1 and 2 is L2 in both editions; 1 and 3 are reserved in 002, and have a meaning in 000
+-- FREQUENCY CODES: 0 is L1 and 2 is L2 in both editions; 1 and 3 are reserved in BD, and have a meaning in GOST
 unfoldable pub firstCode : Quantity → Frequency
 firstCode quantity.Phase = frequency.Difference
 firstCode quantity.Range = frequency.IonosphereFree

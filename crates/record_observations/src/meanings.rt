@@ -28,7 +28,7 @@ pub enum Step {
     Refused(u8),
 }
 
-// What document 000 means by code 1.
+// What GOST means by code 1.
 fn first_code(quantity: Quantity) -> Frequency
     ensures { λ r. ⌜ r ≡ firstCode quantity ⌝ }
 {

@@ -19,7 +19,7 @@ use Rattle.rtcm2.specs.Answer.{andThen}
 use Rattle.rtcm2.specs.declared.observation.Named.{Named}
 use Rattle.rtcm2.specs.declared.observation.Named.the-variants as named
 
--- THE EDITION of a number: 0 is document 000, 1 is document 002; 5 for another number
+-- THE EDITION of a number: 0 is GOST, 1 is BD; 5 for another number
 unfoldable pub editionNamed : ℕ → Edition
 editionNamed e = cond (eqb e 0) Gost Bd
 

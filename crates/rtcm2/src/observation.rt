@@ -25,7 +25,7 @@ enum Named {
     Refused(u8),
 }
 
-// The edition of a number: 0 document 000, 1 document 002; another one is 5.
+// The edition of a number: 0 GOST, 1 BD; another one is 5.
 fn edition_of(edition: u8) -> Named
     ensures { λ r. ⌜ r ≡ editionBy edition ⌝ }
 {

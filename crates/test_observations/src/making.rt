@@ -23,31 +23,31 @@ fn one(name: &[u8], edition: Edition, kind: u8, e: Observation) {
 // The marks and the numbers of each edition and type.
 fn satellites() {
     one(
-        b"18, edition 000, half 1, quality 7, losses 31: ",
+        b"18, edition GOST, half 1, quality 7, losses 31: ",
         Edition::Gost,
         18,
         phase_of(Mark::Half(1), 0, 0, 1, 7, 31, 0),
     );
     one(
-        b"18, edition 002, a half-wavelength mark: ",
+        b"18, edition BD, a half-wavelength mark: ",
         Edition::Bd,
         18,
         phase_of(Mark::Half(0), 0, 0, 1, 0, 0, 0),
     );
     one(
-        b"18, edition 000, more follow: ",
+        b"18, edition GOST, more follow: ",
         Edition::Gost,
         18,
         phase_of(Mark::More(0), 0, 0, 1, 0, 0, 0),
     );
     one(
-        b"19, edition 000, reserved 1: ",
+        b"19, edition GOST, reserved 1: ",
         Edition::Gost,
         19,
         range_of(Mark::Reserved(1), 0, 0, 1, 0, 0, 0),
     );
     one(
-        b"19, edition 002, more 1, quality 15, multipath 15: ",
+        b"19, edition BD, more 1, quality 15, multipath 15: ",
         Edition::Bd,
         19,
         range_of(Mark::More(1), 0, 0, 1, 15, 15, 0),

@@ -50,13 +50,13 @@ fn codes(name: &[u8], edition: Edition) {
 
 // What codes mean.
 pub(crate) fn print_answers() {
-    codes(b"edition 000\n", Edition::Gost);
-    codes(b"edition 002\n", Edition::Bd);
-    step(b"edition 000, half 0: ", Edition::Gost, 18, Mark::Half(0));
-    step(b"edition 000, half 1: ", Edition::Gost, 18, Mark::Half(1));
-    step(b"edition 002, more 1: ", Edition::Bd, 18, Mark::More(1));
-    step(b"edition 002, half 1: ", Edition::Bd, 18, Mark::Half(1));
-    step(b"edition 000, half 2: ", Edition::Gost, 18, Mark::Half(2));
+    codes(b"edition GOST\n", Edition::Gost);
+    codes(b"edition BD\n", Edition::Bd);
+    step(b"edition GOST, half 0: ", Edition::Gost, 18, Mark::Half(0));
+    step(b"edition GOST, half 1: ", Edition::Gost, 18, Mark::Half(1));
+    step(b"edition BD, more 1: ", Edition::Bd, 18, Mark::More(1));
+    step(b"edition BD, half 1: ", Edition::Bd, 18, Mark::Half(1));
+    step(b"edition GOST, half 2: ", Edition::Gost, 18, Mark::Half(2));
     step(
         b"type 19, reserved 0: ",
         Edition::Gost,

@@ -17,11 +17,11 @@ fn blank(kind: u32, n: u32) -> Frame {
 fn words() {
     let data = [0x072FE6u32, 0x8051FF, 0xFFFF00];
     let phases = frame_of(0x664805, 0x032318, &data);
-    print(b"18, edition 000: ");
+    print(b"18, edition GOST: ");
     print_at(Edition::Gost, phases, 0);
-    print(b"18, edition 002: ");
+    print(b"18, edition BD: ");
     print_at(Edition::Bd, phases, 0);
-    print(b"19, edition 000: ");
+    print(b"19, edition GOST: ");
     print_at(Edition::Gost, frame_of(0x664C05, 0x032318, &data), 0);
 }
 

@@ -87,9 +87,9 @@ pub(crate) fn print_count(name: &[u8], frame: Frame) {
 
 // Writes satellite number `index` of a frame in both editions.
 fn print_both(frame: Frame, index: usize) {
-    print(b"edition 000: ");
+    print(b"edition GOST: ");
     print_at(Edition::Gost, frame, index);
-    print(b"edition 002: ");
+    print(b"edition BD: ");
     print_at(Edition::Bd, frame, index);
 }
 

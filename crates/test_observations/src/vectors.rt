@@ -78,7 +78,7 @@ fn o18b() {
     );
 }
 
-// Document 002's own time, 0.471014 s.
+// BD's own time, 0.471014 s.
 fn o18c() {
     let first = phase_of(phase_mark(Edition::Gost, 1), 1, 0, 5, 4, 16, -1);
     let second = phase_of(phase_mark(Edition::Bd, 1), 1, 0, 5, 4, 16, -1);

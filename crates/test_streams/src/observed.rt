@@ -88,7 +88,7 @@ fn with_epoch(sum: Sum, epoch: Epoch) -> Sum {
     )
 }
 
-// The edition by which a frame is read here: that of document 000 for an even sequence, that of 002 for an odd one.
+// The edition by which a frame is read here: GOST for an even sequence, BD for an odd one.
 fn edition_of(sequence: u8) -> Edition {
     if sequence % 2 == 0 {
         return Edition::Gost;

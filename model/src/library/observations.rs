@@ -1,5 +1,5 @@
-//! Raw observations, types 18 and 19. An edition is 0 for document 000 and 1 for
-//! document 002; a satellite is a row of bytes.
+//! Raw observations, types 18 and 19. An edition is 0 for GOST and 1 for
+//! BD; a satellite is a row of bytes.
 
 use super::lists::{put_row, row_count};
 use super::{frame_in, keep_frame, numbered, Head};

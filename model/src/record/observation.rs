@@ -15,20 +15,20 @@ pub const LAST_TIME: u32 = 599_999;
 /// Whose meaning the first bit of a satellite has.
 #[derive(Clone, Copy, Debug, PartialEq, Eq)]
 pub enum Edition {
-    /// Document 000.
+    /// GOST R 53612-2009.
     Gost,
-    /// Document 002.
+    /// BD 410002-2015.
     Bd,
 }
 
 /// The first bit of a satellite.
 #[derive(Clone, Copy, Debug, PartialEq, Eq)]
 pub enum Mark {
-    /// Document 000, type 18: 0 full, 1 half wavelength.
+    /// GOST, type 18: 0 full, 1 half wavelength.
     Half(u8),
-    /// Document 000, type 19: kept as read.
+    /// GOST, type 19: kept as read.
     Reserved(u8),
-    /// Document 002: 0 the last frame of the set, 1 more follow.
+    /// BD: 0 the last frame of the set, 1 more follow.
     More(u8),
 }
 
