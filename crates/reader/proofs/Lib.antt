@@ -11,6 +11,8 @@ pub mod Stepping
 pub mod Running
 pub mod Ahead
 pub mod Bursts
+pub mod XorMaps
 pub mod Dividing
 pub mod TakeLaws
+pub mod TakeChecks
 pub mod Tallies

@@ -1,10 +1,10 @@
--- The frame that waits, word by word: what the loop of `filled` goes by, whether a frame stands, and the cases of `take`. Assumes nothing.
+-- The frame that waits, two words after two: what the loop of `filled` goes by, and whether a frame stands. Assumes nothing.
 use mathlib.Core.Path.{_≡_, refl, sym, ap, ap₂, subst, _∙_}
-use mathlib.Core.Bool.{Bool, true, false, cond, not, _&&_, and-eq-true-iff}
+use mathlib.Core.Bool.{Bool, true, false, cond, _&&_, and-eq-true-iff}
 use mathlib.Core.List.{List, [], _∷_, _++_, append-assoc}
 use Prim.Native.Nat.{ℕ, zero, suc, _+_, _-_, _*_, _/_, _%_, _^_, _≤_, _<_}
-use native.Mathlib.Nat.{zero-add}
 use native.Mathlib.Numerals.{add-one}
+use native.Mathlib.Decide.{decLt}
 use native.Mathlib.Omega.{arith}
 use lib.ListN.{length, set, replicate}
 use lib.Seq.{set-at}
@@ -18,19 +18,11 @@ use Rattle.frame.specs.Header.{preambled, headerOf, nOf}
 use Rattle.frame.specs.Frames.{framed, afterPair}
 use Rattle.frame.specs.declared.Header.{Header}
 use Rattle.frame.specs.declared.Carried.{Carried}
-use Rattle.frame.specs.declared.Frame.{Frame}
 use Rattle.stream.specs.Standing.{wordAt, right, nAt, size, Stands, stands, dataFrom, pairBefore, frameAt}
-use Rattle.stream.proofs.Words.{length-dataFrom, data-more, frame-n, unlike, right-later, right-at-first, right-first}
-use Rattle.stream.proofs.Stand.{stands-long, test-stands, stands-test, not-test}
+use Rattle.stream.proofs.Words.{length-dataFrom, data-more, unlike, right-later, right-at-first, right-first}
+use Rattle.stream.proofs.Stand.{stands-long, stands-test, not-test}
 use Rattle.reader.specs.Cells.{heldBits}
-use Rattle.reader.specs.Hunting.{huntOf}
-use Rattle.reader.specs.Reading.{bitsOf, past, frameWaits, movedTo, takeTo, refusedTaking, takenBy}
-use Rattle.reader.specs.Taking.{noneThere, someThere, thereIn, PassTo, RightTo, HeaderIn, Summed}
-use Rattle.reader.specs.declared.hunt.Halt.{Halt}
-use Rattle.reader.specs.declared.Candidate.{Candidate}
-use Rattle.reader.specs.declared.Reader.{Reader}
-use Rattle.reader.specs.declared.Taken.{Taken}
-use Rattle.reader.specs.declared.Answer.the-variants.{Done}
+use Rattle.reader.specs.Taking.{noneThere, someThere, thereIn, PassTo, RightTo, HeaderIn}
 use Rattle.reader.specs.declared.taking.There.{There}
 use Rattle.reader.proofs.Buffer.{length-held}
 use Rattle.reader.proofs.Leaves.{bits-data}
@@ -58,6 +50,40 @@ gather-step ws k x d e h f =
 
     zeros : replicate {A = ℕ} (31 - k) 0 ≡ 0 ∷ replicate (31 - suc k) 0
     zeros = ap (λ n. replicate {A = ℕ} n 0) less
+
+-- the same word once more
+gather-again : (k x : ℕ) (d : List Bool) → x ≡ number (dataOf (wordAt (2 + k) d)) → set (gathered (k + 1) d) k x ≡ gathered (k + 1) d
+gather-again k x d e =
+    rw (e, add-one k, data-more k 2 d)
+    (ap (λ ws. set ws k word) (append-assoc (dataFrom k 2 d) (word ∷ []) zeros) ∙ set-at (dataFrom k 2 d) word zeros word k (length-dataFrom k 2 d)
+    ∙ sym (append-assoc (dataFrom k 2 d) (word ∷ []) zeros))
+  where
+    word : ℕ
+    word = number (dataOf (wordAt (2 + k) d))
+
+    zeros : List ℕ
+    zeros = replicate (31 - suc k) 0
+
+-- two words, of which the second is the next or the first once more
+pub gather-two : (ws : List ℕ) (k j x y : ℕ) (d : List Bool) → ws ≡ gathered k d → k ≤ j → j ≤ k + 1 → j < 31
+    → x ≡ number (dataOf (wordAt (2 + k) d)) → y ≡ number (dataOf (wordAt (2 + j) d)) → set (set ws k x) j y ≡ gathered (j + 1) d
+gather-two ws k j x y d e h l b ex ey = go (decLt k j)
+  where
+    one : set ws k x ≡ gathered (k + 1) d
+    one = gather-step ws k x d e (omega arith) ex
+
+    go : Dec (k < j) → set (set ws k x) j y ≡ gathered (j + 1) d
+    go (yes n) = gather-step (set ws k x) j y d (one ∙ ap (λ i. gathered i d) next) b ey
+      where
+        next : k + 1 ≡ j
+        next = omega (arith, n)
+    go (no n) = subst (λ i. set (set ws k x) i y ≡ gathered (i + 1) d) same (ap (λ vs. set vs k y) one ∙ gather-again k y d (ey ∙ ap word (sym same)))
+      where
+        same : k ≡ j
+        same = omega (arith, n)
+
+        word : ℕ → ℕ
+        word i = number (dataOf (wordAt (2 + i) d))
 
 pub frame-law : (d : List Bool) (h : Header) (c : Carried) (n : ℕ) (ws : List ℕ) → HeaderIn d h c n → ws ≡ gathered n d
     → record { header = h; carried = c; n = n; words = ws } ≡ frameAt d
@@ -103,16 +129,24 @@ stands-pass d s zero l =
     and-eq-true-iff (preambled (dataOf (wordAt 0 d))) (passes (wordAt 0 d)) .0 (sym (right-at-first 0 (wordAt 0 d) refl) ∙ s .each 0 l) .1
 stands-pass d s (suc j) l = sym (right-later (suc j) (wordAt (suc j) d) (λ z. omega arith)) ∙ s .each (suc j) l
 
--- what is left over, added
-pub summed-none : (d : List Bool) → Summed 0 0 d
-summed-none d = record { low = omega arith; none = λ z j l. absurd (omega arith); all = λ p. refl }
+-- nothing is left of two words exactly where both pass
+zero-pass : (x : ℕ) (p q : Bool) → eqb x 0 ≡ p && q → x ≡ 0 → (p ≡ true) × (q ≡ true)
+zero-pass x p q e z = and-eq-true-iff p q .0 (sym e ∙ eq-eqb x 0 z)
 
-pub summed-more : (k wrong x : ℕ) (d : List Bool) → Summed k wrong d → x < 64 → eqb x 0 ≡ passes (wordAt k d) → Summed (k + 1) (wrong + x) d
-summed-more k wrong x d s l e = record {
-  low = omega (arith, s .low);
-  none = λ z. below-more (λ j. passes (wordAt j d) ≡ true) k (s .none (omega arith)) (sym e ∙ eq-eqb x 0 (omega arith));
-  all = λ p. omega (arith, s .all (λ j h. p j (omega arith)), eqb-true x 0 (e ∙ p k (omega arith)));
-}
+pass-zero : (x : ℕ) (p q : Bool) → eqb x 0 ≡ p && q → p ≡ true → q ≡ true → x ≡ 0
+pass-zero x p q e h l = eqb-true x 0 (e ∙ and-eq-true-iff p q .1 (h, l))
+
+-- so do the words up to a word and the one beside it, which is the next or the word itself
+pass-two : (m j : ℕ) (d : List Bool) → PassTo m d → m ≤ j → j ≤ m + 1 → passes (wordAt m d) ≡ true → passes (wordAt j d) ≡ true → PassTo (j + 1) d
+pass-two m j d before h l one two =
+    below-more (λ i. passes (wordAt i d) ≡ true) j (λ i b. go i b (decLt i m)) two
+  where
+    go : (i : ℕ) → i < j → Dec (i < m) → passes (wordAt i d) ≡ true
+    go i b (yes n) = before i n
+    go i b (no n) = subst (λ i. passes (wordAt i d) ≡ true) same one
+      where
+        same : m ≡ i
+        same = omega (arith, n)
 
 -- ---- what windows of the bits held say of it
 
@@ -134,11 +168,27 @@ module _ (cells : List ℕ) (len : length cells ≡ 40) (end : ℕ) (top : end �
         place : end - held + 60 + 30 * k ≡ end - held + 30 * (2 + k)
         place = omega arith
 
-    pub more-here : (wrong x : ℕ) → Summed (2 + k) wrong d → (eqb x 0 ≡ passes (bits 32 w)) × (x < 64) → Summed (2 + (k + 1)) (wrong + x) d
-    more-here wrong x s f = subst (λ m. Summed m (wrong + x) d) more (summed-more (2 + k) wrong x d s (f .1) (f .0 ∙ ap passes word-here))
+  -- data word k and the one beside it, and what is left of the two
+  module _ (k j w v x : ℕ) (h : k ≤ j) (l : j ≤ k + 1) (come : 92 + 30 * j ≤ held) (ew : w ≡ seen cells (end - held + 60 + 30 * k))
+      (ev : v ≡ seen cells (end - held + 60 + 30 * j)) (e : eqb x 0 ≡ passes (bits 32 w) && passes (bits 32 v)) where
+    one-here : bits 32 w ≡ wordAt (2 + k) d
+    one-here = word-here k w (omega arith) ew
+
+    pub data-pass : x ≡ 0 → PassTo (2 + k) d → PassTo (2 + (j + 1)) d
+    data-pass z before =
+        subst (λ m. PassTo m d) more
+        (pass-two (2 + k) (2 + j) d before (omega arith) (omega arith) (ap passes (sym one-here) ∙ both .0) (ap passes (sym (word-here j v come ev)) ∙ both .1))
       where
-        more : 2 + k + 1 ≡ 2 + (k + 1)
+        both : (passes (bits 32 w) ≡ true) × (passes (bits 32 v) ≡ true)
+        both = zero-pass x (passes (bits 32 w)) (passes (bits 32 v)) e z
+
+        more : 2 + j + 1 ≡ 2 + (j + 1)
         more = omega arith
+
+    pub pass-data : j < nAt d → Stands d → x ≡ 0
+    pass-data b s =
+        pass-zero x (passes (bits 32 w)) (passes (bits 32 v)) e (ap passes one-here ∙ stands-pass d s (2 + k) (omega arith))
+        (ap passes (word-here j v come ev) ∙ stands-pass d s (2 + j) (omega arith))
 
   -- the header's two words
   module _ (some : 62 ≤ held) (one two n : ℕ) (e1 : one ≡ seen cells (end - held)) (e2 : two ≡ seen cells (end - held + 30))
@@ -155,10 +205,17 @@ module _ (cells : List ℕ) (len : length cells ≡ 40) (end : ℕ) (top : end �
     pub n-here : n ≡ nAt d
     n-here = n-is cells len end top held low two n some e2 en
 
-    pub both-here : (x y : ℕ) → (eqb x 0 ≡ passes (bits 32 one)) × (x < 64) → (eqb y 0 ≡ passes (bits 32 two)) × (y < 64) → Summed 2 (x + y) d
-    both-here x y f g =
-        summed-more 1 x y d (subst (λ w. Summed 1 w d) (zero-add x) (summed-more 0 0 x d (summed-none d) (f .1) (f .0 ∙ ap passes first)))
-        (g .1) (g .0 ∙ ap passes second)
+    module _ (x : ℕ) (e : eqb x 0 ≡ passes (bits 32 one) && passes (bits 32 two)) where
+      pub header-pass : x ≡ 0 → PassTo 2 d
+      header-pass z = pass-two 0 1 d (λ j b. absurd (omega arith)) (omega arith) (omega arith) (ap passes (sym first) ∙ both .0) (ap passes (sym second) ∙ both .1)
+        where
+          both : (passes (bits 32 one) ≡ true) × (passes (bits 32 two) ≡ true)
+          both = zero-pass x (passes (bits 32 one)) (passes (bits 32 two)) e z
+
+      pub pass-header : Stands d → x ≡ 0
+      pass-header s =
+          pass-zero x (passes (bits 32 one)) (passes (bits 32 two)) e (ap passes first ∙ stands-pass d s 0 (omega arith))
+          (ap passes second ∙ stands-pass d s 1 (omega arith))
 
     pub words-missing : held < 62 + 30 * n → Stands d → ⊥
     words-missing l s = omega (arith, s .taken, long, n-here)
@@ -178,67 +235,3 @@ module _ (cells : List ℕ) (len : length cells ≡ 40) (end : ℕ) (top : end �
         count = n-here;
         head = ap preambled (sym data-first) ∙ sym f ∙ z;
       }
-
--- ---- 5, 4
-
-module _ (r : Reader) where
-  given : Taken
-  given = record {
-    answer = Done;
-    at = r .candidate .at;
-    frame = frameAt (bitsOf r);
-    reader = record { cells = r .cells; candidate = takeTo (r .cells) (r .candidate) (r .ended); ended = r .ended };
-  }
-
-  -- by its two checks
-  by-checks : (p w : Bool) → past r ≡ p → frameWaits r ≡ w → takenBy r ≡ cond p (refusedTaking r 5) (cond (not w) (refusedTaking r 4) given)
-  unfolding takenBy given
-  by-checks p w ep ew =
-      ap (λ x. cond x (refusedTaking r 5) (cond (not (frameWaits r)) (refusedTaking r 4) given)) ep
-      ∙ ap (λ x. cond p (refusedTaking r 5) (cond (not x) (refusedTaking r 4) given)) ew
-
-  pub take-past : past r ≡ true → (x : Taken) → x ≡ refusedTaking r 5 → x ≡ takenBy r
-  take-past p x e = e ∙ sym (by-checks true (frameWaits r) p refl)
-
-  pub take-flag : past r ≡ false → r .candidate .waits ≡ false → (x : Taken) → x ≡ refusedTaking r 4 → x ≡ takenBy r
-  unfolding frameWaits
-  take-flag p w x e = e ∙ sym (by-checks false false p (ap (λ t. t && stands (bitsOf r)) w))
-
-  module _ (p : past r ≡ false) (w : r .candidate .waits ≡ true) (x : There) (e : x ≡ thereIn (bitsOf r)) where
-    stands-is : x .stands ≡ stands (bitsOf r)
-    unfolding thereIn
-    stands-is = ap (λ (y : There). y .stands) e ∙ go (stands (bitsOf r))
-      where
-        go : (t : Bool) → cond t (someThere (bitsOf r)) noneThere .stands ≡ t
-        go true = refl
-        go false = refl
-
-    waits-is : frameWaits r ≡ x .stands
-    unfolding frameWaits
-    waits-is = ap (λ t. t && stands (bitsOf r)) w ∙ sym stands-is
-
-    pub take-nothing : x .stands ≡ false → (y : Taken) → y ≡ refusedTaking r 4 → y ≡ takenBy r
-    take-nothing s y f = f ∙ sym (by-checks false false p (waits-is ∙ s))
-
-    module _ (s : x .stands ≡ true) where
-      pub frame-there : x .frame ≡ frameAt (bitsOf r)
-      unfolding thereIn
-      frame-there =
-          ap (λ (y : There). y .frame) e
-          ∙ ap (λ t. cond t (someThere (bitsOf r)) noneThere .frame) (sym stands-is ∙ s)
-
-      pub n-there : x .frame .n ≡ nAt (bitsOf r)
-      n-there = ap (λ (f : Frame). f .n) frame-there ∙ frame-n (bitsOf r)
-
-      pub come-there : length (bitsOf r) ≡ r .candidate .held → 30 * (x .frame .n + 2) ≤ r .candidate .held
-      come-there long = omega (arith, n-there, test-stands (bitsOf r) (sym stands-is ∙ s) .taken)
-
-      pub take-done : (halt : Halt)
-          → halt ≡ huntOf (r .cells) (r .candidate .end) (r .candidate .held - 30 * (x .frame .n + 2)) 0 (r .ended) (r .candidate .tally)
-          → (c : Candidate) → c ≡ movedTo (r .candidate .at) (r .candidate .end) (r .candidate .held) halt
-          → record { answer = Done; at = r .candidate .at; frame = x .frame; reader = record { cells = r .cells; candidate = c; ended = r .ended } } ≡ takenBy r
-      unfolding given takeTo
-      take-done halt es c ec = rw (frame-there, ec, es, words) (sym (by-checks false true p (waits-is ∙ s)))
-        where
-          words : x .frame .n + 2 ≡ size (bitsOf r)
-          words = omega (arith, n-there)

@@ -2,7 +2,7 @@
 use mathlib.Core.Path.{_≡_}
 use mathlib.Core.Bool.{Bool, true, false, cond}
 use mathlib.Core.List.{List}
-use Prim.Native.Nat.{ℕ, _*_, _≤_, _<_}
+use Prim.Native.Nat.{ℕ, _<_}
 use Rattle.word.specs.Word.{dataOf, passes}
 use Rattle.frame.specs.Header.{preambled, headerOf}
 use Rattle.frame.specs.Frames.{blank}
@@ -33,9 +33,3 @@ pub record HeaderIn (d : List Bool) (header : Header) (carried : Carried) (n : �
   pub words : header ≡ headerOf (dataOf (wordAt 0 d)) (dataOf (wordAt 1 d))
   pub count : n ≡ nAt d
   pub head : preambled (dataOf (wordAt 0 d)) ≡ true
-
--- what is left over of the first k words, added: zero exactly where all pass
-pub record Summed (k wrong : ℕ) (d : List Bool) : Type 0 where
-  pub low : wrong ≤ 64 * k
-  pub none : wrong ≡ 0 → PassTo k d
-  pub all : PassTo k d → wrong ≡ 0

@@ -5,8 +5,8 @@ ghost use lib.ListN.{length, take, drop, getD};
 ghost use Rattle.bits.specs.Bits.{number};
 ghost use Rattle.reader.specs.Cells.{cellBits, pairAt, putCells, putFive, downCells, roomEnd, pushedCells};
 
-// A cell as a wider number.
-fn as_u64(x: u32) -> u64
+// A cell or a window as a wider number.
+pub(crate) fn as_u64(x: u32) -> u64
     ensures { λ r. ⌜ r ≡ x % 2 ^ 32 ⌝ }
 {
     x as u64

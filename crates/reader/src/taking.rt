@@ -1,13 +1,15 @@
 // The frame that waits: each of its words is tested as it is taken out, so that nothing but a frame that stands is handed out.
 ghost use mathlib.Core.Path.{_≡_};
-ghost use Prim.Native.Nat.{_+_, _*_, _≤_, _<_};
+ghost use mathlib.Core.Bool.{_&&_};
+ghost use Prim.Native.Nat.{_+_, _*_, _^_, _≤_, _<_};
 ghost use lib.ListN.{length};
 ghost use lib.Dec.{eqb};
 ghost use Rattle.bits.specs.Bits.{bits};
 ghost use Rattle.word.specs.Word.{passes};
 ghost use Rattle.stream.specs.Standing.{pairBefore};
 ghost use Rattle.reader.specs.Cells.{heldBits};
-ghost use Rattle.reader.specs.Taking.{noneThere, thereIn, HeaderIn, Summed};
+ghost use Rattle.reader.specs.Taking.{noneThere, thereIn, PassTo, HeaderIn};
+use crate::cells::as_u64;
 use crate::cells::window;
 use frame::Carried;
 use frame::Frame;
@@ -38,21 +40,41 @@ fn pair_of(window: u32) -> Carried
     Carried { d29: one, d30: two }
 }
 
-// What is left of a word when it is divided: zero exactly where the word passes. D29* D30* D1 to D24, D27 to D29, D25 D26 are a word of a cyclic
-// code, a multiple of 1 + x^2 + x^5 over two elements, and D30 makes the ones even: a factor 1 + x more. Each line is one step of the division.
-fn left_over(window: u32) -> u32
-    ensures { λ r. ⌜ (eqb r 0 ≡ passes (bits 32 window)) × (r < 64) ⌝ }
+// Two windows as one number, the first in the lower half.
+fn both_of(one: u32, two: u32) -> u64
+    ensures { λ r. ⌜ r ≡ one + two * 2 ^ 32 ⌝ }
 {
-    let round = (window / 64 * 32) ^ ((window / 2 % 8 * 4) ^ (window / 16 % 4));
-    let one = round ^ (round << 1);
-    let two = one ^ ((one << 4) ^ ((one << 5) ^ (one << 7)));
-    let three = two ^ ((two << 8) ^ ((two << 10) ^ (two << 14)));
-    let four = three ^ ((three << 16) ^ ((three << 20) ^ (three << 28)));
-    (four / 33554432 % 64) ^ (window % 2 * 63)
+    as_u64(one) + as_u64(two) * 4294967296
 }
 
-// All words of a header with its preamble have come, and `wrong` is what is left of its two: the data words are put in, one after the other, and
-// what is left of each is added, which is zero in the end exactly where all pass.
+// What is left of two words when each is divided, in its half of one number: zero exactly where both pass. D29* D30* D1 to D24, D27 to D29, D25 D26
+// are a word of a cyclic code, a multiple of 1 + x^2 + x^5 over two elements, and D30 makes the ones even: a factor 1 + x more. `part` and `times`
+// multiply by the quotient of 1 + x^31 and the two factors, of degree 25: bits 25 to 30 are then zero where nothing is left, six ones where the ones
+// alone are odd. The half below reaches bit 55 and no further.
+fn left_over(one: u32, two: u32) -> u64
+    ensures { λ r. ⌜ eqb r 0 ≡ passes (bits 32 one) && passes (bits 32 two) ⌝ }
+{
+    let both = both_of(one, two);
+    let round = ((both >> 1) & 9223371901563305952)
+        ^ (((both << 1) & 120259084316) ^ ((both >> 4) & 12884901891));
+    let part = round ^ ((round << 1) ^ ((round << 7) ^ ((round << 9) ^ (round << 10))));
+    let times = part ^ ((part << 4) ^ ((part << 5) ^ ((part << 13) ^ (part << 15))));
+    let even = (both % 2 * 2113929216) ^ (both / 4294967296 % 2 * 9079256848778919936);
+    (times ^ even) & 9079256850892849152
+}
+
+// The data word that is tested beside word k: the next, or for the last of an odd number itself.
+fn beside(k: usize, n: usize) -> usize
+    requires { ⌜ (k < n) × (n < 32) ⌝ }
+    ensures { λ r. ⌜ (k ≤ r) × (r ≤ k + 1) × (r < n) ⌝ }
+{
+    if k + 1 < n {
+        return k + 1;
+    }
+    k
+}
+
+// All words of a header whose two words pass have come: the data words are put in, two by two, while both of the two pass.
 fn filled(
     cells: &[u32; 40],
     end: usize,
@@ -60,24 +82,24 @@ fn filled(
     header: Header,
     carried: Carried,
     n: usize,
-    wrong: u32,
 ) -> There
     requires { ⌜ (length (now cells) ≡ 40) × (end ≤ 1280) × (held ≤ end) × HeaderIn (heldBits (now cells) end held) header carried n × (62 + 30 * n ≤ held)
-        × Summed 2 wrong (heldBits (now cells) end held) ⌝ }
+        × PassTo 2 (heldBits (now cells) end held) ⌝ }
     ensures { λ r. ⌜ r ≡ thereIn (heldBits (now (cells .entry)) end held) ⌝ }
 {
     let first = end - held + 60;
     let mut words = [0u32; 31];
-    let mut sum = wrong;
     let mut k: usize = 0;
     while k < n {
+        let j = beside(k, n);
         let w = window(cells, first + 30 * k);
-        sum += left_over(w);
+        let v = window(cells, first + 30 * j);
+        if left_over(w, v) != 0 {
+            return nothing();
+        }
         words[k] = word::data_of(w);
-        k += 1;
-    }
-    if sum != 0 {
-        return nothing();
+        words[j] = word::data_of(v);
+        k = j + 1;
     }
     There {
         stands: true,
@@ -109,8 +131,10 @@ pub(crate) fn standing(cells: &[u32; 40], end: usize, held: usize) -> There
     if !frame::has_preamble(first) {
         return nothing();
     }
+    if left_over(one, two) != 0 {
+        return nothing();
+    }
     let header = frame::header_of(first, second);
     let carried = pair_of(one);
-    let wrong = left_over(one) + left_over(two);
-    filled(cells, end, held, header, carried, n, wrong)
+    filled(cells, end, held, header, carried, n)
 }

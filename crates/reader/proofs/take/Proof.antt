@@ -13,7 +13,7 @@ use Rattle.reader.specs.Taking.{thereIn}
 use Rattle.reader.specs.declared.Reader.{Reader}
 use Rattle.reader.proofs.Accepted.{Accepted, to-accepted}
 use Rattle.reader.proofs.Buffer.{length-held}
-use Rattle.reader.proofs.TakeLaws.{take-past, take-flag, take-nothing, n-there, come-there, take-done}
+use Rattle.reader.proofs.TakeChecks.{take-past, take-flag, take-nothing, n-there, come-there, take-done}
 use Rattle.reader.proofs.take.Statement.{statement}
 use Rattle.reader.proofs.take.Tie as tie
 

@@ -9,7 +9,7 @@ use Rattle.word.specs.Word.{dataOf}
 use Rattle.frame.specs.Header.{nOf}
 use Rattle.reader.proofs.Leaves.{bits-data}
 use Rattle.frame.proofs.HeaderLaws.{n-lt}
-use Rattle.reader.proofs.TakeLaws.{there-none, too-short, words-missing, headless-here, header-here, both-here}
+use Rattle.reader.proofs.TakeLaws.{there-none, too-short, words-missing, headless-here, header-here, header-pass, pass-header}
 use Rattle.reader.proofs.taking.standing.Statement.{statement}
 use Rattle.reader.proofs.taking.standing.Tie as tie
 
@@ -64,12 +64,22 @@ returns-3 c =
     (second n .data-of2 .result) (second n .before .data-of .ensures) (second n .data-of2 .ensures)
     (asked .has-preamble .result) (asked .has-preamble .ensures) (not-true _ (c .before .if3 .taken))) (c .nothing3 .result) (c .nothing3 .ensures)
 
+returns-4 : tie.Need-returns-4
+returns-4 c =
+    let left = c .before .before in
+    let n = left .before .before .before .before in
+    let s = start n in
+    let a = s .args in
+    there-none _ (λ stands. c .before .if4 .taken (pass-header (now (a .cells)) (s .pre .0) (a .end) (s .pre .1) (a .held) (s .pre .2)
+    (one n .before .if1 .left) (one n .window .result) (two n .window2 .result) (n .n-of .result) (one n .window .ensures) (two n .window2 .ensures) (n-is n)
+    (left .left-over .result) (left .left-over .ensures) stands)) (c .nothing4 .result) (c .nothing4 .ensures)
+
 filled-requires : tie.Need-filled-requires
 filled-requires c κs =
-    let left1 = c .before in
-    let pair = left1 .before in
-    let header = pair .before in
-    let headed = header .before in
+    let header = c .before in
+    let tested = header .before in
+    let left = tested .before in
+    let headed = left .before in
     let asked = headed .before in
     let n = asked .before .before in
     let s = start n in
@@ -78,16 +88,16 @@ filled-requires c κs =
     (two n .window2 .result) (n .n-of .result) (one n .window .ensures) (two n .window2 .ensures) (n-is n) (second n .before .data-of .result)
     (second n .data-of2 .result) (second n .before .data-of .ensures) (second n .data-of2 .ensures)
     (asked .has-preamble .result) (asked .has-preamble .ensures) (not-false _ (headed .if3 .left))
-    (header .header-of .result) (header .header-of .ensures) (pair .pair-of .result) (pair .pair-of .ensures) in
-    let sum = both-here (now (a .cells)) (s .pre .0) (a .end) (s .pre .1) (a .held) (s .pre .2) (one n .before .if1 .left) (one n .window .result)
+    (header .header-of .result) (header .header-of .ensures) (c .pair-of .result) (c .pair-of .ensures) in
+    let pass = header-pass (now (a .cells)) (s .pre .0) (a .end) (s .pre .1) (a .held) (s .pre .2) (one n .before .if1 .left) (one n .window .result)
     (two n .window2 .result) (n .n-of .result) (one n .window .ensures) (two n .window2 .ensures) (n-is n)
-    (left1 .left-over .result) (c .left-over2 .result) (left1 .left-over .ensures) (c .left-over2 .ensures) in
-    (s .pre .0, s .pre .1, s .pre .2, there, asked .before .if2 .left, sum)
+    (left .left-over .result) (left .left-over .ensures) (tested .if4 .left) in
+    (s .pre .0, s .pre .1, s .pre .2, there, asked .before .if2 .left, pass)
 
 pub standing-spec : {M : Type 1} → statement M
 standing-spec =
     tie.close
     (tie.spec (λ c κs. search needs) returns (λ c. search needs) (λ c κs. search needs) (λ c. search needs) (λ c. search needs) (λ c κs. search needs)
     (λ c κs. search needs) (λ c κs. search needs) (λ c κs. search needs) mul-if2 add-if2 (λ c κs. search needs) returns-2
-    (λ c κs. search needs) (λ c κs. search needs) returns-3 (λ c κs. search needs) (λ c κs. search needs) (λ c κs. search needs)
-    (λ c κs. search needs) (λ c. search needs) filled-requires (λ c. search needs))
+    (λ c κs. search needs) (λ c κs. search needs) returns-3 (λ c κs. search needs) (λ c κs. search needs) returns-4 (λ c κs. search needs)
+    (λ c κs. search needs) filled-requires (λ c. search needs))
