@@ -6,6 +6,7 @@ pub mod Leaves
 pub mod Looking
 pub mod Steps
 pub mod Seeking
+pub mod Remembering
 pub mod Accepted
 pub mod Stepping
 pub mod Running

@@ -207,7 +207,8 @@ module _ (cells : List ℕ) (len : length cells ≡ 40) (end : ℕ) (top : end �
 
     module _ (x : ℕ) (e : eqb x 0 ≡ passes (bits 32 one) && passes (bits 32 two)) where
       pub header-pass : x ≡ 0 → PassTo 2 d
-      header-pass z = pass-two 0 1 d (λ j b. absurd (omega arith)) (omega arith) (omega arith) (ap passes (sym first) ∙ both .0) (ap passes (sym second) ∙ both .1)
+      header-pass z =
+          pass-two 0 1 d (λ j b. absurd (omega arith)) (omega arith) (omega arith) (ap passes (sym first) ∙ both .0) (ap passes (sym second) ∙ both .1)
         where
           both : (passes (bits 32 one) ≡ true) × (passes (bits 32 two) ≡ true)
           both = zero-pass x (passes (bits 32 one)) (passes (bits 32 two)) e z

@@ -2,14 +2,15 @@
 use mathlib.Core.Path.{_≡_}
 use mathlib.Core.Bool.{Bool, true, false, not, cond}
 use mathlib.Core.List.{List, [], _∷_}
-use Prim.Native.Nat.{ℕ, zero, suc, _+_, _/_, _%_, _^_, _≤_}
-use lib.ListN.{length}
-use Rattle.bits.specs.Bits.{odd}
-use Rattle.word.specs.Word.{dataOf}
+use Prim.Native.Nat.{ℕ, zero, suc, _+_, _*_, _/_, _%_, _^_, _≤_, _<_}
+use lib.Dec.{eqb}
+use lib.ListN.{length, take, drop, getD, set}
+use Rattle.bits.specs.Bits.{odd, bits, number}
+use Rattle.word.specs.Word.{dataOf, passes}
 use Rattle.frame.specs.Header.{preambled}
 use Rattle.stream.specs.Standing.{right}
 use Rattle.stream.specs.Verdict.{Fault, headless, failed, faultOf, Hunted, hunt}
-use Rattle.reader.specs.Cells.{heldBits}
+use Rattle.reader.specs.Cells.{cellBits, heldBits}
 use Rattle.reader.specs.declared.Tally.{Tally}
 use Rattle.reader.specs.declared.hunt.Halt.{Halt}
 use Rattle.reader.specs.declared.hunt.Looked.{Looked}
@@ -49,6 +50,21 @@ haltOf t h = record { left = length (h .rest); words = h .words; found = h .foun
 
 unfoldable pub huntOf : List ℕ → ℕ → ℕ → ℕ → Bool → Tally → Halt
 huntOf cells end held words ended t = haltOf t (hunt ended words (heldBits cells end held))
+
+-- the window at bit x of the buffer passes; so do k words from a bit on
+abbrev pub passesAt : List ℕ → ℕ → Bool
+passesAt cells x = passes (bits 32 (number (take 32 (drop x (cellBits cells)))))
+
+abbrev pub Passing : List ℕ → ℕ → ℕ → Type 0
+Passing cells bit k = (j : ℕ) → j < k → passesAt cells (bit + 30 * j) ≡ true
+
+-- WINDOWS REMEMBERED, the bit of one that failed for each of the thirty phases: those of its phase before it, from `bit` on, have come and pass
+abbrev pub Remembered : List ℕ → ℕ → ℕ → List ℕ → Type 0
+Remembered cells end bit fails = (x : ℕ) → bit ≤ x → x < getD fails (x % 30) 0 → (x + 32 ≤ end) × (passesAt cells x ≡ true)
+
+-- with word k of the candidate at a bit: not where it is the first word, nor for the candidate that a hunt began with, whose words before were not seen
+unfoldable pub rememberedBy : List ℕ → Bool → ℕ → ℕ → List ℕ
+rememberedBy fails began bit k = cond began fails (cond (eqb k 0) fails (set fails (bit % 30) (bit + 30 * k)))
 
 -- of two cells as one number: at bit o and the bits after it, z in all, no nine bits are D30* and D1 to D8 of a preamble, as it is or turned over
 abbrev pub Headless : ℕ → ℕ → ℕ → Type 0

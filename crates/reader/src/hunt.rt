@@ -1,13 +1,16 @@
 // The hunt for a frame over the bits held.
 ghost use mathlib.Core.Path.{_≡_};
 ghost use mathlib.Core.Bool.{Bool};
-ghost use Prim.Native.Nat.{_+_, _≤_, _<_};
+ghost use Prim.Native.Nat.{_+_, _-_, _*_, _%_, _^_, _≤_, _<_};
+ghost use lib.Dec.{leb};
 ghost use lib.ListN.{length};
 ghost use lib.Count.{ones};
 ghost use Rattle.bits.specs.Bits.{isOdd, bits};
 ghost use Rattle.frame.specs.Header.{nOf};
 ghost use Rattle.word.specs.Word.{dataOf};
-ghost use Rattle.reader.specs.Hunting.{huntOf, countedAs, headlessAt, lookedAt, Headless};
+ghost use Rattle.stream.specs.Standing.{size};
+ghost use Rattle.reader.specs.Cells.{heldBits};
+ghost use Rattle.reader.specs.Hunting.{huntOf, countedAs, headlessAt, lookedAt, Headless, Passing, Remembered, rememberedBy};
 ghost use Rattle.reader.specs.declared.Tally.{Tally};
 use crate::Tally;
 use word::Tested;
@@ -74,6 +77,18 @@ fn n_in(window: u32) -> usize
     frame::n_of(word::data_of(window))
 }
 
+// So many words of a candidate, which have come, are all of its frame: the header's two and N.
+fn whole(cells: &[u32; 40], end: usize, left: usize, words: usize) -> bool
+    requires { ⌜ (length (now cells) ≡ 40) × (end ≤ 1280) × (left ≤ end) × (2 + 30 * words ≤ left) ⌝ }
+    ensures { λ r. ⌜ r ≡ leb (size (heldBits (now (cells .entry)) end left)) words ⌝ }
+{
+    if words < 2 {
+        return false;
+    }
+    let n = n_in(crate::cells::window(cells, end - left + 30));
+    n + 2 <= words
+}
+
 // How many positions from bit `off` of two cells on have nine bits that are not D30* and D1 to D8 of a preamble, as it is or turned over:
 // neighbours of these nine are in turn alike and unlike.
 fn headless(both: u64, off: u32) -> u32
@@ -129,7 +144,53 @@ pub(crate) fn seek(cells: &[u32; 40], end: usize, left: usize, words: usize) -> 
     passed(left, off, positions as usize)
 }
 
-// The hunt from word `words` of the candidate on: a word that has come and fails rules its position out, which is counted.
+// Word k of the candidate at a bit failed: its window is remembered by its phase, the bit modulo thirty. Not so a first word; nor a word of the candidate
+// that the hunt began with, since the words before it were not seen.
+fn remember(fails: &mut [u16; 30], began: bool, bit: usize, k: usize)
+    requires { ⌜ (length (now fails) ≡ 30) × (bit + 30 * k ≤ 1280) ⌝ }
+    ensures { λ _. ⌜ now (fails .exit) ≡ rememberedBy (now (fails .entry)) began bit k ⌝ }
+{
+    if began {
+        return;
+    }
+    if k == 0 {
+        return;
+    }
+    fails[bit % 30] = (bit + 30 * k) as u16;
+}
+
+// A remembered bit as a wider number.
+fn as_usize(bit: u16) -> usize
+    ensures { λ r. ⌜ r ≡ bit % 2 ^ 16 ⌝ }
+{
+    bit as usize
+}
+
+// How many words of the next candidate pass by what is remembered: those before the window of its phase that failed, so that this one is looked at next.
+// The last word of its frame is looked at again, since a frame may stand there.
+fn known(cells: &[u32; 40], end: usize, left: usize, fails: &[u16; 30]) -> usize
+    requires { ⌜ (length (now cells) ≡ 40) × (end ≤ 1280) × (left ≤ end) × (length (now fails) ≡ 30)
+        × Remembered (now cells) end (end - left) (now fails) ⌝ }
+    ensures { λ r. ⌜ (r ≤ 32) × Passing (now (cells .entry)) (end - left) r
+        × ((ended : Bool) (t : Tally) → huntOf (now (cells .entry)) end left 0 ended t ≡ huntOf (now (cells .entry)) end left r ended t) ⌝ }
+{
+    if left < 62 {
+        return 0;
+    }
+    let bit = end - left;
+    let fail = as_usize(fails[bit % 30]);
+    if fail <= bit {
+        return 0;
+    }
+    if lacks_preamble(0, crate::cells::window(cells, bit)) {
+        return 0;
+    }
+    let n = n_in(crate::cells::window(cells, bit + 30));
+    lower(n + 1, (fail - bit) / 30)
+}
+
+// The hunt from word `words` of the candidate on: a word that has come and fails rules its position out, which is counted. What passed before the word
+// that failed is not looked at again for the candidates that it covers.
 pub(crate) fn hunt(
     cells: &[u32; 40],
     end: usize,
@@ -144,27 +205,26 @@ pub(crate) fn hunt(
     let mut left = held;
     let mut good = words;
     let mut count = tally;
+    let mut fails = [0u16; 30];
     'position: while 0 < left {
         while 32 + 30 * good <= left {
             let w = crate::cells::window(cells, end - left + 30 * good);
             let looked = look(good, w, count);
             if let Looked::Wrong(more) = looked {
                 count = more;
+                remember(&mut fails, left == held, end - left, good);
                 left = seek(cells, end, left - 1, 0);
-                good = 0;
+                good = known(cells, end, left, &fails);
                 continue 'position;
             }
             good += 1;
-            if 2 <= good {
-                let n = n_in(crate::cells::window(cells, end - left + 30));
-                if n + 2 <= good {
-                    return Halt {
-                        left,
-                        words: 0,
-                        found: true,
-                        tally: count,
-                    };
-                }
+            if whole(cells, end, left, good) {
+                return Halt {
+                    left,
+                    words: 0,
+                    found: true,
+                    tally: count,
+                };
             }
         }
         if !ended {
