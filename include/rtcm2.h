@@ -21,7 +21,8 @@
  * Types. 1, 3, 5, 6, 9 and 16 are of GPS, 31, 32, 33, 34 and 36 of GLONASS. A call on a record takes the types of both:
  * corrections 1, 9, 31 and 34; position 3 and 32; health 5 and 33; null frame 6 and 34; text 16 and 36. A frame of type 34
  * holds no corrections where N is 0 or 1, and is then a null frame; else it is no null frame. Any other type is 6. Types 18 and 19,
- * raw observations, are of both systems.
+ * raw observations, are of both systems. Types 41 and 42, general corrections, name their system in the frame: 1 GPS, 2 GLONASS, 5 QZSS,
+ * 6 BDS; any other number is 23. A frame of type 42 with N 1 is the null frame of its system, which calls of its own read and make.
  *
  * Editions. The papers disagree on the first bit of a satellite in types 18 and 19. A call that says or takes its meaning is given
  * the edition: 0 for GOST R 53612-2009, 1 for BD 410002-2015; any other number is 5.
@@ -50,7 +51,7 @@ enum {
     RTCM2_NO_ENTRY = 9,       /* entry number not below the count */
     RTCM2_FIELD = 10,         /* record field outside its range */
     RTCM2_CHARACTER = 11,     /* forbidden character */
-    RTCM2_ENTRIES = 12,       /* no entry, too many, or bytes that are no whole number of entries; N over 1 for a null frame */
+    RTCM2_ENTRIES = 12,       /* no entry, too many, or bytes that are no whole number of entries; a null frame's N */
     RTCM2_TOO_SHORT = 13,     /* lent buffer too short */
     RTCM2_NO_MARK = 14,       /* the bytes do not begin with the journal mark */
     RTCM2_CUT_SHORT = 15,     /* journal record cut short */
@@ -58,7 +59,8 @@ enum {
     RTCM2_BROKEN = 17,        /* a kept word fails parity, or its carried bits are not the last two of the word before */
     RTCM2_OTHER_PROFILE = 20, /* the type is not of the small-beacon profile */
     RTCM2_SATELLITES = 21,    /* more than three satellites in a frame of the profile */
-    RTCM2_TWICE = 22          /* one satellite twice */
+    RTCM2_TWICE = 22,         /* one satellite twice */
+    RTCM2_OTHER_SYSTEM = 23   /* the system of types 41 and 42 is not GPS, GLONASS, QZSS or BDS */
 };
 
 /* Sizes in bytes. */
@@ -69,6 +71,7 @@ enum {
     RTCM2_WORDS_MAX = 135,      /* the longest record that keeps the words */
     RTCM2_CORRECTION_SIZE = 7,  /* one correction */
     RTCM2_OBSERVATION_SIZE = 12, /* one observation */
+    RTCM2_GENERAL_SIZE = 7,     /* one general correction */
     RTCM2_HEALTH_SIZE = 10,     /* one satellite's health */
     RTCM2_TEXT_MAX = 90,        /* the longest text */
     RTCM2_REPORT_MAX = 986,     /* room for the report of any step of the mender */
@@ -203,6 +206,38 @@ uint8_t rtcm2_make_observations(uint8_t edition, uint8_t type, uint16_t station,
                                 uint8_t frequency, uint8_t smoothing, uint32_t time, const uint8_t *observations,
                                 size_t observations_size, uint8_t *frame, size_t frame_size, size_t *length);
 
+/* ---- General corrections, types 41 and 42. A head of system (1 GPS, 2 GLONASS, 5 QZSS, 6 BDS), signal 0 to 15, ephemeris type 0 to 3,
+ * period of use 0 to 3 and ionosphere 0 to 1; then 1 to 22 satellites, or 1 to 16 where ionosphere is 1 and each has its delay. A
+ * satellite is RTCM2_GENERAL_SIZE bytes: satellite 1 to 63, UDRE 0 to 15, IOD 0 to 255, PRC in two bytes (two's complement, -8192 to
+ * 8191) and the delay in two bytes (0 to 4095, 0 where ionosphere is 0), each with the low byte first. PRC -8192 says to stop using the
+ * satellite, delay 4095 not to use the delay; the calls on values below tell both. */
+
+/* How many satellites the frame holds. Refusals: 14, 15, 16, 15, 16, then 6, 7, 8 (N 0, and type 41 with N 1), 23, 8 (an N that no
+ * number of satellites gives). */
+uint8_t rtcm2_count_generals(const uint8_t *frame, size_t frame_size, size_t *count);
+
+/* The head. Refusals: 14, 15, 16, 15, 16, then 6, 7, 8, 23, 8. */
+uint8_t rtcm2_read_head(const uint8_t *frame, size_t frame_size, uint8_t *system, uint8_t *signal, uint8_t *ephemeris, uint8_t *period,
+                        uint8_t *ionosphere);
+
+/* The satellite at `index`, from 0, to the start of `general`. Refusals: 14, 15, 16, 15, 16, then 6, 7, 8, 23, 8, 9, 10 (satellite 0),
+ * 13. */
+uint8_t rtcm2_general_at(const uint8_t *frame, size_t frame_size, size_t index, uint8_t *general, size_t general_size);
+
+/* Makes a frame of a head and its satellites, one after the other in `generals`. Refusals: 5, 6, 7, 23, 12, 10, 13. */
+uint8_t rtcm2_make_generals(uint8_t kind, uint16_t station, uint16_t z, uint8_t sequence, uint8_t health, uint8_t system, uint8_t signal,
+                            uint8_t ephemeris, uint8_t period, uint8_t ionosphere, const uint8_t *generals, size_t generals_size,
+                            uint8_t *frame, size_t frame_size, size_t *length);
+
+/* Whether the frame is a null frame of type 42: its N, which is 1, and its system. The other 20 bits may be any. Refusals: 14, 15, 16,
+ * 15, 16, then 6 (also type 41), 7, 8 (N not 1), 23. */
+uint8_t rtcm2_read_general_null(const uint8_t *frame, size_t frame_size, uint8_t *n, uint8_t *system);
+
+/* Makes a null frame of type 42: one data word of the system and 20 bits of fill, 1 and 0 in turn. Refusals: 5, 6 (also type 41), 7,
+ * 23, 12 (`n` not 1), 13. */
+uint8_t rtcm2_make_general_null(uint8_t kind, uint16_t station, uint16_t z, uint8_t sequence, uint8_t health, uint8_t n, uint8_t system,
+                                uint8_t *frame, size_t frame_size, size_t *length);
+
 /* ---- The station's position, types 3 and 32: X, Y and Z in centimetres. */
 
 /* Refusals: 14, 15, 16, 15, 16, then 6, 7, 8, 10. */
@@ -269,6 +304,20 @@ uint8_t rtcm2_cn0_dbhz(uint8_t code, uint8_t *tracked, uint8_t *dbhz);
 /* A character of a text as its number in Unicode: 1 to 127 are ASCII; 128 to 191 are the Russian letters of type 36, U+0410 to
  * U+044F in their order. Refusal: 11 for 0 and for a code over 191. */
 uint8_t rtcm2_letter_of(uint8_t code, uint32_t *letter);
+
+/* PRC of types 41 and 42 in mm: `stop` is 1 for -8192 (`mm` is then 0), else 0. Refusal: 10 below -8192 and over 8191. */
+uint8_t rtcm2_general_prc_mm(int16_t prc, uint8_t *stop, int32_t *mm);
+
+/* The ionosphere's delay of types 41 and 42 in mm: `usable` is 0 for 4095 (`mm` is then 0), else 1. Refusal: 10 over 4095. */
+uint8_t rtcm2_delay_mm(uint16_t delay, uint8_t *usable, uint32_t *mm);
+
+/* The upper limit of a UDRE code of types 41 and 42 under the station's health, in hundredths of a mm: `limited` is 0 for code 15,
+ * which has none (`hundredths` is then 0), else 1. Refusals: 5 for a health over 7, 10 for a code over 15. */
+uint8_t rtcm2_general_udre(uint8_t health, uint8_t udre, uint8_t *limited, uint32_t *hundredths);
+
+/* How long corrections of types 41 and 42 may be used, in seconds, by the period of their head: 15, 30, 60, 120. Refusal: 10 for a
+ * code over 3. */
+uint8_t rtcm2_use_seconds(uint8_t code, uint8_t *seconds);
 
 /* ---- The word test, for a program that holds the words of two receivers against each other. */
 

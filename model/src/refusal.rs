@@ -45,6 +45,8 @@ pub enum Refusal {
     TooManySatellites = 21,
     /// A satellite twice, where the profile allows it once.
     SatelliteTwice = 22,
+    /// A system without this layout.
+    OtherSystem = 23,
 }
 
 impl Refusal {

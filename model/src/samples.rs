@@ -2,6 +2,8 @@
 
 use crate::frame::{CarriedBits, Frame, Header, State, MOST_WORDS};
 use crate::record::correction::{self, Correction, Issue, LAST_TB};
+use crate::record::general::{self, General, GeneralHead};
+use crate::record::general_null::{self, GeneralNull};
 use crate::record::health::{self, Condition, Health};
 use crate::record::observation::{self, Edition, Epoch, Mark, Measured, Observation};
 use crate::record::position::{self, Position};
@@ -104,6 +106,31 @@ pub fn observation(rng: &mut Rng, edition: Edition, type_number: u16) -> Observa
     }
 }
 
+/// The head of a frame of type 41 or 42, with delays or without.
+pub fn general_head(rng: &mut Rng, ionosphere: u8) -> GeneralHead {
+    GeneralHead {
+        system: general::SYSTEMS[rng.place(general::SYSTEMS.len())],
+        signal: rng.below(16) as u8,
+        ephemeris: rng.below(4) as u8,
+        period: rng.below(4) as u8,
+        ionosphere,
+    }
+}
+
+/// One satellite's general correction, with a delay or without.
+pub fn general(rng: &mut Rng, ionosphere: u8) -> General {
+    General {
+        satellite: number(rng, 1, 63) as u8,
+        udre: number(rng, 0, 15) as u8,
+        iod: rng.byte(),
+        prc: number(rng, -8192, 8191) as i16,
+        delay: match ionosphere {
+            0 => 0,
+            _ => number(rng, 0, 4095) as u16,
+        },
+    }
+}
+
 /// A position.
 pub fn position(rng: &mut Rng) -> Position {
     let mut centimetres = || number(rng, -2_147_483_647, 2_147_483_647) as i32;
@@ -168,6 +195,21 @@ pub fn observation_frame(rng: &mut Rng, type_number: u16, count: usize) -> Frame
     observation::make(edition, &header, &epoch, &entries, count).expect("a correct record")
 }
 
+/// A frame of type 41 or 42 with this many satellites, with delays or without.
+pub fn general_frame(rng: &mut Rng, type_number: u16, ionosphere: u8, count: usize) -> Frame {
+    let mut entries = [General::default(); general::MOST];
+    entries.fill_with(|| general(rng, ionosphere));
+    let (header, head) = (header(rng, type_number), general_head(rng, ionosphere));
+    general::make(&header, &head, &entries, count).expect("a correct record")
+}
+
+/// A null frame of type 42.
+pub fn general_null_frame(rng: &mut Rng) -> Frame {
+    let system = general::SYSTEMS[rng.place(general::SYSTEMS.len())];
+    let null = GeneralNull { n: 1, system };
+    general_null::make(&header(rng, 42), &null).expect("a correct record")
+}
+
 /// A frame of any type and N with random data words.
 pub fn plain_frame(rng: &mut Rng, type_number: u16, n: u8) -> Frame {
     let mut words = [0; MOST_WORDS];
@@ -188,10 +230,12 @@ pub fn other_frame(rng: &mut Rng) -> Frame {
     plain_frame(rng, type_number, n)
 }
 
-/// A frame whose record can be read, of any of the thirteen types; type 34 has two
-/// layouts, half of its frames are null frames.
+/// A frame whose record can be read, of any of the fifteen types; types 34 and 42 have
+/// two layouts, half of their frames are null frames.
 pub fn record_frame(rng: &mut Rng) -> Frame {
-    let types = [1, 3, 5, 6, 9, 16, 18, 19, 31, 32, 33, 34, 34, 36];
+    let types = [
+        1, 3, 5, 6, 9, 16, 18, 19, 31, 32, 33, 34, 34, 36, 41, 42, 42,
+    ];
     let type_number = types[rng.place(types.len())];
     match type_number {
         3 | 32 => position_frame(rng, type_number),
@@ -209,6 +253,12 @@ pub fn record_frame(rng: &mut Rng) -> Frame {
             observation_frame(rng, type_number, count)
         }
         34 if rng.bit() => any_null_frame(rng, 34),
+        42 if rng.bit() => general_null_frame(rng),
+        41 | 42 => {
+            let ionosphere = rng.below(2) as u8;
+            let count = 1 + rng.place(general::most(ionosphere));
+            general_frame(rng, type_number, ionosphere, count)
+        }
         _ => {
             let count = 1 + rng.place(correction::MOST);
             correction_frame(rng, type_number, count)

@@ -4,9 +4,10 @@
 use crate::frame::{CarriedBits, Frame};
 use crate::line::bits_of_bytes;
 use crate::record::correction::{self, Correction, Issue};
+use crate::record::general::{self, General};
 use crate::record::health::{self, Condition, Health};
 use crate::record::observation::{self, Edition, Mark, Measured};
-use crate::record::{layout, null, position, text, Layout};
+use crate::record::{general_null, layout, null, position, text, Layout};
 use crate::refusal::{Answer, Refusal};
 use crate::scan::scan;
 use crate::{journal, writer};
@@ -119,6 +120,12 @@ fn made_again(frame: &Frame, fields: &mut Sum) -> Answer<Frame> {
             fields.add(&buffer[..count]);
             text::make(header, &buffer[..count])
         }
+        Layout::General => generals_again(frame, fields),
+        Layout::GeneralNull => {
+            let null = general_null::read(frame)?;
+            fields.add(&[null.n, null.system]);
+            general_null::make(header, &null)
+        }
         Layout::Plain => Err(Refusal::AnotherType),
     }
 }
@@ -168,6 +175,19 @@ fn observations_again(frame: &Frame, fields: &mut Sum) -> Answer<Frame> {
         }
     }
     observation::make(edition, &frame.header, &epoch, &entries, count)
+}
+
+fn generals_again(frame: &Frame, fields: &mut Sum) -> Answer<Frame> {
+    let (head, count) = (general::head(frame)?, general::count(frame)?);
+    fields.add(&[head.system, head.signal, head.ephemeris]);
+    fields.add(&[head.period, head.ionosphere]);
+    let mut entries = [General::default(); general::MOST];
+    for (i, entry) in entries.iter_mut().take(count).enumerate() {
+        *entry = general::entry(frame, i)?;
+        fields.add(&[entry.satellite, entry.udre, entry.iod]);
+        fields.add(&[entry.prc as u16, entry.delay]);
+    }
+    general::make(&frame.header, &head, &entries, count)
 }
 
 fn healths_again(frame: &Frame, fields: &mut Sum) -> Answer<Frame> {

@@ -148,14 +148,18 @@ fn layouts() {
     assert_eq!(listed(Layout::Null), [6, 34]);
     assert_eq!(listed(Layout::Text), [16, 36]);
     assert_eq!(listed(Layout::Observation), [18, 19]);
-    assert_eq!(listed(Layout::Plain).len(), 65536 - 13);
+    assert_eq!(listed(Layout::General), [41, 42]);
+    assert_eq!(listed(Layout::GeneralNull), [42]);
+    assert_eq!(listed(Layout::Plain).len(), 65536 - 15);
     for type_number in 0..=u16::MAX {
         let of_n = (0..=31).map(|n| layout(type_number, n));
         let same = of_n.clone().all(|of_n| of_n == layout(type_number, 0));
-        assert_eq!(same, type_number != 34);
+        assert_eq!(same, ![34, 42].contains(&type_number));
     }
     let null = (0..=31).filter(|n| layout(34, *n) == Layout::Null);
     assert_eq!(null.collect::<Vec<u8>>(), [0, 1]);
+    let null = (0..=31).filter(|n| layout(42, *n) == Layout::GeneralNull);
+    assert_eq!(null.collect::<Vec<u8>>(), [1]);
 }
 
 /// Reads with faults 5, 6, 7 and 8 mended one after the other.

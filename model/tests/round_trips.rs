@@ -5,9 +5,10 @@ use rtcm2_model::frame::{check_frame, header_of, header_words, n_of};
 use rtcm2_model::frame::{CarriedBits, Frame, Header, State};
 use rtcm2_model::line::bits_of_bytes;
 use rtcm2_model::record::correction::{self, Correction};
+use rtcm2_model::record::general::{self, General};
 use rtcm2_model::record::health::{self, Health};
 use rtcm2_model::record::observation::{self, Edition};
-use rtcm2_model::record::{layout, null, position, system, text, Layout};
+use rtcm2_model::record::{general_null, layout, null, position, system, text, Layout};
 use rtcm2_model::refusal::Answer;
 use rtcm2_model::rng::Rng;
 use rtcm2_model::scan::scan;
@@ -109,6 +110,15 @@ fn made_anew(frame: &Frame) -> Answer<Frame> {
             }
             observation::make(edition, header, &epoch, &entries, count)
         }
+        Layout::General => {
+            let (count, head) = (general::count(frame)?, general::head(frame)?);
+            let mut entries = [General::default(); general::MOST];
+            for (i, entry) in entries[..count].iter_mut().enumerate() {
+                *entry = general::entry(frame, i)?;
+            }
+            general::make(header, &head, &entries, count)
+        }
+        Layout::GeneralNull => general_null::make(header, &general_null::read(frame)?),
         Layout::Text => {
             let mut buffer = [0; text::MOST];
             let count = text::read(frame, &mut buffer)?;
@@ -123,6 +133,8 @@ fn fill_is_standard(frame: &Frame) -> bool {
     match layout(frame.header.type_number, frame.n) {
         Layout::Correction => correction::fill_is_standard(frame).unwrap(),
         Layout::Null => null::fill_is_standard(frame).unwrap(),
+        Layout::General => general::fill_is_standard(frame).unwrap(),
+        Layout::GeneralNull => general_null::fill_is_standard(frame).unwrap(),
         _ => true,
     }
 }
@@ -146,7 +158,7 @@ fn readable_frames_made_anew_give_their_own_bits() {
     let mut rng = Rng::named("made anew");
     let mut readable = 0;
     for _ in 0..20_000 {
-        let types = [1, 9, 3, 5, 6, 16, 31, 32, 33, 34, 36];
+        let types = [1, 9, 3, 5, 6, 16, 31, 32, 33, 34, 36, 41, 42];
         let type_number = types[rng.place(types.len())];
         let bound = if rng.bit() { 32 } else { 3 };
         let n = rng.below(bound) as u8;

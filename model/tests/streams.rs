@@ -166,7 +166,7 @@ fn false_headers_that_stand_are_handed_out() {
 }
 
 /// Streams and the frames handed out for them, known from how they are made.
-const COUNTS: [(&str, usize); 54] = [
+const COUNTS: [(&str, usize); 63] = [
     ("corrections-1", 18),
     ("corrections-9", 18),
     ("corrections-31", 18),
@@ -181,6 +181,11 @@ const COUNTS: [(&str, usize); 54] = [
     ("texts-36", 19),
     ("observations-18", 33),
     ("observations-19", 33),
+    ("generals-41", 38),
+    ("generals-42", 38),
+    ("generals-refused", 28),
+    ("nulls-42", 48),
+    ("systems-41", 48),
     ("other-system", 44),
     ("every-type", 64),
     ("type-64", 5),
@@ -189,6 +194,10 @@ const COUNTS: [(&str, usize); 54] = [
     ("every-n-6", 32),
     ("every-n-18", 32),
     ("every-n-34", 32),
+    ("every-n-41", 32),
+    ("every-n-41-delays", 32),
+    ("every-n-42", 32),
+    ("every-n-42-delays", 32),
     ("every-health", 24),
     ("z-over-5999", 24),
     ("turned-a", 20),

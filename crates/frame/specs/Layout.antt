@@ -3,11 +3,12 @@ use mathlib.Core.Bool.{_||_, cond}
 use Prim.Native.Nat.{ℕ}
 use lib.Dec.{eqb, ltb}
 use Rattle.frame.specs.declared.Layout.{Layout}
-use Rattle.frame.specs.declared.Layout.the-variants.{Correction, CorrectionOrNull, Position, Health, Null, Text, Observation, Plain}
+use Rattle.frame.specs.declared.Layout.the-variants.{Correction, CorrectionOrNull, Position, Health, Null, Text, Observation, General, Plain}
 use Rattle.frame.specs.declared.System.{System}
 use Rattle.frame.specs.declared.System.the-variants.{Gps, Glonass}
 
--- ONE DECISION over type numbers; every number that is not named has a plain frame. Type 34 is read as corrections and as null, by its N
+-- ONE DECISION over type numbers; every number that is not named has a plain frame. Types 34 and 42 are read as a
+-- list and as null, by their N
 unfoldable pub layoutOf : ℕ → Layout
 layoutOf kind =
     cond (eqb kind 1 || eqb kind 9 || eqb kind 31) Correction
@@ -16,7 +17,8 @@ layoutOf kind =
     (cond (eqb kind 5 || eqb kind 33) Health
     (cond (eqb kind 6) Null
     (cond (eqb kind 16 || eqb kind 36) Text
-    (cond (eqb kind 18 || eqb kind 19) Observation Plain))))))
+    (cond (eqb kind 18 || eqb kind 19) Observation
+    (cond (eqb kind 41 || eqb kind 42) General Plain)))))))
 
 -- THE SYSTEM: GLONASS has the types 31 to 36
 unfoldable pub systemOf : ℕ → System

@@ -70,7 +70,7 @@ pub enum Clock {
     Late,
 }
 
-// What a type number says about the data words; one type has corrections or is null, by its N.
+// What a type number says about the data words; two types have a list or are null, by their N: 34, and 42 of the general ones.
 pub enum Layout {
     Correction,
     CorrectionOrNull,
@@ -79,6 +79,7 @@ pub enum Layout {
     Null,
     Text,
     Observation,
+    General,
     Plain,
 }
 
@@ -260,6 +261,8 @@ pub fn layout_of(kind: u8) -> Layout
         6 => Layout::Null,
         16 | 36 => Layout::Text,
         18 | 19 => Layout::Observation,
+        41 => Layout::General,
+        42 => Layout::General,
         _ => Layout::Plain,
     }
 }

@@ -5,6 +5,7 @@ use mathlib.Core.Logic.{_⊎_, inl, inr}
 use mathlib.Core.List.{List, [], _∷_}
 use Prim.Native.Nat.{ℕ, _*_}
 use native.Mathlib.Omega.{arith}
+use lib.ListN.{getD}
 use lib.Dec.{ltb, eqb}
 use Rattle.answer.specs.Order.{Says, refuses, answers, Check, inOrder, NoneApplies, FirstIs}
 use Rattle.answer.proofs.OrderLaws.{order-answers, order-refuses, order-map, first-or-none, refuses-apart}
@@ -58,6 +59,13 @@ use Rattle.profile.specs.Profile.{checkProfile, saysProfile}
 use Rattle.profile.specs.Cutting.{cutOrder}
 use Rattle.profile.proofs.Said.{cut-said}
 use Rattle.record_values.specs.Values.{prcValue, rrcValue, udreValue, cn0Value, noLetter, letterValue}
+use Rattle.record_generals.specs.Generals.{countGenerals, readHead, generalAt, makeGenerals, saysHeadRead, saysGeneralRead}
+use Rattle.record_generals.specs.GeneralNulls.{readGeneralNull, makeGeneralNull, saysGeneralNullRead}
+use Rattle.record_generals.specs.declared.HeadRead.the-variants as head
+use Rattle.record_generals.specs.declared.GeneralRead.the-variants as general
+use Rattle.record_generals.specs.declared.GeneralNullRead.the-variants as general-null
+use Rattle.record_values.specs.GeneralValues.{generalPrcValue, outside14, delayValue, generalUdreValue, secondsOfUse}
+use Rattle.record_values.proofs.GeneralLaws.{general-prc-says, delay-says, general-udre-says, use-says}
 use Rattle.record_values.proofs.AnswerLaws.{prc-says, rrc-says, udre-says, cn0-says, minutes-says, z-says, letter-says}
 use Rattle.printing.specs.Printing.{printedBy, saysPrinted}
 use Rattle.printing.specs.declared.Printed.the-variants as printed
@@ -102,7 +110,8 @@ entry-numbered l = go (eqb (layoutNumber l) (layoutNumber layout.Text))
 
 pub carries-its-number : CarriesItsNumber
 unfolding fedBy fedAllBy endedBy takenBy countCorrections correctionAt makeCorrections countHealths healthAt makeHealths readPosition makePosition
-    countObservations readEpoch observationAt makeObservations readNull makeNull readText makeText checkProfile refusedMade doneMade printedBy pieceBy
+    countObservations readEpoch observationAt makeObservations countGenerals readHead generalAt makeGenerals readGeneralNull makeGeneralNull
+    readNull makeNull readText makeText checkProfile refusedMade doneMade printedBy pieceBy
     finishBy linePut
 carries-its-number = record {
   feed = λ r b. told (λ (x : Next). saysAnswer (x .answer)) (λ n. record { answer = Refused n; reader = r }) _ tt refl refl refl;
@@ -114,6 +123,10 @@ carries-its-number = record {
   count-observations = λ f. told saysCount count.Refused _ _ refl refl refl;
   read-epoch = λ f. told saysEpochRead epoch.Refused _ _ refl refl refl;
   observation-at = λ e f i. told saysObservationRead observation.Refused _ _ refl refl refl;
+  count-generals = λ f. told saysCount count.Refused _ _ refl refl refl;
+  read-head = λ f. told saysHeadRead head.Refused _ _ refl refl refl;
+  general-at = λ f i. told saysGeneralRead general.Refused _ _ refl refl refl;
+  read-general-null = λ f. told saysGeneralNullRead general-null.Refused _ _ refl refl refl;
   count-healths = λ f. told saysCount count.Refused _ _ refl refl refl;
   health-at = λ f i. told saysHealthRead healths.Refused _ _ refl refl refl;
   read-position = λ f. told saysPositionRead position.Refused _ _ refl refl refl;
@@ -122,6 +135,8 @@ carries-its-number = record {
   make-corrections = λ h es c. told saysMade refusedMade _ _ refl refl refl;
   make-healths = λ h es c. told saysMade refusedMade _ _ refl refl refl;
   make-observations = λ e h a os c. told saysMade refusedMade _ _ refl refl refl;
+  make-generals = λ h a gs c. told saysMade refusedMade _ _ refl refl refl;
+  make-general-null = λ h n s. told saysMade refusedMade _ _ refl refl refl;
   make-position = λ h p. told saysMade refusedMade _ _ refl refl refl;
   make-null = λ h n. told saysMade refusedMade _ _ refl refl refl;
   make-text = λ h t. told saysMade refusedMade _ _ refl refl refl;
@@ -159,6 +174,10 @@ carries-its-number = record {
   value-minutes = λ code. ordered ((ltb 15 code, 10) ∷ []) (5 * code) (minutes-says code) refl refl;
   z-tenths = λ z. ordered ((ltb 8191 z, 5) ∷ (late z, 7) ∷ []) (6 * z) (z-says z) refl refl;
   letter-of = λ code. ordered ((noLetter code, 11) ∷ []) (letterValue code) (letter-says code) refl refl;
+  general-prc-mm = λ prc. ordered ((outside14 prc, 10) ∷ []) (generalPrcValue prc) (general-prc-says prc) refl refl;
+  delay-mm = λ code. ordered ((ltb 4095 code, 10) ∷ []) (delayValue code) (delay-says code) refl refl;
+  general-udre = λ s udre. ordered ((stateOutside s, 5) ∷ (ltb 15 udre, 10) ∷ []) (generalUdreValue s udre) (general-udre-says s udre) refl refl;
+  use-seconds = λ code. ordered ((ltb 3 code, 10) ∷ []) (getD secondsOfUse code 0) (use-says code) refl refl;
   print = λ text place buffer. told saysPrinted printed.Refused _ _ refl refl refl;
   put-line = λ at f out. told saysPrinted printed.Refused _ _ refl refl refl;
   mend = λ bs at s output. told saysMended refusedMend _ _ refl refl refl;

@@ -39,6 +39,8 @@ use Rattle.record_stages.specs.Stages.{refusedMade, saysCount}
 use Rattle.record_corrections.specs.Corrections.{makeCorrections}
 use Rattle.record_healths.specs.Healths.{makeHealths}
 use Rattle.record_observations.specs.Observations.{makeObservations}
+use Rattle.record_generals.specs.Generals.{makeGenerals}
+use Rattle.record_generals.specs.GeneralNulls.{makeGeneralNull}
 use Rattle.record_positions.specs.Positions.{makePosition}
 use Rattle.record_nulls.specs.Nulls.{makeNull}
 use Rattle.record_stages.specs.declared.Made.{Made}
@@ -107,7 +109,8 @@ changes-neither = record {
 }
 
 pub number-alone : NumberAlone
-unfolding fedAllBy takenBy makeCorrections makeHealths makeObservations makePosition makeNull makeText cutCorrections refusedMade refusedCut pieceBy finishBy
+unfolding fedAllBy takenBy makeCorrections makeHealths makeObservations makeGenerals makeGeneralNull makePosition makeNull makeText cutCorrections refusedMade
+    refusedCut pieceBy finishBy
 number-alone = record {
   blank-outside = unfold blank outside headerOutside numbersOutside in refl;
   feed-all = λ r bs. keeps (carries-its-number .feed-all r bs) (λ (x : FedAll). (x .used, x .passed)) (fed-none r) _ _ (λ n. refl);
@@ -116,6 +119,8 @@ number-alone = record {
   recall-words = λ bs. keeps (carries-its-number .recall-words bs) (λ (x : Recalled). x .frame) unrecalled _ _ (λ n. refl);
   make-corrections = λ h es c. keeps (carries-its-number .make-corrections h es c) (λ (x : Made). x .frame) refusedMade _ _ (λ n. refl);
   make-observations = λ e h a os c. keeps (carries-its-number .make-observations e h a os c) (λ (x : Made). x .frame) refusedMade _ _ (λ n. refl);
+  make-generals = λ h a gs c. keeps (carries-its-number .make-generals h a gs c) (λ (x : Made). x .frame) refusedMade _ _ (λ n. refl);
+  make-general-null = λ h n s. keeps (carries-its-number .make-general-null h n s) (λ (x : Made). x .frame) refusedMade _ _ (λ n. refl);
   make-healths = λ h es c. keeps (carries-its-number .make-healths h es c) (λ (x : Made). x .frame) refusedMade _ _ (λ n. refl);
   make-position = λ h p. keeps (carries-its-number .make-position h p) (λ (x : Made). x .frame) refusedMade _ _ (λ n. refl);
   make-null = λ h n. keeps (carries-its-number .make-null h n) (λ (x : Made). x .frame) refusedMade _ _ (λ n. refl);

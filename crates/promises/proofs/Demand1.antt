@@ -4,6 +4,7 @@ use Rattle.promises.proofs.Answered.{settled-once}
 use Rattle.promises.proofs.PartCalls.{part-calls}
 use Rattle.promises.proofs.StreamCalls.{stream-calls}
 use Rattle.promises.proofs.RecordCalls.{record-calls}
+use Rattle.promises.proofs.GeneralCalls.{general-calls}
 use Rattle.promises.proofs.JournalCalls.{journal-calls}
 use Rattle.promises.proofs.MenderCalls.{mender-calls}
 use Rattle.promises.proofs.CarriesItsNumber.{carries-its-number}
@@ -15,6 +16,7 @@ demand-1 = record {
   parts = part-calls;
   streams = stream-calls;
   records = record-calls;
+  generals = general-calls;
   journals = journal-calls;
   menders = mender-calls;
   once = settled-once;

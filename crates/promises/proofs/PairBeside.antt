@@ -24,6 +24,8 @@ use Rattle.record_corrections.specs.Corrections as corrections
 use Rattle.record_healths.specs.Healths as healths
 use Rattle.record_observations.specs.Editions.{quantityOf}
 use Rattle.record_observations.specs.Observations as observations
+use Rattle.record_generals.specs.Generals.{makeGenerals}
+use Rattle.record_generals.specs.GeneralNulls.{makeGeneralNull}
 use Rattle.record_positions.specs.Positions as positions
 use Rattle.record_nulls.specs.Nulls as nulls
 use Rattle.record_texts.specs.Texts as texts
@@ -31,6 +33,7 @@ use Rattle.journal.proofs.RoundTrip as journal
 use Rattle.writer.proofs.Wrote as writer
 use Rattle.promises.specs.Demand2.{PairBeside}
 use Rattle.promises.proofs.CarriesItsNumber.{says-inj}
+use Rattle.promises.proofs.GeneralsBack.{generalChecks, generalWordsOf, nullChecks, nullWordsOf}
 
 pub made-told : (m : Made) (f : Frame) → saysMade m ≡ answers f → m ≡ doneMade f
 made-told m f e = go (m .answer) (m .frame) e
@@ -47,8 +50,8 @@ made-bare cs h ws f e = subst (λ g. bare g ≡ g) same (unfold framed afterPair
     same = done-frame (order-told refusedMade (doneMade (framed h ws)) (doneMade f) (λ n. done-apart n f) cs (made-told _ f e) .1)
 
 pub pair-beside : PairBeside
-unfolding corrections.makeCorrections healths.makeHealths observations.makeObservations positions.makePosition nulls.makeNull texts.makeText
-    frameWith frameAfter
+unfolding corrections.makeCorrections healths.makeHealths observations.makeObservations makeGenerals makeGeneralNull positions.makePosition
+    nulls.makeNull texts.makeText frameWith frameAfter
 pair-beside = record {
   written = λ k f c buffer p o. (writer.unseen-answer k f p o c buffer, writer.unseen-bytes k f p o c buffer);
   kept = λ k f buffer p o. (journal.unseen-answer k f p o buffer, journal.unseen-bytes k f p o buffer);
@@ -62,6 +65,8 @@ pair-beside = record {
       made-bare (makeOrder layout.Observation h
       ((wrongCount 15 c, 12) ∷ (observations.epochOut a || anyOf (observations.outOfRange e (quantityOf (h .kind))) (take c os), 10) ∷ [])) h
       (wordsIn 0 (observations.epochBits a ++ entryBits (observations.coding e (quantityOf (h .kind))) (take c os))) f s;
+  generals = λ h a gs c f e. made-bare (generalChecks h a gs c) h (generalWordsOf a gs c) f e;
+  general-null = λ h n s f e. made-bare (nullChecks h n s) h (nullWordsOf s) f e;
   position = λ h p f e.
       made-bare (makeOrder layout.Position h ((positions.outOfRange p, 10) ∷ [])) h (wordsIn positions.fill (entryBits positions.coding (p ∷ []))) f e;
   null = λ h n f e. made-bare (makeOrder layout.Null h ((nulls.tooMany n, 12) ∷ [])) h (replicate n nulls.fill) f e;

@@ -1,25 +1,21 @@
--- Every record that can be sent is made, written, and reads back from the line: one lemma for every layout. Assumes nothing.
-use mathlib.Core.Path.{_≡_, sym, ap, subst, _∙_}
+-- Every record that can be sent is made, written, and reads back from the line, layout by layout. Assumes nothing.
+use mathlib.Core.Path.{_≡_, ap, _∙_}
 use mathlib.Core.Bool.{false, _||_}
 use mathlib.Core.List.{List, [], _∷_, _++_}
-use Prim.Native.Nat.{ℕ, _≤_, _<_}
-use native.Mathlib.Omega.{arith}
+use Prim.Native.Nat.{ℕ}
 use lib.ListN.{length, take, replicate}
-use borrow.Author.Tests.{le-ltb, lt-leb}
-use Rattle.answer.specs.Order.{Says, Check, inOrder, NoneApplies}
-use Rattle.answer.proofs.OrderLaws.{order-told}
+use Rattle.answer.specs.Order.{Says}
 use Rattle.bits.specs.Rows.{wordsIn}
-use Rattle.frame.specs.Frames.{framed, afterPair}
+use Rattle.frame.specs.Frames.{afterPair}
 use Rattle.frame.specs.Widths.{anyOf, pairOutside, outside}
 use Rattle.frame.specs.declared.Header.{Header}
 use Rattle.frame.specs.declared.Carried.{Carried}
 use Rattle.frame.specs.declared.Frame.{Frame}
-use Rattle.frame.specs.declared.Layout.{Layout}
 use Rattle.frame.specs.declared.Layout.the-variants as layout
 use Rattle.frame.specs.Layout.{systemOf}
-use Rattle.frame.proofs.FrameLaws.{n-within, length-framed, after-inside}
+use Rattle.frame.proofs.FrameLaws.{after-inside}
 use Rattle.record_fields.specs.Coding.{frameBits, entryBits, frameWith, frameAfter}
-use Rattle.record_stages.specs.Stages.{wrongCount, makeOrder, refusedMade, doneMade, HeaderFor, IsMade, saysCount, saysMade}
+use Rattle.record_stages.specs.Stages.{wrongCount, makeOrder, saysCount}
 use Rattle.record_corrections.specs.declared.Correction.{Correction}
 use Rattle.record_healths.specs.declared.SatelliteHealth.{SatelliteHealth}
 use Rattle.record_observations.specs.declared.Edition.{Edition}
@@ -33,7 +29,6 @@ use Rattle.record_observations.specs.Observations as observations
 use Rattle.record_positions.specs.Positions as positions
 use Rattle.record_nulls.specs.Nulls as nulls
 use Rattle.record_texts.specs.Texts as texts
-use Rattle.record_stages.proofs.StageLaws.{done-apart, done-frame}
 use Rattle.record_laws.proofs.PairLaws.{corrections-count, correction-entry, healths-count, health-entry, position-same, null-same, text-count, text-left}
 use Rattle.record_laws.proofs.PairLaws.{observations-count, epoch-same, observation-entry}
 use Rattle.record_laws.proofs.CorrectionTrips.{corrections-sent}
@@ -42,13 +37,9 @@ use Rattle.record_laws.proofs.ObservationTrips.{observations-sent}
 use Rattle.record_laws.proofs.PositionTrips.{position-sent}
 use Rattle.record_laws.proofs.NullTrips.{null-sent}
 use Rattle.record_laws.proofs.TextTrips.{text-sent}
-use Rattle.writer.specs.Sending.{bitsAfter, carriedOn, lineLength}
-use Rattle.writer.specs.Answer.{writeChecks, writtenBy, saysWritten}
-use Rattle.writer.specs.OneFrame.{Wrote}
-use Rattle.writer.specs.declared.Written.the-variants.{Done}
-use Rattle.writer.proofs.Answers.{write-answers}
-use Rattle.writer.proofs.Wrote.{wrote}
-use Rattle.promises.specs.ReadsBack.{ListBack, CorrectionsBack, HealthsBack, ObservationsBack, PositionBack, NullBack, TextBack, ReadsBack, WhatCanBeSent}
+use Rattle.promises.specs.ReadsBack.{ListBack, CorrectionsBack, HealthsBack, ObservationsBack, PositionBack, NullBack, TextBack, WhatCanBeSent}
+use Rattle.promises.proofs.Sending.{sent-reads-back}
+use Rattle.promises.proofs.GeneralsBack.{generals-written, general-null-written}
 
 -- ---- what was made reads back, in the table's terms
 
@@ -171,55 +162,6 @@ module _ (k : Carried) (p : pairOutside k ≡ false) where
     fill = b .fill;
   }
 
--- a frame that is made within its widths has 31 words
-made-full : (cs : List Check) (h : Header) (ws : List ℕ) (f : Frame) → inOrder cs refusedMade (doneMade (framed h ws)) ≡ doneMade f
-    → outside f ≡ false → length (f .words) ≡ 31
-unfolding framed
-made-full cs h ws f e within = ap (λ g. length (g .words)) (sym same) ∙ length-framed h ws few
-  where
-    same : framed h ws ≡ f
-    same = done-frame (order-told refusedMade (doneMade (framed h ws)) (doneMade f) (λ n. done-apart n f) cs e .1)
-
-    few : length ws ≤ 31
-    few = subst (λ g. g .n ≤ 31) (sym same) (n-within f within)
-
--- WHAT IS SENT under a header for its layout IS WRITTEN AND READS BACK: no check of the writer applies
-sent-reads-back : (asked : Layout) (h : Header) (cs : List Check) (ws : List ℕ) (Reads Back : Frame → Type 0) (to : (f : Frame) → Reads f → Back f)
-    (unseen : (k : Carried) → pairOutside k ≡ false → (f : Frame) → Back f → Back (afterPair k f))
-    (s : IsMade (inOrder cs refusedMade (doneMade (framed h ws))) Reads)
-    → HeaderFor asked h → s .frame .header ≡ h → outside (s .frame) ≡ false → ReadsBack (inOrder cs refusedMade (doneMade (framed h ws))) Back
-sent-reads-back asked h cs ws Reads Back to unseen s for header within c buffer p q room = record {
-  frame = f;
-  made = unfold doneMade in ap saysMade (s .done);
-  reads = to f (s .reads);
-  count = lineLength f;
-  on = carriedOn (bitsAfter c f);
-  answer = ap saysWritten done;
-  wrote = written;
-  back = λ rest. subst Back (sym (written .is rest)) (unseen c pair f (to f (s .reads)));
-}
-  where
-    f : Frame
-    f = s .frame
-
-    hour : f .header .z < 6000
-    hour = subst (λ x. x .z < 6000) (sym header) (for .hour)
-
-    pair : pairOutside c ≡ false
-    pair = unfold pairOutside in rw (le-ltb 1 (c .d29) p, le-ltb 1 (c .d30) q)
-
-    none : NoneApplies (writeChecks f c buffer)
-    none = (
-      le-ltb 1 (c .d29) p,
-      (le-ltb 1 (c .d30) q, (within, (lt-leb 6000 (f .header .z) hour, (le-ltb (length buffer) (lineLength f) (omega (arith, room, n-within f within)), tt)))),
-    )
-
-    done : writtenBy f c buffer ≡ Done (lineLength f) (carriedOn (bitsAfter c f))
-    done = sym (write-answers f c buffer none .0)
-
-    written : Wrote f c buffer (lineLength f) (carriedOn (bitsAfter c f))
-    written = wrote f (made-full cs h ws f (s .done) within) c buffer (lineLength f) (carriedOn (bitsAfter c f)) done
-
 -- THE SENTENCE, layout by layout
 pub what-can-be-sent : WhatCanBeSent
 unfolding corrections.makeCorrections healths.makeHealths observations.makeObservations positions.makePosition nulls.makeNull texts.makeText
@@ -227,40 +169,42 @@ unfolding corrections.makeCorrections healths.makeHealths observations.makeObser
 what-can-be-sent = record {
   corrections = λ h es c d typed s.
       let sent = corrections-sent h es c d typed s in
-      sent-reads-back layout.Correction h
+      sent-reads-back h
       (makeOrder layout.Correction h ((wrongCount 18 c, 12) ∷ (anyOf (corrections.outOfRange (systemOf (h .kind))) (take c es), 10) ∷ []))
       (wordsIn corrections.fill (entryBits (corrections.coding (systemOf (h .kind))) (take c es)))
       (corrections.CorrectionsMade h es c d) (CorrectionsBack h es c d) (corrections-back h es c d) (λ k o. corrections-unseen k o h es c d) sent
-      (s .header) (sent .reads .header) (sent .reads .inside);
+      (s .header .hour) (sent .reads .header) (sent .reads .inside);
   healths = λ h es c d s.
       let sent = healths-sent h es c d s in
-      sent-reads-back layout.Health h
+      sent-reads-back h
       (makeOrder layout.Health h ((wrongCount 31 c, 12) ∷ (anyOf (healths.outOfRange (systemOf (h .kind))) (take c es), 10) ∷ []))
       (wordsIn healths.fill (entryBits (healths.coding (systemOf (h .kind))) (take c es)))
       (healths.HealthsMade h es c d) (HealthsBack h es c d) (healths-back h es c d) (λ k o. healths-unseen k o h es c d) sent
-      (s .header) (sent .reads .header) (sent .reads .inside);
+      (s .header .hour) (sent .reads .header) (sent .reads .inside);
   observations = λ e h a os c d typed s.
       let sent = observations-sent e h a os c d typed s in
-      sent-reads-back layout.Observation h
+      sent-reads-back h
       (makeOrder layout.Observation h
       ((wrongCount 15 c, 12) ∷ (observations.epochOut a || anyOf (observations.outOfRange e (quantityOf (h .kind))) (take c os), 10) ∷ []))
       (wordsIn 0 (observations.epochBits a ++ entryBits (observations.coding e (quantityOf (h .kind))) (take c os)))
       (observations.ObservationsMade e h a os c d) (ObservationsBack e h a os c d) (observations-back e h a os c d)
-      (λ k o. observations-unseen k o e h a os c d) sent (s .header) (sent .reads .header) (sent .reads .inside);
+      (λ k o. observations-unseen k o e h a os c d) sent (s .header .hour) (sent .reads .header) (sent .reads .inside);
+  generals = generals-written;
+  general-null = general-null-written;
   position = λ h p typed s.
       let sent = position-sent h p typed s in
-      sent-reads-back layout.Position h (makeOrder layout.Position h ((positions.outOfRange p, 10) ∷ []))
+      sent-reads-back h (makeOrder layout.Position h ((positions.outOfRange p, 10) ∷ []))
       (wordsIn positions.fill (entryBits positions.coding (p ∷ [])))
       (positions.PositionMade h p) (PositionBack h p) (position-back h p) (λ k o. position-unseen k o h p) sent
-      (s .header) (sent .reads .header) (sent .reads .inside);
+      (s .header .hour) (sent .reads .header) (sent .reads .inside);
   null = λ h n s.
       let sent = null-sent h n s in
-      sent-reads-back layout.Null h (makeOrder layout.Null h ((nulls.tooMany n, 12) ∷ [])) (replicate n nulls.fill)
-      (nulls.NullMade h n) (NullBack h n) (null-back h n) (λ k o. null-unseen k o h n) sent (s .header) (sent .reads .header) (sent .reads .inside);
+      sent-reads-back h (makeOrder layout.Null h ((nulls.tooMany n, 12) ∷ [])) (replicate n nulls.fill)
+      (nulls.NullMade h n) (NullBack h n) (null-back h n) (λ k o. null-unseen k o h n) sent (s .header .hour) (sent .reads .header) (sent .reads .inside);
   text = λ h t s.
       let sent = text-sent h t s in
-      sent-reads-back layout.Text h
+      sent-reads-back h
       (makeOrder layout.Text h ((wrongCount 90 (length t), 12) ∷ (anyOf (texts.forbidden (systemOf (h .kind))) t, 11) ∷ []))
       (wordsIn texts.fill (entryBits texts.coding t))
-      (texts.TextMade h t) (TextBack h t) (text-back h t) (λ k o. text-unseen k o h t) sent (s .header) (sent .reads .header) (sent .reads .inside);
+      (texts.TextMade h t) (TextBack h t) (text-back h t) (λ k o. text-unseen k o h t) sent (s .header .hour) (sent .reads .header) (sent .reads .inside);
 }

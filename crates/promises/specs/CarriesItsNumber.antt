@@ -43,6 +43,10 @@ use Rattle.record_observations.specs.declared.Quantity.the-variants as quantity
 use Rattle.record_observations.specs.declared.Mark.{Mark}
 use Rattle.record_observations.specs.declared.Epoch.{Epoch}
 use Rattle.record_observations.specs.declared.Observation.{Observation}
+use Rattle.record_generals.specs.declared.GeneralHead.{GeneralHead}
+use Rattle.record_generals.specs.declared.General.{General}
+use Rattle.record_generals.specs.Generals as generals
+use Rattle.record_generals.specs.GeneralNulls.{systemIn, otherThanNull, readGeneralNull, makeGeneralNull, saysGeneralNullRead}
 use Rattle.record_positions.specs.Positions as positions
 use Rattle.record_nulls.specs.Nulls as nulls
 use Rattle.record_texts.specs.Texts as texts
@@ -52,6 +56,8 @@ use Rattle.record_positions.specs.declared.Position.{Position}
 use Rattle.profile.specs.Profile.{profileOrder, checkProfile, saysProfile}
 use Rattle.profile.specs.Cutting.{cutOrder, cutCorrections, saysCut}
 use Rattle.record_values.specs.Values.{noLetter}
+use Rattle.record_values.specs.GeneralValues.{outside14}
+use Rattle.record_values.specs.GeneralAnswer.{generalPrcMm, delayMm, generalUdre, useSeconds, saysDelay, saysGeneralLimit, saysPeriod}
 use Rattle.record_values.specs.Answer.{prcMm, rrcMmS, udreLimit, cn0DbHz, minutesOf, zTenths, letterOf}
 use Rattle.record_values.specs.Answer.{saysDistance, saysRate, saysLimit, saysStrength, saysTime, saysSinceHour, saysLetter}
 use Rattle.mender.specs.Steps.{mendOrder, mendBy, saysMended}
@@ -105,6 +111,18 @@ pub record CarriesItsNumber : Type 0 where
       → Ordered (5 ∷ 6 ∷ 7 ∷ 8 ∷ 9 ∷ 10 ∷ [])
       (headedOrder layout.Observation 24 48 f i ((observations.lateTime (observations.epochIn f), 10) ∷ []))
       (observations.saysObservationRead (observations.observationAt e f i))
+  -- types 41 and 42: 8 for too few words, 23, 8 for an N that the layout doesn't give; 9; 10 for satellite 0
+  pub count-generals : (f : Frame) → Ordered (5 ∷ 6 ∷ 7 ∷ 8 ∷ 23 ∷ 8 ∷ []) (generals.listOrder f []) (saysCount (generals.countGenerals f))
+  pub read-head : (f : Frame) → Ordered (5 ∷ 6 ∷ 7 ∷ 8 ∷ 23 ∷ 8 ∷ []) (generals.listOrder f []) (generals.saysHeadRead (generals.readHead f))
+  pub general-at : (f : Frame) (i : ℕ)
+      → Ordered (5 ∷ 6 ∷ 7 ∷ 8 ∷ 23 ∷ 8 ∷ 9 ∷ 10 ∷ [])
+      (generals.listOrder f ((leb (generals.generalsHeld f) i, 9) ∷ (generals.noSatellite (generals.generalIn f i), 10) ∷ []))
+      (generals.saysGeneralRead (generals.generalAt f i))
+  pub read-general-null : (f : Frame)
+      → Ordered (5 ∷ 6 ∷ 7 ∷ 8 ∷ 23 ∷ [])
+      ((outside f, 5) ∷ (otherThanNull (f .header .kind), 6) ∷ (late (f .header .z), 7) ∷ (wrongSize 1 (f .n), 8)
+      ∷ (generals.otherSystem (systemIn f), 23) ∷ [])
+      (saysGeneralNullRead (readGeneralNull f))
   pub read-position : (f : Frame)
       → Ordered (5 ∷ 6 ∷ 7 ∷ 8 ∷ 10 ∷ [])
       (readOrder layout.Position f (wrongSize 4 (f .n)) ((positions.outOfRange (positions.positionIn f), 10) ∷ []))
@@ -128,6 +146,17 @@ pub record CarriesItsNumber : Type 0 where
       (makeOrder layout.Observation h
       ((wrongCount 15 c, 12) ∷ (observations.epochOut a || anyOf (observations.outOfRange e (quantityOf (h .kind))) (take c os), 10) ∷ []))
       (saysMade (observations.makeObservations e h a os c))
+  -- types 41 and 42: 23 before 12
+  pub make-generals : (h : Header) (a : GeneralHead) (gs : List General) (c : ℕ)
+      → let d = generals.delayWidth (a .ionosphere) in
+      Ordered (5 ∷ 6 ∷ 7 ∷ 23 ∷ 12 ∷ 10 ∷ [])
+      (makeOrder layout.General h ((generals.otherSystem (a .system), 23)
+      ∷ (wrongCount (generals.mostGenerals d) c, 12) ∷ (generals.headOut a || anyOf (generals.outOfRange d) (take c gs), 10) ∷ []))
+      (saysMade (generals.makeGenerals h a gs c))
+  pub make-general-null : (h : Header) (n s : ℕ)
+      → Ordered (5 ∷ 6 ∷ 7 ∷ 23 ∷ 12 ∷ [])
+      ((headerOutside h, 5) ∷ (otherThanNull (h .kind), 6) ∷ (late (h .z), 7) ∷ (generals.otherSystem s, 23) ∷ (wrongSize 1 n, 12) ∷ [])
+      (saysMade (makeGeneralNull h n s))
   pub make-position : (h : Header) (p : Position)
       → Ordered (5 ∷ 6 ∷ 7 ∷ 10 ∷ []) (makeOrder layout.Position h ((positions.outOfRange p, 10) ∷ [])) (saysMade (positions.makePosition h p))
   pub make-null : (h : Header) (n : ℕ)
@@ -182,6 +211,11 @@ pub record CarriesItsNumber : Type 0 where
   pub value-minutes : (code : ℕ) → Ordered (10 ∷ []) ((ltb 15 code, 10) ∷ []) (saysTime (minutesOf code))
   pub z-tenths : (z : ℕ) → Ordered (5 ∷ 7 ∷ []) ((ltb 8191 z, 5) ∷ (late z, 7) ∷ []) (saysSinceHour (zTenths z))
   pub letter-of : (code : ℕ) → Ordered (11 ∷ []) ((noLetter code, 11) ∷ []) (saysLetter (letterOf code))
+  pub general-prc-mm : (prc : ℤ) → Ordered (10 ∷ []) ((outside14 prc, 10) ∷ []) (saysDistance (generalPrcMm prc))
+  pub delay-mm : (code : ℕ) → Ordered (10 ∷ []) ((ltb 4095 code, 10) ∷ []) (saysDelay (delayMm code))
+  pub general-udre : (s : State) (udre : ℕ)
+      → Ordered (5 ∷ 10 ∷ []) ((stateOutside s, 5) ∷ (ltb 15 udre, 10) ∷ []) (saysGeneralLimit (generalUdre s udre))
+  pub use-seconds : (code : ℕ) → Ordered (10 ∷ []) ((ltb 3 code, 10) ∷ []) (saysPeriod (useSeconds code))
   -- text put into a buffer: 13
   pub print : (text : List ℕ) (place : ℕ) (buffer : List ℕ) → Ordered (13 ∷ []) (printOrder text place buffer) (saysPrinted (printedBy text place buffer))
   -- a step of the mender: 13

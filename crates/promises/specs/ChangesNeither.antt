@@ -25,6 +25,10 @@ use Rattle.record_observations.specs.Observations.{makeObservations}
 use Rattle.record_observations.specs.declared.Edition.{Edition}
 use Rattle.record_observations.specs.declared.Epoch.{Epoch}
 use Rattle.record_observations.specs.declared.Observation.{Observation}
+use Rattle.record_generals.specs.declared.GeneralHead.{GeneralHead}
+use Rattle.record_generals.specs.declared.General.{General}
+use Rattle.record_generals.specs.Generals.{makeGenerals}
+use Rattle.record_generals.specs.GeneralNulls.{makeGeneralNull}
 use Rattle.record_positions.specs.Positions.{makePosition}
 use Rattle.record_nulls.specs.Nulls.{makeNull}
 use Rattle.record_texts.specs.Texts.{readText, bufferAfter, makeText}
@@ -75,6 +79,9 @@ pub record NumberAlone : Type 0 where
   pub make-corrections : (h : Header) (es : List Correction) (c : ℕ) → Keeps (saysMade (makeCorrections h es c)) (makeCorrections h es c .frame) blank
   pub make-observations : (e : Edition) (h : Header) (a : Epoch) (os : List Observation) (c : ℕ)
       → Keeps (saysMade (makeObservations e h a os c)) (makeObservations e h a os c .frame) blank
+  pub make-generals : (h : Header) (a : GeneralHead) (gs : List General) (c : ℕ)
+      → Keeps (saysMade (makeGenerals h a gs c)) (makeGenerals h a gs c .frame) blank
+  pub make-general-null : (h : Header) (n s : ℕ) → Keeps (saysMade (makeGeneralNull h n s)) (makeGeneralNull h n s .frame) blank
   pub make-healths : (h : Header) (es : List SatelliteHealth) (c : ℕ) → Keeps (saysMade (makeHealths h es c)) (makeHealths h es c .frame) blank
   pub make-position : (h : Header) (p : Position) → Keeps (saysMade (makePosition h p)) (makePosition h p .frame) blank
   pub make-null : (h : Header) (n : ℕ) → Keeps (saysMade (makeNull h n)) (makeNull h n .frame) blank

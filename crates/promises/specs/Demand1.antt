@@ -4,6 +4,7 @@ use Rattle.promises.specs.Answered.{SettledOnce}
 use Rattle.promises.specs.PartCalls.{PartCalls}
 use Rattle.promises.specs.StreamCalls.{StreamCalls}
 use Rattle.promises.specs.RecordCalls.{RecordCalls}
+use Rattle.promises.specs.GeneralCalls.{GeneralCalls}
 use Rattle.promises.specs.JournalCalls.{JournalCalls}
 use Rattle.promises.specs.MenderCalls.{MenderCalls}
 use Rattle.promises.specs.CarriesItsNumber.{CarriesItsNumber}
@@ -16,6 +17,7 @@ pub record Demand1 : Type 2 where
   pub parts : PartCalls
   pub streams : StreamCalls
   pub records : RecordCalls
+  pub generals : GeneralCalls
   pub journals : JournalCalls
   pub menders : MenderCalls
   pub once : SettledOnce

@@ -9,6 +9,7 @@ use lib.Dec.{eqb}
 use lib.ListN.{length, take, drop, getD}
 use Rattle.answer.specs.Order.{refuses, answers}
 use Rattle.bits.specs.Fields.{AreBytes}
+use Rattle.bits.specs.Rows.{FillAfter}
 use Rattle.line.specs.Line.{lineBits}
 use Rattle.frame.specs.Frames.{afterPair, bare}
 use Rattle.frame.specs.declared.Header.{Header}
@@ -35,6 +36,11 @@ use Rattle.record_observations.specs.Editions.{quantityOf}
 use Rattle.record_observations.specs.Observations.{countObservations, readEpoch, observationAt, makeObservations, saysEpochRead, saysObservationRead}
 use Rattle.record_observations.specs.Observations.{HoldsObservations, epochIn, lateTime, satelliteIn, retoldRead}
 use Rattle.record_observations.specs.Observations as observations
+use Rattle.record_generals.specs.declared.GeneralHead.{GeneralHead}
+use Rattle.record_generals.specs.declared.General.{General}
+use Rattle.record_generals.specs.Generals.{countGenerals, readHead, generalAt, makeGenerals, headIn, generalIn, noSatellite, saysHeadRead, saysGeneralRead}
+use Rattle.record_generals.specs.GeneralRounds.{HoldsGenerals, generalBits}
+use Rattle.record_generals.specs.GeneralNulls.{readGeneralNull, makeGeneralNull, systemIn, saysGeneralNullRead, HoldsGeneralNull}
 use Rattle.record_positions.specs.Positions.{readPosition, makePosition, positionIn, saysPositionRead, HoldsPosition}
 use Rattle.record_positions.specs.Positions as positions
 use Rattle.record_nulls.specs.Nulls.{readNull, makeNull, saysNullRead, HoldsNull}
@@ -45,16 +51,18 @@ use Rattle.writer.specs.Sending.{carriedOn}
 use Rattle.writer.specs.Answer.{writtenBy, writtenTo, saysWritten}
 use Rattle.writer.specs.OneFrame.{itsBits}
 use Rattle.promises.specs.ThoseOfRtcm.{GpsParityRule, FramesOfRtcm, RecordsOfRtcm}
+use Rattle.promises.specs.GeneralsOfRtcm.{GeneralsOfRtcm}
+use Rattle.promises.specs.GeneralsBack.{GeneralsBack, GeneralNullBack}
 use Rattle.promises.specs.ReadsBack.{CorrectionsBack, HealthsBack, ObservationsBack, PositionBack, NullBack, TextBack, WhatCanBeSent}
 
--- THE THIRTEEN TYPES that have a record
+-- THE FIFTEEN TYPES that have a record
 abbrev pub recordTypes : List ℕ
-recordTypes = 1 ∷ 9 ∷ 31 ∷ 34 ∷ 3 ∷ 32 ∷ 5 ∷ 33 ∷ 6 ∷ 16 ∷ 36 ∷ 18 ∷ 19 ∷ []
+recordTypes = 1 ∷ 9 ∷ 31 ∷ 34 ∷ 3 ∷ 32 ∷ 5 ∷ 33 ∷ 6 ∷ 16 ∷ 36 ∷ 18 ∷ 19 ∷ 41 ∷ 42 ∷ []
 
 -- WHICH FRAMES ARE READ, whatever their fill: those that are for the layout with exactly these N; and what is read is what their bits say, or 10
--- for a correction whose tb is over 119, and for observations whose time is over 599999
+-- for a correction whose tb is over 119, for observations whose time is over 599999, and for satellite 0 of types 41 and 42
 pub record WhatIsRead : Type 0 where
-  -- a type number has a layout other than plain exactly when it is one of the thirteen
+  -- a type number has a layout other than plain exactly when it is one of the fifteen
   pub types : (kind : ℕ) → otherLayout layout.Plain kind ≡ anyOf (eqb kind) recordTypes
   pub corrections : (f : Frame) (c : ℕ) → (saysCount (countCorrections f) ≡ answers c) ↔ HoldsCorrections f c
   pub correction : (f : Frame) (c i : ℕ) → HoldsCorrections f c → i < c
@@ -70,6 +78,12 @@ pub record WhatIsRead : Type 0 where
       → saysObservationRead (observationAt e f i) ≡ cond (lateTime (epochIn f)) (refuses 10) (answers (satelliteIn e f i))
   -- the editions: what one reads of any frame is what the other reads, with the first bit told anew; the refusals are equal
   pub told-anew : (e other : Edition) (f : Frame) (i : ℕ) → observationAt e f i ≡ retoldRead e (quantityOf (f .header .kind)) (observationAt other f i)
+  pub generals : (f : Frame) (c : ℕ) → (saysCount (countGenerals f) ≡ answers c) ↔ HoldsGenerals f c
+  pub head : (f : Frame) (c : ℕ) → HoldsGenerals f c → saysHeadRead (readHead f) ≡ answers (headIn f)
+  pub general : (f : Frame) (c i : ℕ) → HoldsGenerals f c → i < c
+      → saysGeneralRead (generalAt f i) ≡ cond (noSatellite (generalIn f i)) (refuses 10) (answers (generalIn f i))
+  pub general-null : (f : Frame) (n s : ℕ)
+      → (saysGeneralNullRead (readGeneralNull f) ≡ answers (n, s)) ↔ (HoldsGeneralNull f × ((f .n ≡ n) × (systemIn f ≡ s)))
   pub position : (f : Frame) (p : Position) → (saysPositionRead (readPosition f) ≡ answers p) ↔ (HoldsPosition f × (positionIn f ≡ p))
   pub null : (f : Frame) (n : ℕ) → (saysNullRead (readNull f) ≡ answers n) ↔ (HoldsNull f × (f .n ≡ n))
   -- a text with its closing zeros, into every buffer with room for its characters
@@ -87,6 +101,9 @@ pub record ReadsBackEqual : Type 0 where
       → saysMade (makeHealths h es c) ≡ answers f → HealthsBack h es c d f
   pub observations : (e : Edition) (h : Header) (a : Epoch) (os : List Observation) (c : ℕ) (d : Observation) (f : Frame) → length os ≡ 15
       → Each observations.Typed os → saysMade (makeObservations e h a os c) ≡ answers f → ObservationsBack e h a os c d f
+  pub generals : (h : Header) (a : GeneralHead) (gs : List General) (c : ℕ) (d : General) (f : Frame) → length gs ≡ 22
+      → saysMade (makeGenerals h a gs c) ≡ answers f → GeneralsBack h a gs c d f
+  pub general-null : (h : Header) (n s : ℕ) (f : Frame) → saysMade (makeGeneralNull h n s) ≡ answers f → GeneralNullBack h n s f
   pub position : (h : Header) (p : Position) (f : Frame) → positions.Typed p → saysMade (makePosition h p) ≡ answers f → PositionBack h p f
   pub null : (h : Header) (n : ℕ) (f : Frame) → saysMade (makeNull h n) ≡ answers f → NullBack h n f
   pub text : (h : Header) (t : List ℕ) (f : Frame) → saysMade (makeText h t) ≡ answers f → TextBack h t f
@@ -112,6 +129,13 @@ pub data Remade (f : Frame) (m : Made) : Type 0 where
   ofObservations : (e : Edition) (a : Epoch) (os : List Observation) (c : ℕ) (d : Observation) → c ≤ length os → saysCount (countObservations f) ≡ answers c
       → saysEpochRead (readEpoch f) ≡ answers a → ((i : ℕ) → i < c → saysObservationRead (observationAt e f i) ≡ answers (getD os i d))
       → m ≡ makeObservations e (f .header) a os c → Remade f m
+  -- types 41 and 42: the count, the head and every satellite, with standard fill
+  ofGenerals : (a : GeneralHead) (gs : List General) (c : ℕ) (d : General) → c ≤ length gs → saysCount (countGenerals f) ≡ answers c
+      → saysHeadRead (readHead f) ≡ answers a → ((i : ℕ) → i < c → saysGeneralRead (generalAt f i) ≡ answers (getD gs i d))
+      → FillAfter 0xAAAAAA (generalBits a c) (frameBits f) → m ≡ makeGenerals (f .header) a gs c → Remade f m
+  -- type 42, the null frame: N and the system, with standard fill
+  ofGeneralNull : (n s : ℕ) → saysGeneralNullRead (readGeneralNull f) ≡ answers (n, s) → FillAfter 0xAAAAAA 4 (frameBits f)
+      → m ≡ makeGeneralNull (f .header) n s → Remade f m
   ofPosition : (p : Position) → saysPositionRead (readPosition f) ≡ answers p → m ≡ makePosition (f .header) p → Remade f m
   -- types 6 and 34: N, with standard fill
   ofNull : (n : ℕ) → saysNullRead (readNull f) ≡ answers n → nulls.StandardFill f → m ≡ makeNull (f .header) n → Remade f m
@@ -145,6 +169,8 @@ pub record PairBeside : Type 0 where
   pub healths : (h : Header) (es : List SatelliteHealth) (c : ℕ) (f : Frame) → saysMade (makeHealths h es c) ≡ answers f → bare f ≡ f
   pub observations : (e : Edition) (h : Header) (a : Epoch) (os : List Observation) (c : ℕ) (f : Frame) → saysMade (makeObservations e h a os c) ≡ answers f
       → bare f ≡ f
+  pub generals : (h : Header) (a : GeneralHead) (gs : List General) (c : ℕ) (f : Frame) → saysMade (makeGenerals h a gs c) ≡ answers f → bare f ≡ f
+  pub general-null : (h : Header) (n s : ℕ) (f : Frame) → saysMade (makeGeneralNull h n s) ≡ answers f → bare f ≡ f
   pub position : (h : Header) (p : Position) (f : Frame) → saysMade (makePosition h p) ≡ answers f → bare f ≡ f
   pub null : (h : Header) (n : ℕ) (f : Frame) → saysMade (makeNull h n) ≡ answers f → bare f ≡ f
   pub text : (h : Header) (t : List ℕ) (f : Frame) → saysMade (makeText h t) ≡ answers f → bare f ≡ f
@@ -156,6 +182,7 @@ pub record Demand2 : Type 0 where
   pub parity : GpsParityRule
   pub frames : FramesOfRtcm
   pub records : RecordsOfRtcm
+  pub generals : GeneralsOfRtcm
   pub read : WhatIsRead
   -- "A record we write reads back equal."
   pub sent : WhatCanBeSent

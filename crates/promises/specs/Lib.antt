@@ -3,11 +3,14 @@ pub mod Answered
 pub mod PartCalls
 pub mod StreamCalls
 pub mod RecordCalls
+pub mod GeneralCalls
 pub mod JournalCalls
 pub mod MenderCalls
 pub mod CarriesItsNumber
 pub mod ChangesNeither
 pub mod ThoseOfRtcm
+pub mod GeneralsOfRtcm
+pub mod GeneralsBack
 pub mod ReadsBack
 pub mod Demand2
 pub mod Demand3

@@ -25,6 +25,11 @@ use Rattle.record_healths.specs.Healths.{countHealths, healthAt, makeHealths, s
 use Rattle.record_observations.specs.Observations.{countObservations, readEpoch, observationAt, makeObservations, saysEpochRead, saysObservationRead}
 use Rattle.record_observations.specs.Observations.{SendableObservations}
 use Rattle.record_observations.specs.Observations as observations
+use Rattle.record_generals.specs.declared.GeneralHead.{GeneralHead}
+use Rattle.record_generals.specs.declared.General.{General}
+use Rattle.record_generals.specs.Generals.{makeGenerals}
+use Rattle.record_generals.specs.GeneralRounds.{SendableGenerals}
+use Rattle.record_generals.specs.GeneralNulls.{makeGeneralNull, SendableGeneralNull}
 use Rattle.record_positions.specs.Positions.{readPosition, makePosition, saysPositionRead, SendablePosition}
 use Rattle.record_positions.specs.Positions as positions
 use Rattle.record_nulls.specs.Nulls.{readNull, makeNull, saysNullRead, SendableNull}
@@ -33,6 +38,7 @@ use Rattle.record_texts.specs.Texts.{readText, bufferAfter, makeText, SendableT
 use Rattle.writer.specs.Answer.{writtenBy, writtenTo, saysWritten}
 use Rattle.writer.specs.OneFrame.{lineAfter, Wrote}
 use Rattle.frame.specs.declared.Carried.{Carried}
+use Rattle.promises.specs.GeneralsBack.{GeneralsBack, GeneralNullBack}
 
 -- ---- WHAT READS BACK of a frame: its header and its record; it is within its widths, N is worked out, the fill is standard
 
@@ -113,6 +119,11 @@ pub record WhatCanBeSent : Type 0 where
   -- types 18 and 19, in each edition
   pub observations : (e : Edition) (h : Header) (a : Epoch) (os : List Observation) (c : ℕ) (d : Observation) → Each observations.Typed (take c os)
       → SendableObservations e h a os c d → ReadsBack (makeObservations e h a os c) (ObservationsBack e h a os c d)
+  -- types 41 and 42
+  pub generals : (h : Header) (a : GeneralHead) (gs : List General) (c : ℕ) (d : General) → SendableGenerals h a gs c d
+      → ReadsBack (makeGenerals h a gs c) (GeneralsBack h a gs c d)
+  -- type 42, the null frame
+  pub general-null : (h : Header) (n s : ℕ) → SendableGeneralNull h n s → ReadsBack (makeGeneralNull h n s) (GeneralNullBack h n s)
   -- types 3 and 32
   pub position : (h : Header) (p : Position) → positions.Typed p → SendablePosition h p → ReadsBack (makePosition h p) (PositionBack h p)
   -- types 6 and 34

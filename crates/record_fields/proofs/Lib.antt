@@ -9,3 +9,4 @@ pub mod Headed
 pub mod Round
 pub mod TableRound
 pub mod Making
+pub mod NarrowLaws

@@ -114,9 +114,12 @@ narrow-is w z f g = ap (λ (x : ℤ). toZ w (ofZ w x)) (toZ-ofZ w64 z g) ∙ toZ
 pub up : (w : Width) (z : ℤ) → SFits w z → 2 ^ hbits w ≤ 2 ^ hbits w64 → SFits w64 z
 up w z f h = record { sfits = omega (arith, f .sfits, h) }
 
--- what a code means fits the width
+-- what a code means fits the width, and one of at most as many bits
+pub fewer-fits : (w : Width) (h : ℕ) (z : ℤ) (n : ℕ) → z ≡ signed h n → n < 2 ^ suc h → 2 ^ h ≤ 2 ^ hbits w → SFits w z
+fewer-fits w h z n e l f = record { sfits = rw e (let m = mag-signed h n l in omega (arith, m, f)) }
+
 pub meant-fits : (w : Width) (z : ℤ) (n : ℕ) → z ≡ signed (hbits w) n → n < 2 ^ suc (hbits w) → SFits w z
-meant-fits w z n e h = record { sfits = rw e (mag-signed (hbits w) n h) }
+meant-fits w z n e h = fewer-fits w (hbits w) z n e h (omega arith)
 
 -- a code that fits its width, read as a signed number and held in a local
 pub signed-held : (w : Width) (z : ℤ) (n : ℕ) → z ≡ signed (hbits w) n → n < 2 ^ suc (hbits w) → toZ w (ofZ w z) ≡ signed (hbits w) n

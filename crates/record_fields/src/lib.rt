@@ -6,6 +6,7 @@ ghost use mathlib.Core.Path.{_≡_};
 ghost use Prim.Native.Nat.{_≤_, _<_, _%_, _^_};
 ghost use lib.ListN.{length, getD};
 ghost use Rattle.bits.specs.Signed.{signed as signedOf, code as codeOf};
+ghost use Rattle.record_fields.specs.Narrow.{codeWithin};
 ghost use Rattle.record_fields.specs.Satellites.{satelliteOf};
 ghost use Rattle.record_fields.specs.Packing.{fieldIn, emptyPacker, flushed, pushed, filledUp};
 ghost use Rattle.record_fields.specs.Tables.{row, fieldsIn, noRows, putRow};
@@ -174,11 +175,17 @@ pub fn fill_up(packer: Packer, pattern: u32) -> Packer
     push(packer, 24 - held, pattern >> held)
 }
 
-// Eight, sixteen and thirty-two bits to a signed number, and back.
+// Eight, fourteen, sixteen and thirty-two bits to a signed number, and back.
 pub fn signed8(n: u32) -> i8
     ensures { λ r. ⌜ r ≡ signedOf 7 (n % 256) ⌝ }
 {
     signed(n % 256, 7) as i8
+}
+
+pub fn signed14(n: u32) -> i16
+    ensures { λ r. ⌜ r ≡ signedOf 13 (n % 16384) ⌝ }
+{
+    signed(n % 16384, 13) as i16
 }
 
 pub fn signed16(n: u32) -> i16
@@ -197,6 +204,19 @@ pub fn code8(z: i8) -> u32
     ensures { λ r. ⌜ r ≡ codeOf 7 z ⌝ }
 {
     code(z as i64, 7)
+}
+
+// A number outside fourteen bits has no code of them: 16384, which they can't hold.
+pub fn code14(z: i16) -> u32
+    ensures { λ r. ⌜ r ≡ codeWithin 13 z ⌝ }
+{
+    if z < -8192 {
+        return 16384;
+    }
+    if z > 8191 {
+        return 16384;
+    }
+    code(z as i64, 13)
 }
 
 pub fn code16(z: i16) -> u32

@@ -9,6 +9,10 @@ pub mod NullTrips
 pub mod ObservationLaws
 pub mod ObservationTrips
 pub mod ObservationAgain
+pub mod GeneralLaws
+pub mod GeneralTrips
+pub mod GeneralAgain
+pub mod GeneralNullTrips
 pub mod TextLaws
 pub mod TextHeld
 pub mod TextTrips

@@ -15,6 +15,8 @@ use Rattle.record_positions.specs.Positions.{readPosition}
 use Rattle.record_nulls.specs.Nulls.{readNull}
 use Rattle.record_observations.specs.declared.Edition.{Edition}
 use Rattle.record_observations.specs.Observations.{countObservations, readEpoch, observationAt}
+use Rattle.record_generals.specs.Generals.{countGenerals, readHead, generalAt}
+use Rattle.record_generals.specs.GeneralNulls.{readGeneralNull}
 use Rattle.record_texts.specs.Texts.{readText, bufferAfter}
 
 module _ (k : Carried) (f : Frame) (p : pairOutside k ≡ false) (o : outside f ≡ false) where
@@ -64,3 +66,19 @@ module _ (k : Carried) (f : Frame) (p : pairOutside k ≡ false) (o : outside f 
   pub observation-entry : (e : Edition) (i : ℕ) → observationAt e (afterPair k f) i ≡ observationAt e f i
   unfolding observationAt frameBits afterPair
   observation-entry e i = rw same
+
+  pub generals-count : countGenerals (afterPair k f) ≡ countGenerals f
+  unfolding countGenerals frameBits afterPair
+  generals-count = rw same
+
+  pub head-same : readHead (afterPair k f) ≡ readHead f
+  unfolding readHead frameBits afterPair
+  head-same = rw same
+
+  pub general-entry : (i : ℕ) → generalAt (afterPair k f) i ≡ generalAt f i
+  unfolding generalAt frameBits afterPair
+  general-entry i = rw same
+
+  pub general-null-same : readGeneralNull (afterPair k f) ≡ readGeneralNull f
+  unfolding readGeneralNull frameBits afterPair
+  general-null-same = rw same

@@ -48,6 +48,7 @@ layoutNumber layout.Text = 4
 layoutNumber layout.Plain = 5
 layoutNumber layout.CorrectionOrNull = 6
 layoutNumber layout.Observation = 7
+layoutNumber layout.General = 8
 
 abbrev pub sameLayout : Layout → Layout → Bool
 sameLayout a b = eqb (layoutNumber a) (layoutNumber b)

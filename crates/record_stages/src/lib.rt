@@ -81,6 +81,7 @@ fn layout_number(layout: Layout) -> u8
         Layout::Plain => 5,
         Layout::CorrectionOrNull => 6,
         Layout::Observation => 7,
+        Layout::General => 8,
     }
 }
 

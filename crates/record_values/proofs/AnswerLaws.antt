@@ -24,7 +24,7 @@ use Rattle.record_values.specs.declared.SinceHour.the-variants as since
 use Rattle.record_values.specs.declared.Letter.the-variants as letter
 use Rattle.record_values.proofs.Readings.{exact-other, neither-lowest}
 
-as-distance : (x : Reading) → saysDistance (distanceOf x) ≡ answers x
+pub as-distance : (x : Reading) → saysDistance (distanceOf x) ≡ answers x
 as-distance (exactly mm) = refl
 as-distance stop = refl
 

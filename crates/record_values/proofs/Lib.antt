@@ -3,3 +3,4 @@ pub mod Readings
 pub mod LimitLaws
 pub mod StageLaws
 pub mod AnswerLaws
+pub mod GeneralLaws

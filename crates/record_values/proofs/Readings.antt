@@ -20,14 +20,22 @@ use Rattle.record_values.proofs.Products.{abs-product}
 
 -- ---- from the bits in which a machine holds a number
 
--- only the lowest number has the bits 10..0
-pub lowest-bits : (w : Width) (z : ℤ) → SFits w z → isLowest (hbits w) z ≡ eqb (ofZ w z) (2 ^ hbits w)
-lowest-bits w (pos n) f = sym (ne-eqb n (2 ^ hbits w) (λ e. omega (arith, f .sfits)))
-lowest-bits w (negsuc n) f = go (eqb (suc n) (2 ^ hbits w)) refl
+-- only the lowest number of h + 1 bits has the bits 1..10..0, with h zeros
+pub lowest-within : (w : Width) (h : ℕ) (z : ℤ) → 2 ^ h ≤ 2 ^ hbits w → SFits w z → isLowest h z ≡ eqb (ofZ w z) (2 ^ bits w - 2 ^ h)
+lowest-within w h (pos n) l f = sym (ne-eqb n (2 ^ bits w - 2 ^ h) (λ e. omega (arith, f .sfits, pow-bits w)))
+lowest-within w h (negsuc n) l f = go (eqb (suc n) (2 ^ h)) refl
   where
-    go : (t : Bool) → eqb (suc n) (2 ^ hbits w) ≡ t → t ≡ eqb (2 ^ bits w - suc n) (2 ^ hbits w)
-    go true e = sym (eq-eqb (2 ^ bits w - suc n) (2 ^ hbits w) (omega (arith, eqb-true (suc n) (2 ^ hbits w) e, pow-bits w)))
-    go false e = sym (ne-eqb (2 ^ bits w - suc n) (2 ^ hbits w) (λ q. eqb-false (suc n) (2 ^ hbits w) e (omega (arith, f .sfits, pow-bits w))))
+    go : (t : Bool) → eqb (suc n) (2 ^ h) ≡ t → t ≡ eqb (2 ^ bits w - suc n) (2 ^ bits w - 2 ^ h)
+    go true e = sym (eq-eqb (2 ^ bits w - suc n) (2 ^ bits w - 2 ^ h) (omega (arith, eqb-true (suc n) (2 ^ h) e)))
+    go false e =
+        sym (ne-eqb (2 ^ bits w - suc n) (2 ^ bits w - 2 ^ h) (λ q. eqb-false (suc n) (2 ^ h) e (omega (arith, f .sfits, pow-bits w))))
+
+-- of all its bits: 10..0
+pub lowest-bits : (w : Width) (z : ℤ) → SFits w z → isLowest (hbits w) z ≡ eqb (ofZ w z) (2 ^ hbits w)
+lowest-bits w z f = lowest-within w (hbits w) z (omega arith) f ∙ ap (eqb (ofZ w z)) half
+  where
+    half : 2 ^ bits w - 2 ^ hbits w ≡ 2 ^ hbits w
+    half = omega (arith, pow-bits w)
 
 module _ (w : Width) (small large scale : ℕ) (z : ℤ) (f : SFits w z) where
   pub signed-stop : ofZ w z ≡ 2 ^ hbits w → signedValue (hbits w) small large scale z ≡ stop

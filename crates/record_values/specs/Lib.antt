@@ -1,2 +1,4 @@
 pub mod Values
 pub mod Answer
+pub mod GeneralValues
+pub mod GeneralAnswer

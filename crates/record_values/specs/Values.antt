@@ -43,7 +43,7 @@ stopsUse prc rrc = isLowest 15 prc || isLowest 7 rrc
 
 -- ---- UDRE
 
--- an upper limit in mm, or none
+-- an upper limit, or none: in mm; of types 41 and 42 in hundredths of a mm
 pub data Bound : Type 0 where
   upTo : ℕ → Bound
   noLimit : Bound

@@ -1,5 +1,7 @@
 // What the numbers of a record and of a header stand for, in whole units: mm, mm/s, dBHz, minutes, tenths of a second; and which letters
 // the characters of a text are.
+pub mod general;
+
 ghost use mathlib.Core.Path.{_≡_};
 ghost use lib.IntN.{pos, _*ℤ_};
 ghost use Rattle.record_values.specs.Values.{stepOf, stopsUse, hundredthsOf};
@@ -21,6 +23,26 @@ pub enum Distance {
 pub enum Rate {
     MillimetresPerSecond(i32),
     Stop,
+    Refused(u8),
+}
+
+// An ionosphere delay, that it is not to be used, or the refusal's number.
+pub enum Delay {
+    Millimetres(u32),
+    Unusable,
+    Refused(u8),
+}
+
+// A UDRE's upper limit of types 41 and 42 in hundredths of a mm, that it has none, or the refusal's number.
+pub enum GeneralLimit {
+    Hundredths(u32),
+    NoLimit,
+    Refused(u8),
+}
+
+// How long corrections may be used, or the refusal's number.
+pub enum Period {
+    Seconds(u8),
     Refused(u8),
 }
 
@@ -70,7 +92,7 @@ fn step_of(small: u16, large: u16, scale: u8) -> u16
 }
 
 // A signed number times a step: sixteen bits by sixteen always fit, so this is exact at both ends.
-fn product(number: i16, step: u16) -> i32
+pub(crate) fn product(number: i16, step: u16) -> i32
     ensures { λ r. ⌜ r ≡ number *ℤ pos step ⌝ }
 {
     number as i32 * step as i32
@@ -110,7 +132,7 @@ pub fn stops(prc: i16, rrc: i8) -> bool
 }
 
 // The factor of a state in hundredths: a station that is not monitored or not working has factor 1.
-fn hundredths_of(state: State) -> u8
+pub(crate) fn hundredths_of(state: State) -> u8
     ensures { λ r. ⌜ r ≡ hundredthsOf state ⌝ }
 {
     match state {

@@ -8,6 +8,8 @@ pub mod LineOrders
 pub mod LineTaking
 pub mod MakeOrders
 pub mod ObservationOrders
+pub mod GeneralLaws
+pub mod GeneralOrders
 pub mod NumberLaws
 pub mod Orders
 pub mod PositionLaws

@@ -2,7 +2,7 @@
 -- widths, so keeping it adds 13 alone. Assumes nothing.
 use mathlib.Core.Path.{_≡_, refl, ap, _∙_}
 use mathlib.Core.Bool.{Bool, true, false, not}
-use mathlib.Core.List.{List, [], _∷_}
+use mathlib.Core.List.{List, [], _∷_, _++_}
 use Prim.Native.Nat.{ℕ, zero, suc, _+_, _*_, _/_, _%_, _≤_}
 use native.Mathlib.Omega.{arith}
 use lib.Dec.{ltb, eqb}
@@ -80,18 +80,24 @@ module _ (kind station z sequence code : ℕ) (buffer : List ℕ) where
       ap (λ s. keptTo s buffer) (headed-order kind station z sequence code next ∙ ap (inOrder ((ltb 7 code, 5) ∷ []) refuses) is)
       ∙ kept-after ((ltb 7 code, 5) ∷ cs) f buffer
 
+  -- made in an order of its own: 5 for a health over 7 before it, 13 behind it
+  module _ (cs : List Check) (made : Frame) (make : Header → Made) (is : make H ≡ inOrder cs refusedMade (doneMade made))
+      (within : NoneApplies cs → outside made ≡ false) where
+    pub own-order : keptTo (andThen (headed kind station z sequence code) (λ h. saysMade (make h))) buffer
+        ≡ inOrder ((ltb 7 code, 5) ∷ (cs ++ (shortFor made buffer ∷ []))) refuses (answers (3 * made .n + 9))
+    unfolding refusedMade doneMade
+    own-order =
+        kept-headed (λ h. saysMade (make h)) cs made
+        (ap saysMade is ∙ says-order saysMade refusedMade (λ n. refl) (doneMade made) cs refl)
+        ∙ pass-five ((ltb 7 code, 5) ∷ cs) [] (outside made) (shortFor made buffer ∷ []) (answers (3 * made .n + 9)) (λ none. within (none .1))
+
   -- MAKING: 5, 6, 7, the layout's own, 13
   module _ (asked : Layout) (more : List Check) (made : Frame) (make : Header → Made)
       (is : make H ≡ inOrder (makeOrder asked H more) refusedMade (doneMade made))
       (within : NoneApplies (makeOrder asked H more) → outside made ≡ false) where
     pub make-order : keptTo (andThen (headed kind station z sequence code) (λ h. saysMade (make h))) buffer
         ≡ inOrder (madeOrder kind station z sequence code asked more made buffer) refuses (answers (3 * made .n + 9))
-    unfolding refusedMade doneMade
-    make-order =
-        kept-headed (λ h. saysMade (make h)) (makeOrder asked H more) made
-        (ap saysMade is ∙ says-order saysMade refusedMade (λ n. refl) (doneMade made) (makeOrder asked H more) refl)
-        ∙ pass-five ((ltb 7 code, 5) ∷ makeOrder asked H more) [] (outside made) (shortFor made buffer ∷ []) (answers (3 * made .n + 9))
-        (λ none. within (none .1))
+    make-order = own-order (makeOrder asked H more) made make is within
 
   -- of entries that fit a frame, once the layout's own checks have passed
   module _ {A : Type 0} (asked : Layout) (k : Coding A) (pattern : ℕ) (es : List A) (more : List Check) (make : Header → Made)

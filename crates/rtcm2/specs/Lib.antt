@@ -14,5 +14,7 @@ pub mod Rows
 pub mod Corrections
 pub mod Healths
 pub mod Observations
+pub mod Generals
 pub mod Beacon
 pub mod Orders
+pub mod GeneralOrders

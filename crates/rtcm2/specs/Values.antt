@@ -9,6 +9,8 @@ use Rattle.answer.specs.Order.{Says, refuses, answers, inOrder}
 use Rattle.frame.specs.Header.{stateOf}
 use Rattle.record_values.specs.Values.{Reading, exactly, stop, stopsUse, Bound, upTo, noLimit, Signal, dbHz, notTracked}
 use Rattle.record_values.specs.Answer.{prcMm, rrcMmS, udreLimit, cn0DbHz, letterOf, saysDistance, saysRate, saysLimit, saysStrength, saysLetter}
+use Rattle.record_values.specs.GeneralValues.{Delayed, delayed, unusable}
+use Rattle.record_values.specs.GeneralAnswer.{generalPrcMm, delayMm, generalUdre, useSeconds, saysDelay, saysGeneralLimit, saysPeriod}
 
 -- ---- what each call says
 
@@ -32,6 +34,22 @@ strengthSaid code = saysStrength (cn0DbHz code)
 -- a character's number in Unicode
 abbrev pub letterSaid : ℕ → Says ℕ
 letterSaid code = saysLetter (letterOf code)
+
+-- ---- of types 41 and 42
+
+abbrev pub generalPrcSaid : ℤ → Says Reading
+generalPrcSaid prc = saysDistance (generalPrcMm prc)
+
+abbrev pub delaySaid : ℕ → Says Delayed
+delaySaid delay = saysDelay (delayMm delay)
+
+-- in hundredths of a mm; 5 for a health over 7
+abbrev pub generalLimitSaid : ℕ → ℕ → Says Bound
+generalLimitSaid health udre = inOrder ((ltb 7 health, 5) ∷ []) refuses (saysGeneralLimit (generalUdre (stateOf health) udre))
+
+-- how long a correction may be used
+abbrev pub secondsSaid : ℕ → Says ℕ
+secondsSaid code = saysPeriod (useSeconds code)
 
 -- ---- the flag and the number
 
@@ -61,3 +79,12 @@ trackedFlag notTracked = 0
 abbrev pub dbHzOr0 : Signal → ℕ
 dbHzOr0 (dbHz n) = n
 dbHzOr0 notTracked = 0
+
+-- 0 for a delay that is not to be used
+abbrev pub usableFlag : Delayed → ℕ
+usableFlag (delayed mm) = 1
+usableFlag unusable = 0
+
+abbrev pub delayOr0 : Delayed → ℕ
+delayOr0 (delayed mm) = mm
+delayOr0 unusable = 0

@@ -2,6 +2,7 @@
 pub mod beacon;
 pub mod correction;
 pub mod frames;
+pub mod general;
 mod header;
 pub mod health;
 pub mod line;

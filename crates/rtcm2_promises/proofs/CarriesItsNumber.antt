@@ -16,7 +16,9 @@ use Rattle.reader.specs.declared.Next.{Next}
 use Rattle.journal.specs.Journal.{recallOrder}
 use Rattle.writer.specs.Answer.{openChecks}
 use Rattle.record_values.specs.Values.{noLetter}
+use Rattle.record_values.specs.GeneralValues.{outside14}
 use Rattle.record_values.proofs.AnswerLaws.{prc-says, rrc-says, cn0-says, letter-says}
+use Rattle.record_values.proofs.GeneralLaws.{general-prc-says, delay-says, use-says}
 use Rattle.reader.specs.declared.Candidate.{Candidate}
 use Rattle.rtcm2_state.specs.State.{stateIn, putChecks, storedBy, saysStored}
 use Rattle.rtcm2_state.specs.declared.Stored.the-variants as stored
@@ -25,10 +27,14 @@ use Rattle.rtcm2_rows.specs.Rows.{putOrder, putBy, saysPut}
 use Rattle.rtcm2_rows.specs.declared.row.Put.the-variants as put
 use Rattle.rtcm2_rows.specs.Corrections as correction
 use Rattle.rtcm2_rows.specs.Observations as observation
+use Rattle.rtcm2_rows.specs.Generals as general
 use Rattle.rtcm2.proofs.ObservationOrders as orders
+use Rattle.rtcm2.proofs.GeneralOrders as generals
+use Rattle.rtcm2.specs.Generals.{headOf}
 use Rattle.rtcm2_rows.specs.Healths as health
 use Rattle.rtcm2.specs.Line.{fedIn}
 use Rattle.rtcm2.specs.Orders as in-order
+use Rattle.rtcm2.specs.GeneralOrders as general-order
 use Rattle.rtcm2.proofs.LineOrders.{held-order, start-order, counts-order, feed-all-order, end-order}
 use Rattle.rtcm2.proofs.LineTaking.{take-order}
 use Rattle.rtcm2.proofs.SendOrders.{open-order, write-order}
@@ -36,7 +42,7 @@ use Rattle.rtcm2.proofs.WordsOrders.{keep-words-order, restore-order}
 use Rattle.rtcm2.proofs.ReadOrders as reads
 use Rattle.rtcm2.proofs.MakeOrders as makes
 use Rattle.rtcm2.proofs.BeaconOrders.{profile-order, cut-order}
-use Rattle.rtcm2.proofs.ValueOrders.{limit-order}
+use Rattle.rtcm2.proofs.ValueOrders.{limit-order, general-limit-order}
 use Rattle.promises.specs.CarriesItsNumber.{Ordered}
 use Rattle.promises.proofs.CarriesItsNumber.{ordered, carries-its-number}
 use Rattle.rtcm2_promises.specs.CarriesItsNumber.{LibraryNumbers}
@@ -95,6 +101,17 @@ library-numbers = record {
   make-position = λ kind station z sequence code x y up buffer.
       ordered (in-order.positionMadeOrder kind station z sequence code (record { x = x; y = y; z = up }) buffer) _
       (makes.position-made kind station z sequence code buffer x y up) refl refl;
+  count-generals = λ bs fits. ordered (general-order.generalsOrder bs) _ (generals.generals-counted bs fits) refl refl;
+  read-head = λ bs fits. ordered (general-order.generalsOrder bs) _ (generals.head-order bs fits) refl refl;
+  general-at = λ bs fits i lent. ordered (general-order.generalOrder bs i lent) _ (generals.general-row-order bs fits i lent) refl refl;
+  make-generals = λ kind station z sequence code system signal ephemeris period ionosphere bs buffer.
+      let a = headOf system signal ephemeris period ionosphere in
+      ordered (general-order.generalsMadeOrder kind station z sequence code a bs buffer) _
+      (generals.generals-made kind station z sequence code a bs buffer) refl refl;
+  read-general-null = λ bs fits. ordered (general-order.generalNullOrder bs) _ (generals.general-null-order bs fits) refl refl;
+  make-general-null = λ kind station z sequence code n system buffer.
+      ordered (general-order.generalNullMadeOrder kind station z sequence code n system buffer) _
+      (generals.general-null-made kind station z sequence code n system buffer) refl refl;
   check-profile = λ bs fits. ordered (in-order.profileReadOrder bs) _ (profile-order bs fits) refl refl;
   cut-corrections = λ kind station z sequence code bs buffer.
       ordered (in-order.cutKeptOrder kind station z sequence code bs buffer) _ (cut-order kind station z sequence code bs buffer) refl refl;
@@ -110,11 +127,16 @@ library-numbers = record {
   udre-limit-mm = λ code udre. ordered (in-order.limitOrder code udre) _ (limit-order code udre) refl refl;
   cn0-dbhz = λ code. ordered ((ltb 31 code, 10) ∷ []) _ (cn0-says code) refl refl;
   letter-of = λ code. ordered ((noLetter code, 11) ∷ []) _ (letter-says code) refl refl;
+  general-prc-mm = λ prc. ordered ((outside14 prc, 10) ∷ []) _ (general-prc-says prc) refl refl;
+  delay-mm = λ delay. ordered ((ltb 4095 delay, 10) ∷ []) _ (delay-says delay) refl refl;
+  general-udre = λ code udre. ordered (general-order.generalLimitOrder code udre) _ (general-limit-order code udre) refl refl;
+  use-seconds = λ code. ordered ((ltb 3 code, 10) ∷ []) _ (use-says code) refl refl;
   remainder = λ window. ordered [] _ refl refl refl;
   mend = λ bs at searching report. carries-its-number .mend bs at (isNonzero searching) report;
   put-start = put-stored;
   put-state = λ r bytes. put-stored (r .candidate) bytes;
   put-observation = put-ordered observation.row;
+  put-general = put-ordered general.row;
   put-correction = put-ordered (correction.row Gps);
   put-health = put-ordered (health.row Gps);
 }

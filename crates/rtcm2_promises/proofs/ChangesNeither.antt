@@ -16,6 +16,7 @@ use Rattle.record_fields.specs.Coding.{Coding}
 use Rattle.rtcm2_state.specs.State.{storedBy, startPut, statePut, saysStored}
 use Rattle.rtcm2_rows.specs.Corrections as correction
 use Rattle.rtcm2_rows.specs.Observations as observation
+use Rattle.rtcm2_rows.specs.Generals as general
 use Rattle.rtcm2_rows.specs.Healths as health
 use Rattle.rtcm2.specs.Header.{headed}
 use Rattle.rtcm2.specs.Frames.{frameSaid, keepSaid, keptTo, heldTo, sizeTo}
@@ -28,6 +29,7 @@ use native.Mathlib.Omega.{arith}
 use Rattle.rtcm2.specs.Rows.{rowTo, rowHeld}
 use Rattle.rtcm2.specs.Corrections as corrections
 use Rattle.rtcm2.specs.Observations as observations
+use Rattle.rtcm2.specs.Generals as generals
 use Rattle.rtcm2.specs.Healths as healths
 use Rattle.rtcm2.specs.Positions as positions
 use Rattle.rtcm2.specs.Beacon.{recordsOf, cutSaid, keptAll, heldAll, sizeAll}
@@ -119,6 +121,13 @@ library-keeps = record {
   read-epoch = λ frame f s t. (λ n e. rw e, λ n e. rw e, λ n e. rw e);
   observation-at = λ e frame i. entry-keeps observation.row (observations.entrySaid e (frameSaid frame) i);
   make-observations = λ e kind station z sequence code f s t rows. made-keeps (observations.madeSaid e (headed kind station z sequence code) f s t rows);
+  count-generals = λ frame count n e. rw e;
+  read-head = λ frame system signal ephemeris period ionosphere. (λ n e. rw e, λ n e. rw e, λ n e. rw e, λ n e. rw e, λ n e. rw e);
+  general-at = λ frame i. entry-keeps general.row (generals.entrySaid (frameSaid frame) i);
+  make-generals = λ kind station z sequence code system signal ephemeris period ionosphere rows.
+      made-keeps (generals.madeSaid (headed kind station z sequence code) (generals.headOf system signal ephemeris period ionosphere) rows);
+  read-general-null = λ frame m system. (λ n e. rw e, λ n e. rw e);
+  make-general-null = λ kind station z sequence code n system. made-keeps (generals.generalNullMade (headed kind station z sequence code) n system);
   read-position = λ frame x y up. (λ n e. rw e, λ n e. rw e, λ n e. rw e);
   make-position = λ kind station z sequence code x y up. made-keeps (positions.makeSaid kind station z sequence code x y up);
   cut-corrections = λ kind station z sequence code rows. cut-keeps (cutSaid (headed kind station z sequence code) rows);
@@ -132,12 +141,17 @@ library-keeps = record {
   udre-limit-mm = λ code udre limited mm. (λ n e. rw e, λ n e. rw e);
   cn0-dbhz = λ code tracked dbhz. (λ n e. rw e, λ n e. rw e);
   letter-of = λ code letter n e. rw e;
+  general-prc-mm = λ prc stop mm. (λ n e. rw e, λ n e. rw e);
+  delay-mm = λ delay usable mm. (λ n e. rw e, λ n e. rw e);
+  general-udre = λ code udre limited hundredths. (λ n e. rw e, λ n e. rw e);
+  use-seconds = λ code seconds n e. rw e;
   mend-bytes = λ bs at searching report. changes-neither .mend-bytes bs at (isNonzero searching) report;
   mend-report = λ bs at searching report. changes-neither .mend-output bs at (isNonzero searching) report;
   mend-step = λ bs at searching report step n e. rw e;
   mend-read = λ bs at searching report read n e. rw e;
   mend-written = λ bs at searching report written n e. rw e;
   remainder = λ window remainder n e. absurd (refuses-apart n _ (sym e));
+  put-general = λ entry lent. entry-keeps general.row (answers entry) lent;
   put-observation = λ entry lent. entry-keeps observation.row (answers entry) lent;
   put-correction = λ entry lent. entry-keeps (correction.row Gps) (answers entry) lent;
   put-health = λ entry lent. entry-keeps (health.row Gps) (answers entry) lent;

@@ -1,4 +1,5 @@
 pub mod LibraryCalls
+pub mod LibraryGenerals
 pub mod CarriesItsNumber
 pub mod ChangesNeither
 pub mod Told
@@ -11,6 +12,8 @@ pub mod Counters
 pub mod KeptBack
 pub mod Framed
 pub mod ObservationsBack
+pub mod RowsBack
+pub mod GeneralsBack
 pub mod ReadsBack
 pub mod KeptAgain
 pub mod LineBack

@@ -1,6 +1,7 @@
 -- The demands hold of the library. Assumes nothing.
 use Rattle.rtcm2_promises.specs.Library.{Library}
 use Rattle.rtcm2_promises.proofs.LibraryCalls.{library-calls}
+use Rattle.rtcm2_promises.proofs.LibraryGenerals.{library-generals}
 use Rattle.rtcm2_promises.proofs.CarriesItsNumber.{library-numbers}
 use Rattle.rtcm2_promises.proofs.ChangesNeither.{library-keeps}
 use Rattle.rtcm2_promises.proofs.ReadsBack.{library-reads-back}
@@ -14,6 +15,7 @@ use Rattle.rtcm2_promises.proofs.LateJoiners.{library-late-joiners}
 pub library : Library
 library = record {
   calls = library-calls;
+  generals = library-generals;
   carries = library-numbers;
   changes = library-keeps;
   reads-back = library-reads-back;

@@ -5,15 +5,15 @@ use mathlib.Core.List.{List, [], _∷_, _++_, append-assoc}
 use Prim.Native.Nat.{ℕ, _+_, _*_, _/_, _%_, _≤_, _<_}
 use native.Mathlib.Omega.{arith}
 use lib.Dec.{ltb, eqb}
-use lib.ListN.{length, take, drop, getD, replicate, length-append, length-drop}
+use lib.ListN.{length, take, drop, getD, replicate, length-append}
 use lib.Seq.{take-all, take-at, drop-at}
-use borrow.Author.Tests.{le-ltb, eqb-true, not-false}
+use borrow.Author.Tests.{eqb-true, not-false}
 use Rattle.answer.specs.Order.{Says, refuses, answers, NoneApplies}
 use Rattle.answer.proofs.OrderLaws.{order-told, refuses-apart}
 use Rattle.bits.specs.Bits.{number}
 use Rattle.bits.specs.Fields.{AreBytes, octets}
 use Rattle.bits.specs.Rows.{wordsIn}
-use Rattle.bits.proofs.FieldLaws.{fit-take, fit-drop}
+use Rattle.bits.proofs.FieldLaws.{fit-take}
 use Rattle.bits.proofs.SignedLaws.{mag-signed}
 use Rattle.frame.specs.Header.{firstWord, secondWord}
 use Rattle.frame.specs.Frames.{framed, dataWords, wordsOf}
@@ -43,17 +43,18 @@ use Rattle.record_positions.specs.Positions as position
 use Rattle.record_positions.specs.declared.Position.{Position}
 use Rattle.record_nulls.specs.Nulls as null
 use Rattle.record_texts.specs.Texts as text
-use Rattle.rtcm2_rows.specs.Rows.{rowSize, countOf, entryOf, entriesFrom, rowAfter}
+use Rattle.rtcm2_rows.specs.Rows.{rowSize, countOf, entryOf, entriesFrom}
 use Rattle.rtcm2_rows.specs.Corrections as correction-bytes
 use Rattle.rtcm2_rows.specs.Healths as health-bytes
-use Rattle.rtcm2_rows.proofs.RowLaws.{entry-at, count-held, length-entries}
-use Rattle.rtcm2_rows.proofs.Trips.{row-again, byte-small, each-read}
+use Rattle.rtcm2_rows.proofs.RowLaws.{count-held, length-entries}
+use Rattle.rtcm2_rows.proofs.Trips.{byte-small, each-read}
 use Rattle.rtcm2_rows.proofs.CorrectionRows as correction-rows
 use Rattle.rtcm2_rows.proofs.HealthRows as health-rows
 use Rattle.rtcm2.specs.Answer.{andThen}
 use Rattle.rtcm2.specs.Header.{headed}
 use Rattle.rtcm2.specs.Frames.{frameSaid, wordsSaid}
-use Rattle.rtcm2.specs.Rows.{madeOf, rowTo, rowHeld}
+use Rattle.rtcm2.specs.Rows.{madeOf}
+use Rattle.rtcm2.specs.Generals.{headOf}
 use Rattle.rtcm2.specs.Positions as positions
 use Rattle.rtcm2.specs.Nulls as nulls
 use Rattle.rtcm2.specs.Texts as texts
@@ -65,6 +66,8 @@ use Rattle.rtcm2_promises.specs.ReadsBack.{GivesBack, RowsBack, LibraryR
 use Rattle.rtcm2_promises.proofs.Framed.{framed-by}
 use Rattle.rtcm2_promises.proofs.KeptBack.{gives-back}
 use Rattle.rtcm2_promises.proofs.ObservationsBack.{observations-back}
+use Rattle.rtcm2_promises.proofs.RowsBack.{rows-back}
+use Rattle.rtcm2_promises.proofs.GeneralsBack.{generals-back, general-null-back}
 
 -- ---- what is made is a frame of its header and words
 
@@ -97,35 +100,7 @@ module _ (h : Header) where
       framed-by (makeOrder layout.Text h ((wrongCount 90 (length t), 12) ∷ (anyOf (text.forbidden (systemOf (h .kind))) t, 11) ∷ [])) h
       (wordsIn text.fill (entryBits text.coding t)) (text.makeText h t) refl
 
--- ---- lists, over the row: the count, and each row put again is its own bytes
-
-module _ {A : Type 0} (row : Coding A) (Good : A → Type 0) (law : Faithful row Good) (eight : row .widths ≡ octets (rowSize row))
-    (room : (i l : ℕ) → i < countOf (rowSize row) l → i * rowSize row + rowSize row ≤ l)
-    (make : Header → List A → ℕ → Made) (most width pattern : ℕ) (counted : Frame → Says ℕ) (entry : Frame → ℕ → Says A)
-    (rows : List ℕ) (b : AreBytes rows) where
-  abbrev es : List A
-  es = entriesFrom row most rows
-
-  abbrev c : ℕ
-  c = countOf (rowSize row) (length rows)
-
-  abbrev none : A
-  none = entryOf row []
-
-  module _ (h : Header) (f : Frame) (few : c ≤ most) (back : ListBack counted entry width pattern h es c none f) where
-    put : (i : ℕ) (lent : List ℕ) → i < c → rowSize row ≤ length lent
-        → rowAfter row (entryOf row (drop (i * rowSize row) rows)) lent ≡ take (rowSize row) (drop (i * rowSize row) rows) ++ drop (rowSize row) lent
-    put i lent l long = rw (le-ltb (length lent) (rowSize row) long)
-        (ap (λ v. v ++ drop (rowSize row) lent) (row-again row Good law eight (drop (i * rowSize row) rows) (fit-drop (i * rowSize row) rows b)
-        (omega (arith, room i (length rows) l, length-drop (i * rowSize row) rows))))
-
-    rows-back : RowsBack row rows (counted f) (entry f)
-    rows-back = record {
-      counts = back .counted;
-      answered = λ i lent l long. ap (λ s. rowTo row s lent) (back .each i l) ∙ rw (le-ltb (length lent) (rowSize row) long);
-      each = λ i lent l long.
-          ap (λ s. rowHeld row s lent) (back .each i l ∙ ap answers (entry-at row most rows i none (omega (arith, few)))) ∙ put i lent l long;
-    }
+-- ---- lists
 
 -- the rows of the type's system; `out` is a row that puts the same bytes
 module _ {A : Type 0} (row : System → Coding A) (out : Coding A) (Good : System → A → Type 0) (law : (s : System) → Faithful (row s) (Good s))
@@ -156,8 +131,8 @@ module _ {A : Type 0} (row : System → Coding A) (out : Coding A) (Good : Syste
       (λ f rest e s. let r = reads f e in
       subst (λ v. RowsBack out rows (andThen v counted) (λ i. andThen v (λ g. entry g i))) (sym s)
       (puts (counted f) (entry f)
-      (rows-back k (Good (systemOf kind)) (law (systemOf kind)) (eight (systemOf kind)) (room (systemOf kind)) make most width pattern counted entry rows b
-      head f (r .0) (r .1))))
+      (rows-back k (Good (systemOf kind)) (law (systemOf kind)) (eight (systemOf kind)) (room (systemOf kind)) most rows b (counted f) (entry f) (r .0)
+      (r .1 .counted) (r .1 .each))))
 
 issue-typed : (s : System) (v : ℕ) → v < 256 → IssueTyped (issueIn s v)
 unfolding issueOf
@@ -248,6 +223,9 @@ module _ (kind station z sequence code : ℕ) where
         ));
     make-observations = λ e f s t rows b.
         observations-back kind station z sequence code e (record { frequency = f; smoothing = s; time = t }) rows b;
+    make-generals = λ system signal ephemeris period ionosphere rows b.
+        generals-back kind station z sequence code (headOf system signal ephemeris period ionosphere) rows b;
+    make-general-null = λ n system. general-null-back kind station z sequence code n system;
     make-position = λ x y up typed.
         let p : Position = record { x = x; y = y; z = up } in
         gives-back kind station z sequence code (λ h. saysMade (position.makePosition h p)) _ (position-framed H p)

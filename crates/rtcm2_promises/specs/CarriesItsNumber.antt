@@ -18,6 +18,7 @@ use Rattle.rtcm2_state.specs.State.{stateIn, putChecks, storedBy, saysStored}
 use Rattle.rtcm2_rows.specs.Rows.{putOrder, putBy, saysPut}
 use Rattle.rtcm2_rows.specs.Corrections as correction
 use Rattle.rtcm2_rows.specs.Observations as observation
+use Rattle.rtcm2_rows.specs.Generals as general
 use Rattle.rtcm2_rows.specs.Healths as health
 use Rattle.rtcm2.specs.Header.{headed}
 use Rattle.rtcm2.specs.Frames.{frameSaid, keptTo, keepSaid, recallSaid}
@@ -27,17 +28,21 @@ use Rattle.rtcm2.specs.Words.{wordsKept, liveSaid, backSaid}
 use Rattle.rtcm2.specs.Rows.{rowTo}
 use Rattle.rtcm2.specs.Corrections as corrections
 use Rattle.rtcm2.specs.Observations as observations
+use Rattle.rtcm2.specs.Generals as generals
 use Rattle.rtcm2.specs.Healths as healths
 use Rattle.rtcm2.specs.Positions as positions
 use Rattle.rtcm2.specs.Beacon.{profileSaid, cutSaid, keptAll}
 use Rattle.rtcm2.specs.Nulls as nulls
 use Rattle.rtcm2.specs.Texts as texts
 use Rattle.record_values.specs.Values.{noLetter}
+use Rattle.record_values.specs.GeneralValues.{outside14}
 use Rattle.rtcm2.specs.Values.{prcSaid, rrcSaid, stopsSaid, limitSaid, strengthSaid, letterSaid}
+use Rattle.rtcm2.specs.Values.{generalPrcSaid, delaySaid, generalLimitSaid, secondsSaid}
 use Rattle.rtcm2.specs.Window.{remainderSaid}
 use Rattle.mender.specs.Steps.{mendOrder}
 use Rattle.rtcm2.specs.Mending.{mendSaid}
 use Rattle.rtcm2.specs.Orders as in-order
+use Rattle.rtcm2.specs.GeneralOrders as general-order
 use Rattle.promises.specs.CarriesItsNumber.{Ordered}
 
 -- a call that is given a frame: 14, 15, 16, 15, 16, the last for two reasons, then these
@@ -108,6 +113,23 @@ pub record LibraryNumbers : Type 0 where
   pub make-position : (kind station z sequence code : ℕ) (x y up : ℤ) (buffer : List ℕ)
       → Ordered (afterHeader (10 ∷ 13 ∷ [])) (in-order.positionMadeOrder kind station z sequence code (record { x = x; y = y; z = up }) buffer)
       (keptTo (positions.makeSaid kind station z sequence code x y up) buffer)
+  -- general corrections: 23 between the two 8 of a list that is read
+  pub count-generals : (bs : List ℕ) → AreBytes bs
+      → Ordered (afterRecord (6 ∷ 7 ∷ 8 ∷ 23 ∷ 8 ∷ [])) (general-order.generalsOrder bs) (generals.countSaid (frameSaid bs))
+  pub read-head : (bs : List ℕ) → AreBytes bs
+      → Ordered (afterRecord (6 ∷ 7 ∷ 8 ∷ 23 ∷ 8 ∷ [])) (general-order.generalsOrder bs) (generals.headSaid (frameSaid bs))
+  pub general-at : (bs : List ℕ) → AreBytes bs → (i : ℕ) (lent : List ℕ)
+      → Ordered (afterRecord (6 ∷ 7 ∷ 8 ∷ 23 ∷ 8 ∷ 9 ∷ 10 ∷ 13 ∷ [])) (general-order.generalOrder bs i lent)
+      (rowTo general.row (generals.entrySaid (frameSaid bs) i) lent)
+  pub make-generals : (kind station z sequence code system signal ephemeris period ionosphere : ℕ) (bs buffer : List ℕ)
+      → let a = generals.headOf system signal ephemeris period ionosphere in
+      Ordered (afterHeader (23 ∷ 12 ∷ 10 ∷ 13 ∷ [])) (general-order.generalsMadeOrder kind station z sequence code a bs buffer)
+      (keptTo (generals.madeSaid (headed kind station z sequence code) a bs) buffer)
+  pub read-general-null : (bs : List ℕ) → AreBytes bs
+      → Ordered (afterRecord (6 ∷ 7 ∷ 8 ∷ 23 ∷ [])) (general-order.generalNullOrder bs) (generals.generalNullSaid (frameSaid bs))
+  pub make-general-null : (kind station z sequence code n system : ℕ) (buffer : List ℕ)
+      → Ordered (afterHeader (23 ∷ 12 ∷ 13 ∷ [])) (general-order.generalNullMadeOrder kind station z sequence code n system buffer)
+      (keptTo (generals.generalNullMade (headed kind station z sequence code) n system) buffer)
   -- the small-beacon profile
   pub check-profile : (bs : List ℕ) → AreBytes bs
       → Ordered (afterRecord (7 ∷ 20 ∷ 8 ∷ 10 ∷ 11 ∷ 21 ∷ 22 ∷ [])) (in-order.profileReadOrder bs) (profileSaid (frameSaid bs))
@@ -132,6 +154,10 @@ pub record LibraryNumbers : Type 0 where
   pub udre-limit-mm : (code udre : ℕ) → Ordered (5 ∷ 10 ∷ []) (in-order.limitOrder code udre) (limitSaid code udre)
   pub cn0-dbhz : (code : ℕ) → Ordered (10 ∷ []) ((ltb 31 code, 10) ∷ []) (strengthSaid code)
   pub letter-of : (code : ℕ) → Ordered (11 ∷ []) ((noLetter code, 11) ∷ []) (letterSaid code)
+  pub general-prc-mm : (prc : ℤ) → Ordered (10 ∷ []) ((outside14 prc, 10) ∷ []) (generalPrcSaid prc)
+  pub delay-mm : (delay : ℕ) → Ordered (10 ∷ []) ((ltb 4095 delay, 10) ∷ []) (delaySaid delay)
+  pub general-udre : (code udre : ℕ) → Ordered (5 ∷ 10 ∷ []) (general-order.generalLimitOrder code udre) (generalLimitSaid code udre)
+  pub use-seconds : (code : ℕ) → Ordered (10 ∷ []) ((ltb 3 code, 10) ∷ []) (secondsSaid code)
   -- the word test of a window
   pub remainder : (window : ℕ) → Ordered [] [] (remainderSaid window)
   -- a step of the mender: 13
@@ -140,5 +166,6 @@ pub record LibraryNumbers : Type 0 where
   pub put-start : (c : Candidate) (bytes : List ℕ) → Ordered (5 ∷ 13 ∷ []) (putChecks c bytes) (saysStored (storedBy c bytes))
   pub put-state : (r : Reader) (bytes : List ℕ) → Ordered (5 ∷ 13 ∷ []) (putChecks (r .candidate) bytes) (saysStored (storedBy (r .candidate) bytes))
   pub put-observation : (lent : List ℕ) → Ordered (13 ∷ []) (putOrder observation.row lent) (saysPut (putBy observation.row lent))
+  pub put-general : (lent : List ℕ) → Ordered (13 ∷ []) (putOrder general.row lent) (saysPut (putBy general.row lent))
   pub put-correction : (lent : List ℕ) → Ordered (13 ∷ []) (putOrder (correction.row Gps) lent) (saysPut (putBy (correction.row Gps) lent))
   pub put-health : (lent : List ℕ) → Ordered (13 ∷ []) (putOrder (health.row Gps) lent) (saysPut (putBy (health.row Gps) lent))

@@ -11,6 +11,7 @@ use Rattle.reader.specs.declared.Candidate.{Candidate}
 use Rattle.reader.specs.declared.Reader.{Reader}
 use Rattle.record_corrections.specs.declared.Correction.{Correction}
 use Rattle.record_observations.specs.declared.Observation.{Observation}
+use Rattle.record_generals.specs.declared.General.{General}
 use Rattle.record_healths.specs.declared.SatelliteHealth.{SatelliteHealth}
 use Rattle.journal.specs.Journal.{heldBy}
 use Rattle.writer.specs.Answer.{openedTo}
@@ -18,6 +19,7 @@ use Rattle.rtcm2_state.specs.State.{storedBy, startPut, statePut, saysStored}
 use Rattle.rtcm2_rows.specs.Rows.{putBy, rowAfter, saysPut}
 use Rattle.rtcm2_rows.specs.Corrections as entry-corrections
 use Rattle.rtcm2_rows.specs.Observations as entry-observations
+use Rattle.rtcm2_rows.specs.Generals as entry-generals
 use Rattle.rtcm2_rows.specs.Healths as entry-healths
 use Rattle.rtcm2.specs.Answer.{left}
 use Rattle.rtcm2.specs.Line.{startedIn, countsIn, fedIn, fedAllIn, endedIn, takenIn}
@@ -30,13 +32,14 @@ use Rattle.rtcm2.specs.Rows.{rowTo, rowHeld}
 use Rattle.rtcm2.specs.Header.{headed}
 use Rattle.rtcm2.specs.Corrections as corrections
 use Rattle.rtcm2.specs.Observations as observations
+use Rattle.rtcm2.specs.Generals as generals
 use Rattle.rtcm2.specs.Healths as healths
 use Rattle.rtcm2.specs.Positions as positions
 use Rattle.rtcm2.specs.Beacon.{cutSaid, keptAll, heldAll, sizeAll}
 use Rattle.rtcm2.specs.Nulls as nulls
 use Rattle.rtcm2.specs.Texts as texts
 use Rattle.rtcm2.specs.Values.{prcSaid, stopFlag, exactOr0, rrcSaid, stopsSaid, limitSaid, limitFlag, limitOr0, strengthSaid, trackedFlag, dbHzOr0}
-use Rattle.rtcm2.specs.Values.{letterSaid}
+use Rattle.rtcm2.specs.Values.{letterSaid, generalPrcSaid, delaySaid, usableFlag, delayOr0, generalLimitSaid, secondsSaid}
 use Rattle.rtcm2.specs.Window.{remainderSaid}
 use Rattle.bits.specs.Bits.{isNonzero}
 use Rattle.mender.specs.Run.{onOf}
@@ -101,6 +104,22 @@ pub record LibraryKeeps : Type 0 where
   pub make-observations : (e kind station z sequence code frequency smoothing time : ℕ) (rows frame : List ℕ) (size : ℕ)
       → let s = observations.madeSaid e (headed kind station z sequence code) frequency smoothing time rows in
       Keeps (keptTo s frame) (heldTo s frame) frame × Keeps (keptTo s frame) (sizeTo s frame size) size
+  -- general corrections
+  pub count-generals : (frame : List ℕ) (count : ℕ) → let s = generals.countSaid (frameSaid frame) in Keeps s (left s (λ k. k) count) count
+  pub read-head : (frame : List ℕ) (system signal ephemeris period ionosphere : ℕ) → let s = generals.headSaid (frameSaid frame) in
+      Keeps s (left s generals.systemSaid system) system × Keeps s (left s generals.signalSaid signal) signal
+      × Keeps s (left s generals.ephemerisSaid ephemeris) ephemeris × Keeps s (left s generals.periodSaid period) period
+      × Keeps s (left s generals.ionosphereSaid ionosphere) ionosphere
+  pub general-at : (frame : List ℕ) (i : ℕ) (lent : List ℕ) → let s = generals.entrySaid (frameSaid frame) i in
+      Keeps (rowTo entry-generals.row s lent) (rowHeld entry-generals.row s lent) lent
+  pub make-generals : (kind station z sequence code system signal ephemeris period ionosphere : ℕ) (rows frame : List ℕ) (size : ℕ)
+      → let s = generals.madeSaid (headed kind station z sequence code) (generals.headOf system signal ephemeris period ionosphere) rows in
+      Keeps (keptTo s frame) (heldTo s frame) frame × Keeps (keptTo s frame) (sizeTo s frame size) size
+  pub read-general-null : (frame : List ℕ) (n system : ℕ) → let s = generals.generalNullSaid (frameSaid frame) in
+      Keeps s (left s generals.wordsLeft n) n × Keeps s (left s generals.systemLeft system) system
+  pub make-general-null : (kind station z sequence code n system : ℕ) (frame : List ℕ) (size : ℕ)
+      → let s = generals.generalNullMade (headed kind station z sequence code) n system in
+      Keeps (keptTo s frame) (heldTo s frame) frame × Keeps (keptTo s frame) (sizeTo s frame size) size
   -- the station's position
   pub read-position : (frame : List ℕ) (x y up : ℤ) → let s = positions.positionSaid (frameSaid frame) in
       Keeps s (left s positions.xSaid x) x × Keeps s (left s positions.ySaid y) y × Keeps s (left s positions.zSaid up) up
@@ -131,6 +150,12 @@ pub record LibraryKeeps : Type 0 where
   pub cn0-dbhz : (code tracked dbhz : ℕ) → let s = strengthSaid code in
       Keeps s (left s trackedFlag tracked) tracked × Keeps s (left s dbHzOr0 dbhz) dbhz
   pub letter-of : (code letter : ℕ) → Keeps (letterSaid code) (left (letterSaid code) (λ k. k) letter) letter
+  pub general-prc-mm : (prc : ℤ) (stop : ℕ) (mm : ℤ) → let s = generalPrcSaid prc in
+      Keeps s (left s stopFlag stop) stop × Keeps s (left s exactOr0 mm) mm
+  pub delay-mm : (delay usable mm : ℕ) → let s = delaySaid delay in Keeps s (left s usableFlag usable) usable × Keeps s (left s delayOr0 mm) mm
+  pub general-udre : (code udre limited hundredths : ℕ) → let s = generalLimitSaid code udre in
+      Keeps s (left s limitFlag limited) limited × Keeps s (left s limitOr0 hundredths) hundredths
+  pub use-seconds : (code seconds : ℕ) → Keeps (secondsSaid code) (left (secondsSaid code) (λ k. k) seconds) seconds
   -- the word test of a window
   pub mend-bytes : (bs : List ℕ) (at searching : ℕ) (report : List ℕ)
       → Keeps (mendSaid bs at searching report) (bytesTo bs (isNonzero searching) report) bs
@@ -144,6 +169,7 @@ pub record LibraryKeeps : Type 0 where
       → Keeps (mendSaid bs at searching report) (left (mendSaid bs at searching report) (λ v. v .1) written) written
   pub remainder : (window remainder : ℕ) → Keeps (remainderSaid window) (left (remainderSaid window) (λ k. k) remainder) remainder
   -- an entry as a row of bytes
+  pub put-general : (entry : General) (lent : List ℕ) → Keeps (saysPut (putBy entry-generals.row lent)) (rowAfter entry-generals.row entry lent) lent
   pub put-observation : (entry : Observation) (lent : List ℕ)
       → Keeps (saysPut (putBy entry-observations.row lent)) (rowAfter entry-observations.row entry lent) lent
   pub put-correction : (entry : Correction) (lent : List ℕ)

@@ -14,6 +14,7 @@ use Rattle.record_positions.specs.Positions as position
 use Rattle.rtcm2_rows.specs.Rows.{rowSize, countOf}
 use Rattle.rtcm2_rows.specs.Corrections as entry-corrections
 use Rattle.rtcm2_rows.specs.Observations as entry-observations
+use Rattle.rtcm2_rows.specs.Generals as entry-generals
 use Rattle.rtcm2_rows.specs.Healths as entry-healths
 use Rattle.rtcm2.specs.Answer.{andThen}
 use Rattle.rtcm2.specs.Header.{headed}
@@ -22,6 +23,7 @@ use Rattle.rtcm2.specs.Rows.{rowTo, rowHeld}
 use Rattle.rtcm2.specs.Corrections as corrections
 use Rattle.rtcm2.specs.Healths as healths
 use Rattle.rtcm2.specs.Observations as observations
+use Rattle.rtcm2.specs.Generals as generals
 use Rattle.rtcm2.specs.Positions as positions
 use Rattle.rtcm2.specs.Nulls as nulls
 use Rattle.rtcm2.specs.Texts as texts
@@ -62,6 +64,15 @@ module _ (kind station z sequence code : ℕ) where
         → GivesBack (observations.madeSaid e (headed kind station z sequence code) frequency smoothing time rows)
         (λ bytes. (observations.epochSaid (frameSaid bytes) ≡ answers (record { frequency = frequency; smoothing = smoothing; time = time }))
         × RowsBack entry-observations.row rows (observations.countSaid (frameSaid bytes)) (observations.entrySaid e (frameSaid bytes)))
+    -- the head, and the rows
+    pub make-generals : (system signal ephemeris period ionosphere : ℕ) (rows : List ℕ) → AreBytes rows
+        → let a = generals.headOf system signal ephemeris period ionosphere in
+        GivesBack (generals.madeSaid (headed kind station z sequence code) a rows)
+        (λ bytes. (generals.headSaid (frameSaid bytes) ≡ answers a)
+        × RowsBack entry-generals.row rows (generals.countSaid (frameSaid bytes)) (generals.entrySaid (frameSaid bytes)))
+    -- N and the system
+    pub make-general-null : (n system : ℕ) → GivesBack (generals.generalNullMade (headed kind station z sequence code) n system)
+        (λ bytes. generals.generalNullSaid (frameSaid bytes) ≡ answers (n, system))
     pub make-position : (x y up : ℤ) → position.Typed (record { x = x; y = y; z = up }) → GivesBack (positions.makeSaid kind station z sequence code x y up)
         (λ bytes. positions.positionSaid (frameSaid bytes) ≡ answers (record { x = x; y = y; z = up }))
     pub make-null : (n : ℕ) → GivesBack (nulls.makeSaid kind station z sequence code n) (λ bytes. nulls.nullSaid (frameSaid bytes) ≡ answers n)

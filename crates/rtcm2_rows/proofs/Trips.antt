@@ -17,12 +17,15 @@ use Rattle.record_fields.proofs.Faithful.{Faithful}
 use Rattle.frame.specs.declared.System.{System}
 use Rattle.record_corrections.specs.declared.Correction.{Correction}
 use Rattle.record_healths.specs.declared.SatelliteHealth.{SatelliteHealth}
+use Rattle.record_generals.specs.declared.General.{General}
 use Rattle.rtcm2_rows.specs.Rows.{countOf, rowSize, entryOf, entriesFrom, rowBytes, rowAfter}
 use Rattle.rtcm2_rows.specs.Corrections as correction
 use Rattle.rtcm2_rows.specs.Healths as health
+use Rattle.rtcm2_rows.specs.Generals as general
 use Rattle.rtcm2_rows.proofs.RowLaws.{more, count-whole}
 use Rattle.rtcm2_rows.proofs.CorrectionRows as corrections
 use Rattle.rtcm2_rows.proofs.HealthRows as healths
+use Rattle.rtcm2_rows.proofs.GeneralRows as generals
 
 -- a byte, or 0 past the last
 pub byte-small : (bs : List ℕ) (j : ℕ) → AreBytes bs → getD bs j 0 < 256
@@ -141,3 +144,23 @@ healths-put-read s = rows-put-read (health.row s) (health.Typed s) (healths.fait
 pub healths-read-put : (s : System) (n : ℕ) (bs : List ℕ) → AreBytes bs → n * rowSize (health.row s) ≤ length bs
     → rowBytes (health.row s) (entriesFrom (health.row s) n bs) ≡ take (n * rowSize (health.row s)) bs
 healths-read-put s = rows-read-put (health.row s) (health.Typed s) (healths.faithful s) refl
+
+-- ---- general corrections
+
+pub general-put-read : (e : General) (bs : List ℕ) → general.Typed e → rowSize general.row ≤ length bs
+    → entryOf general.row (rowAfter general.row e bs) ≡ e
+general-put-read = row-put-read general.row general.Typed generals.faithful
+
+pub general-read-put : (bs : List ℕ) → AreBytes bs → rowAfter general.row (entryOf general.row bs) bs ≡ bs
+general-read-put = row-read-put general.row general.Typed generals.faithful refl
+
+pub generals-counted : (es : List General) → Each general.Typed es → countOf (rowSize general.row) (length (rowBytes general.row es)) ≡ length es
+generals-counted es = rows-counted general.row general.Typed generals.faithful es (omega arith)
+
+pub generals-put-read : (es : List General) (rest : List ℕ) → Each general.Typed es
+    → entriesFrom general.row (length es) (rowBytes general.row es ++ rest) ≡ es
+generals-put-read = rows-put-read general.row general.Typed generals.faithful
+
+pub generals-read-put : (n : ℕ) (bs : List ℕ) → AreBytes bs → n * rowSize general.row ≤ length bs
+    → rowBytes general.row (entriesFrom general.row n bs) ≡ take (n * rowSize general.row) bs
+generals-read-put = rows-read-put general.row general.Typed generals.faithful refl

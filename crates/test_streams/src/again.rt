@@ -1,4 +1,5 @@
 // A frame's record: its fields are summed in the order sent, and made into a frame again.
+use crate::generals::generals_again;
 use crate::observed::observed;
 use crate::sum::Sum;
 use crate::sum::with_byte;
@@ -223,6 +224,7 @@ pub(crate) fn made_again(frame: Frame, sum: Sum) -> Again {
         Layout::Null => null(frame, sum),
         Layout::Text => text(frame, sum),
         Layout::Observation => observed(frame, sum),
+        Layout::General => generals_again(frame, sum),
         Layout::Plain => refused(sum, 6),
     }
 }

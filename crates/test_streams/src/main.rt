@@ -6,6 +6,7 @@ ghost use Rattle.io.specs.Counts.{Counts};
 
 mod again;
 mod ends;
+mod generals;
 mod observed;
 mod sum;
 mod tally;

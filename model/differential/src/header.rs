@@ -210,6 +210,58 @@ unsafe extern "C" {
         frame_size: usize,
         length: *mut usize,
     ) -> u8;
+    pub fn rtcm2_count_generals(frame: *const u8, frame_size: usize, count: *mut usize) -> u8;
+    pub fn rtcm2_read_head(
+        frame: *const u8,
+        frame_size: usize,
+        system: *mut u8,
+        signal: *mut u8,
+        ephemeris: *mut u8,
+        period: *mut u8,
+        ionosphere: *mut u8,
+    ) -> u8;
+    pub fn rtcm2_general_at(
+        frame: *const u8,
+        frame_size: usize,
+        index: usize,
+        general: *mut u8,
+        general_size: usize,
+    ) -> u8;
+    pub fn rtcm2_make_generals(
+        kind: u8,
+        station: u16,
+        z: u16,
+        sequence: u8,
+        health: u8,
+        system: u8,
+        signal: u8,
+        ephemeris: u8,
+        period: u8,
+        ionosphere: u8,
+        generals: *const u8,
+        generals_size: usize,
+        frame: *mut u8,
+        frame_size: usize,
+        length: *mut usize,
+    ) -> u8;
+    pub fn rtcm2_read_general_null(
+        frame: *const u8,
+        frame_size: usize,
+        n: *mut u8,
+        system: *mut u8,
+    ) -> u8;
+    pub fn rtcm2_make_general_null(
+        kind: u8,
+        station: u16,
+        z: u16,
+        sequence: u8,
+        health: u8,
+        n: u8,
+        system: u8,
+        frame: *mut u8,
+        frame_size: usize,
+        length: *mut usize,
+    ) -> u8;
     pub fn rtcm2_check_profile(frame: *const u8, frame_size: usize) -> u8;
     pub fn rtcm2_cut_corrections(
         kind: u8,
@@ -228,6 +280,10 @@ unsafe extern "C" {
     pub fn rtcm2_stops(prc: i16, rrc: i8, stop: *mut u8) -> u8;
     pub fn rtcm2_udre_limit_mm(health: u8, udre: u8, limited: *mut u8, mm: *mut u32) -> u8;
     pub fn rtcm2_cn0_dbhz(code: u8, tracked: *mut u8, dbhz: *mut u8) -> u8;
+    pub fn rtcm2_general_prc_mm(prc: i16, stop: *mut u8, mm: *mut i32) -> u8;
+    pub fn rtcm2_delay_mm(delay: u16, usable: *mut u8, mm: *mut u32) -> u8;
+    pub fn rtcm2_general_udre(health: u8, udre: u8, limited: *mut u8, hundredths: *mut u32) -> u8;
+    pub fn rtcm2_use_seconds(code: u8, seconds: *mut u8) -> u8;
     pub fn rtcm2_letter_of(code: u8, letter: *mut u32) -> u8;
     pub fn rtcm2_remainder(window: u32, remainder: *mut u8) -> u8;
 }

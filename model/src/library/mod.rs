@@ -3,6 +3,7 @@
 //! changes nothing.
 
 pub mod frames;
+pub mod generals;
 mod hunt;
 pub mod journals;
 pub mod line;

@@ -31,15 +31,45 @@ fn stop_or(value: Value) -> (u8, i32) {
 
 /// The upper limit of a UDRE code in mm. Refuses with 5, 10.
 pub fn udre_limit_mm(health: u8, udre: u8, limited: &mut u8, mm: &mut u32) -> u8 {
-    numbered(udre_limit(health, udre).map(|limit| {
+    let limit = state_of(health).and_then(|state| values::udre_limit_mm(state, udre));
+    numbered(limit.map(|limit| {
         *limited = u8::from(limit.is_some());
         *mm = limit.unwrap_or(0);
     }))
 }
 
-fn udre_limit(health: u8, udre: u8) -> Answer<Option<u32>> {
+/// PRC of types 41 and 42 in mm. Refuses with 10.
+pub fn general_prc_mm(prc: i16, stop: &mut u8, mm: &mut i32) -> u8 {
+    numbered(values::general_prc_mm(prc).map(|value| (*stop, *mm) = stop_or(value)))
+}
+
+/// The delay of types 41 and 42 in mm. Refuses with 10.
+pub fn delay_mm(delay: u16, usable: &mut u8, mm: &mut u32) -> u8 {
+    numbered(values::delay_mm(delay).map(|number| {
+        *usable = u8::from(number.is_some());
+        *mm = number.unwrap_or(0);
+    }))
+}
+
+/// The upper limit of a UDRE code of types 41 and 42 in hundredths of a mm. Refuses
+/// with 5, 10.
+pub fn general_udre(health: u8, udre: u8, limited: &mut u8, hundredths: &mut u32) -> u8 {
+    let limit = state_of(health).and_then(|state| values::general_udre(state, udre));
+    numbered(limit.map(|limit| {
+        *limited = u8::from(limit.is_some());
+        *hundredths = limit.unwrap_or(0);
+    }))
+}
+
+/// For how many seconds corrections of types 41 and 42 may be used. Refuses with 10.
+pub fn use_seconds(code: u8, seconds: &mut u8) -> u8 {
+    numbered(values::use_seconds(code).map(|number| *seconds = number))
+}
+
+/// The state of a health code. Refuses with 5.
+fn state_of(health: u8) -> Answer<State> {
     refuse_if(health > 7, Refusal::OutsideWidths)?;
-    values::udre_limit_mm(State::of_code(u32::from(health)), udre)
+    Ok(State::of_code(u32::from(health)))
 }
 
 /// C/N0 in dBHz. Refuses with 10.

@@ -3,6 +3,8 @@
 
 pub mod correction;
 pub mod fields;
+pub mod general;
+pub mod general_null;
 pub mod health;
 pub mod null;
 pub mod observation;
@@ -28,11 +30,15 @@ pub enum Layout {
     Text,
     /// Types 18 and 19.
     Observation,
+    /// Type 41, and type 42 with N other than 1.
+    General,
+    /// Type 42 with N 1.
+    GeneralNull,
     /// Every other type number.
     Plain,
 }
 
-/// The layout that follows from a type number; of type 34, from N too.
+/// The layout that follows from a type number; of types 34 and 42, from N too.
 pub fn layout(type_number: u16, n: u8) -> Layout {
     match type_number {
         1 | 9 | 31 => Layout::Correction,
@@ -43,6 +49,8 @@ pub fn layout(type_number: u16, n: u8) -> Layout {
         18 | 19 => Layout::Observation,
         34 if n <= 1 => Layout::Null,
         34 => Layout::Correction,
+        42 if n == 1 => Layout::GeneralNull,
+        41 | 42 => Layout::General,
         _ => Layout::Plain,
     }
 }

@@ -58,6 +58,45 @@ pub fn udre_limit_mm(state: State, udre: u8) -> Answer<Option<u32>> {
     }
 }
 
+/// PRC of types 41 and 42 in mm, steps of 20. Refuses with 10.
+pub fn general_prc_mm(prc: i16) -> Answer<Value> {
+    match prc {
+        -8192 => Ok(Value::Stop),
+        -8191..=8191 => Ok(Value::Is(20 * i32::from(prc))),
+        _ => Err(Refusal::OutsideRange),
+    }
+}
+
+/// The delay of types 41 and 42 in mm, steps of 20; none where it must not be used.
+/// Refuses with 10.
+pub fn delay_mm(delay: u16) -> Answer<Option<u32>> {
+    match delay {
+        0..=4094 => Ok(Some(20 * u32::from(delay))),
+        4095 => Ok(None),
+        _ => Err(Refusal::OutsideRange),
+    }
+}
+
+/// Upper limits in mm of the UDRE codes 0 to 14 of types 41 and 42, at factor 1.
+const GENERAL_LIMITS: [u32; 15] = [
+    40, 62, 96, 149, 231, 358, 555, 860, 1333, 2066, 3202, 4963, 7692, 11923, 18480,
+];
+
+/// The upper limit of a UDRE code of types 41 and 42 in hundredths of a mm, none for
+/// code 15. Refuses with 5, 10.
+pub fn general_udre(state: State, udre: u8) -> Answer<Option<u32>> {
+    refuse_if(state.code().is_none(), Refusal::OutsideWidths)?;
+    refuse_if(udre > 15, Refusal::OutsideRange)?;
+    let limit = GENERAL_LIMITS.get(usize::from(udre));
+    Ok(limit.map(|mm| mm * u32::from(state.factor())))
+}
+
+/// For how many seconds corrections of types 41 and 42 may be used. Refuses with 10.
+pub fn use_seconds(code: u8) -> Answer<u8> {
+    let seconds = [15, 30, 60, 120].get(usize::from(code));
+    seconds.copied().ok_or(Refusal::OutsideRange)
+}
+
 /// C/N0 in dBHz, none when not tracked. Refuses with 10.
 pub fn cn0_dbhz(code: u8) -> Answer<Option<u8>> {
     match code {

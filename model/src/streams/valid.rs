@@ -3,6 +3,7 @@
 use super::Entry;
 use crate::bits::Bits;
 use crate::frame::{Frame, State};
+use crate::record::general;
 use crate::rng::Rng;
 use crate::samples;
 
@@ -29,6 +30,11 @@ pub(super) const STREAMS: &[Entry] = &[
     ("texts-36", |rng| texts(rng, 36)),
     ("observations-18", |rng| observations(rng, 18)),
     ("observations-19", |rng| observations(rng, 19)),
+    ("generals-41", |rng| generals(rng, 41)),
+    ("generals-42", |rng| generals(rng, 42)),
+    ("generals-refused", generals_refused),
+    ("nulls-42", nulls_42),
+    ("systems-41", systems_41),
     ("other-system", other_system),
     ("plain-a", |rng| repeat(rng, 20, samples::other_frame)),
     ("plain-b", |rng| repeat(rng, 20, samples::other_frame)),
@@ -40,6 +46,10 @@ pub(super) const STREAMS: &[Entry] = &[
     ("every-n-6", |rng| every_n(rng, 6)),
     ("every-n-18", |rng| every_n(rng, 18)),
     ("every-n-34", |rng| every_n(rng, 34)),
+    ("every-n-41", |rng| every_n_general(rng, 41, 0)),
+    ("every-n-41-delays", |rng| every_n_general(rng, 41, 1)),
+    ("every-n-42", |rng| every_n_general(rng, 42, 0)),
+    ("every-n-42-delays", |rng| every_n_general(rng, 42, 1)),
     ("every-health", every_health),
     ("z-over-5999", z_over_5999),
 ];
@@ -111,6 +121,84 @@ fn observations(rng: &mut Rng, type_number: u16) -> Vec<u8> {
         frames.push(frame);
     }
     written(&frames)
+}
+
+/// General corrections of every count, without delays and with.
+fn generals(rng: &mut Rng, type_number: u16) -> Vec<u8> {
+    let mut frames = Vec::new();
+    for ionosphere in [0, 1] {
+        for count in 1..=general::most(ionosphere) {
+            frames.push(samples::general_frame(rng, type_number, ionosphere, count));
+        }
+    }
+    written(&frames)
+}
+
+/// Bits where general corrections of seven satellites have a satellite's number.
+const SATELLITES: [[usize; 7]; 2] = [
+    [13, 45, 77, 109, 141, 173, 205],
+    [13, 57, 101, 145, 189, 233, 277],
+];
+
+/// General corrections with satellite 0 in one entry, or with any last word, so that
+/// the fill is not the standard one and the last satellite differs.
+fn generals_refused(rng: &mut Rng) -> Vec<u8> {
+    let mut frames = Vec::new();
+    for (ionosphere, starts) in [0, 1].into_iter().zip(SATELLITES) {
+        for (i, start) in starts.into_iter().enumerate() {
+            let type_number = 41 + (i % 2) as u16;
+            let mut frame = samples::general_frame(rng, type_number, ionosphere, 7);
+            let mut other = frame;
+            other.words[usize::from(frame.n) - 1] = rng.word();
+            for bit in start..start + 6 {
+                frame.words[bit / 24] &= !(0x80_0000 >> (bit % 24));
+            }
+            frames.extend([frame, other]);
+        }
+    }
+    written(&frames)
+}
+
+/// Null frames of type 42: with fill, with any word.
+fn nulls_42(rng: &mut Rng) -> Vec<u8> {
+    let mut frames = Vec::new();
+    for i in 0..16 {
+        frames.push(samples::general_null_frame(rng));
+        frames.push(of_system(samples::plain_frame(rng, 42, 1), i));
+        frames.push(samples::plain_frame(rng, 42, 1));
+    }
+    written(&frames)
+}
+
+/// The same frame with this system in its first four bits.
+fn of_system(mut frame: Frame, system: u32) -> Frame {
+    frame.words[0] = frame.words[0] & 0x0F_FFFF | system << 20;
+    frame
+}
+
+/// Every system's number, under type 41 with N 1 to 3: 8, then 23, then 8 again.
+fn systems_41(rng: &mut Rng) -> Vec<u8> {
+    let mut frames = Vec::new();
+    for system in 0..16 {
+        for n in 1..=3 {
+            frames.push(of_system(samples::plain_frame(rng, 41, n), system));
+        }
+    }
+    written(&frames)
+}
+
+/// Any words of every N, but of a known system, without delays or with.
+fn every_n_general(rng: &mut Rng, type_number: u16, ionosphere: u32) -> Vec<u8> {
+    let make = |n: u8| {
+        let mut frame = samples::plain_frame(rng, type_number, n);
+        if n > 0 {
+            let system = general::SYSTEMS[usize::from(n) % general::SYSTEMS.len()];
+            frame = of_system(frame, system.into());
+            frame.words[0] = frame.words[0] & !(1 << 11) | ionosphere << 11;
+        }
+        frame
+    };
+    written(&(0..=31).map(make).collect::<Vec<Frame>>())
 }
 
 /// Records of one system with the type number of the other: a tb from 120 on or a

@@ -34,6 +34,14 @@ returns-6 : tie.Need-returns-6
 unfolding layoutOf
 returns-6 c = ⊎-elim (λ e. sym (ap layoutOf e)) (λ e. sym (ap layoutOf e)) (c .match .keys6)
 
+returns-7 : tie.Need-returns-7
+unfolding layoutOf
+returns-7 c = sym (ap layoutOf (c .match .keys7))
+
+returns-8 : tie.Need-returns-8
+unfolding layoutOf
+returns-8 c = sym (ap layoutOf (c .match .keys8))
+
 -- 18 and 19 are told by their range
 pair : (k : ℕ) → 18 ≤ k → k < 20 → (k ≡ 18) ⊎ (k ≡ 19)
 pair k l h = go (eqb k 18) refl
@@ -45,52 +53,56 @@ pair k l h = go (eqb k 18) refl
         rest : (k ≡ 18 → ⊥) → k ≡ 19
         rest n = omega (arith, n)
 
-returns-7 : tie.Need-returns-7
+returns-9 : tie.Need-returns-9
 unfolding layoutOf
-returns-7 c = ⊎-elim (λ e. sym (ap layoutOf e)) (λ e. sym (ap layoutOf e)) (pair (c .before .before .before .args .kind) (c .before .if1 .left) (c .if2 .taken))
+returns-9 c = ⊎-elim (λ e. sym (ap layoutOf e)) (λ e. sym (ap layoutOf e)) (pair (c .before .before .before .args .kind) (c .before .if1 .left) (c .if2 .taken))
 
-returns-8 : tie.Need-returns-8
+returns-10 : tie.Need-returns-10
 unfolding layoutOf
-returns-8 c =
+returns-10 c =
     let r = c .before .match .rest in
     let k = c .before .before .args .kind in
     let n18 : k ≡ 18 → ⊥ = λ e. omega (arith, c .if1 .taken) in
     let n19 : k ≡ 19 → ⊥ = λ e. omega (arith, c .if1 .taken) in
     simp (
+      ne-eqb _ _ (λ e. r .0 .0 .0 .0 .0 .0 .0 .1 (inl e)),
+      ne-eqb _ _ (λ e. r .0 .0 .0 .0 .0 .0 .0 .1 (inr (inl e))),
+      ne-eqb _ _ (λ e. r .0 .0 .0 .0 .0 .0 .0 .1 (inr (inr e))),
+      ne-eqb _ _ (r .0 .0 .0 .0 .0 .0 .1),
       ne-eqb _ _ (λ e. r .0 .0 .0 .0 .0 .1 (inl e)),
-      ne-eqb _ _ (λ e. r .0 .0 .0 .0 .0 .1 (inr (inl e))),
-      ne-eqb _ _ (λ e. r .0 .0 .0 .0 .0 .1 (inr (inr e))),
-      ne-eqb _ _ (r .0 .0 .0 .0 .1),
-      ne-eqb _ _ (λ e. r .0 .0 .0 .1 (inl e)),
-      ne-eqb _ _ (λ e. r .0 .0 .0 .1 (inr e)),
+      ne-eqb _ _ (λ e. r .0 .0 .0 .0 .0 .1 (inr e)),
+      ne-eqb _ _ (λ e. r .0 .0 .0 .0 .1 (inl e)),
+      ne-eqb _ _ (λ e. r .0 .0 .0 .0 .1 (inr e)),
+      ne-eqb _ _ (r .0 .0 .0 .1),
       ne-eqb _ _ (λ e. r .0 .0 .1 (inl e)),
       ne-eqb _ _ (λ e. r .0 .0 .1 (inr e)),
       ne-eqb _ _ (r .0 .1),
-      ne-eqb _ _ (λ e. r .1 (inl e)),
-      ne-eqb _ _ (λ e. r .1 (inr e)),
+      ne-eqb _ _ (r .1),
       ne-eqb _ _ n18,
       ne-eqb _ _ n19,
     )
 
-returns-9 : tie.Need-returns-9
+returns-11 : tie.Need-returns-11
 unfolding layoutOf
-returns-9 c =
+returns-11 c =
     let r = c .before .before .match .rest in
     let k = c .before .before .before .args .kind in
     let n18 : k ≡ 18 → ⊥ = λ e. omega (arith, c .if2 .left) in
     let n19 : k ≡ 19 → ⊥ = λ e. omega (arith, c .if2 .left) in
     simp (
+      ne-eqb _ _ (λ e. r .0 .0 .0 .0 .0 .0 .0 .1 (inl e)),
+      ne-eqb _ _ (λ e. r .0 .0 .0 .0 .0 .0 .0 .1 (inr (inl e))),
+      ne-eqb _ _ (λ e. r .0 .0 .0 .0 .0 .0 .0 .1 (inr (inr e))),
+      ne-eqb _ _ (r .0 .0 .0 .0 .0 .0 .1),
       ne-eqb _ _ (λ e. r .0 .0 .0 .0 .0 .1 (inl e)),
-      ne-eqb _ _ (λ e. r .0 .0 .0 .0 .0 .1 (inr (inl e))),
-      ne-eqb _ _ (λ e. r .0 .0 .0 .0 .0 .1 (inr (inr e))),
-      ne-eqb _ _ (r .0 .0 .0 .0 .1),
-      ne-eqb _ _ (λ e. r .0 .0 .0 .1 (inl e)),
-      ne-eqb _ _ (λ e. r .0 .0 .0 .1 (inr e)),
+      ne-eqb _ _ (λ e. r .0 .0 .0 .0 .0 .1 (inr e)),
+      ne-eqb _ _ (λ e. r .0 .0 .0 .0 .1 (inl e)),
+      ne-eqb _ _ (λ e. r .0 .0 .0 .0 .1 (inr e)),
+      ne-eqb _ _ (r .0 .0 .0 .1),
       ne-eqb _ _ (λ e. r .0 .0 .1 (inl e)),
       ne-eqb _ _ (λ e. r .0 .0 .1 (inr e)),
       ne-eqb _ _ (r .0 .1),
-      ne-eqb _ _ (λ e. r .1 (inl e)),
-      ne-eqb _ _ (λ e. r .1 (inr e)),
+      ne-eqb _ _ (r .1),
       ne-eqb _ _ n18,
       ne-eqb _ _ n19,
     )
@@ -98,4 +110,4 @@ returns-9 c =
 pub layout-of-spec : {M : Type 1} → statement M
 layout-of-spec =
     tie.close
-    (tie.spec returns returns-2 returns-3 returns-4 returns-5 returns-6 returns-7 returns-8 returns-9)
+    (tie.spec returns returns-2 returns-3 returns-4 returns-5 returns-6 returns-7 returns-8 returns-9 returns-10 returns-11)

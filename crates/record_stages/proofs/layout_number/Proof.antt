@@ -37,9 +37,13 @@ returns-8 : tie.Need-returns-8
 unfolding layoutNumber
 returns-8 c = sym (ap layoutNumber (c .enum-told8 .given .1))
 
+returns-9 : tie.Need-returns-9
+unfolding layoutNumber
+returns-9 c = sym (ap layoutNumber (c .enum-told9 .given .1))
+
 pub layout-number-spec : {M : Type 1} → statement M
 layout-number-spec =
     tie.close
-    (tie.spec (λ c. search needs) (λ c. search needs) (λ c. search needs) (λ c. search needs)
+    (tie.spec (λ c. search needs) (λ c. search needs) (λ c. search needs) (λ c. search needs) (λ c. search needs)
     (λ c. search needs) (λ c. search needs) (λ c. search needs) (λ c. search needs) returns returns-2 returns-3 returns-4 returns-5 returns-6 returns-7
-    returns-8)
+    returns-8 returns-9)

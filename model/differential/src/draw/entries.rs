@@ -1,9 +1,11 @@
 //! Entries, headers and frames that are right, each field often at an end of its
 //! range.
 
-use super::ends::inside;
+use super::ends::{inside, one_of};
 use rtcm2_model::frame::{Frame, Header, State};
 use rtcm2_model::record::correction::{self, Correction, Issue, LAST_TB};
+use rtcm2_model::record::general::{self, General, GeneralHead};
+use rtcm2_model::record::general_null::{self, GeneralNull};
 use rtcm2_model::record::health::{self, Condition, Health};
 use rtcm2_model::record::observation::{self, Edition, Epoch, Mark, Measured, Observation};
 use rtcm2_model::record::position::{self, Position};
@@ -82,6 +84,31 @@ pub fn observation(rng: &mut Rng, edition: Edition, type_number: u16) -> Observa
     }
 }
 
+/// The head of general corrections.
+pub fn general_head(rng: &mut Rng) -> GeneralHead {
+    GeneralHead {
+        system: one_of(rng, &general::SYSTEMS),
+        signal: inside(rng, 0, 15) as u8,
+        ephemeris: inside(rng, 0, 3) as u8,
+        period: inside(rng, 0, 3) as u8,
+        ionosphere: inside(rng, 0, 1) as u8,
+    }
+}
+
+/// A satellite of general corrections, with a delay or without.
+pub fn general(rng: &mut Rng, ionosphere: u8) -> General {
+    General {
+        satellite: inside(rng, 1, 63) as u8,
+        udre: inside(rng, 0, 15) as u8,
+        iod: inside(rng, 0, 255) as u8,
+        prc: inside(rng, -8192, 8191) as i16,
+        delay: match ionosphere {
+            0 => 0,
+            _ => inside(rng, 0, 4095) as u16,
+        },
+    }
+}
+
 /// A position.
 fn position(rng: &mut Rng) -> Position {
     let mut centimetres = || inside(rng, -2_147_483_647, 2_147_483_647) as i32;
@@ -136,6 +163,16 @@ pub fn frame(rng: &mut Rng, type_number: u16) -> Frame {
             let entries = [(); observation::MOST].map(|()| observation(rng, edition, type_number));
             let count = count(rng, observation::MOST);
             observation::make(edition, &header, &epoch(rng), &entries, count)
+        }
+        42 if rng.below(3) == 0 => {
+            let system = one_of(rng, &general::SYSTEMS);
+            general_null::make(&header, &GeneralNull { n: 1, system })
+        }
+        41 | 42 => {
+            let head = general_head(rng);
+            let entries = [(); general::MOST].map(|()| general(rng, head.ionosphere));
+            let count = count(rng, general::most(head.ionosphere));
+            general::make(&header, &head, &entries, count)
         }
         16 | 36 => {
             let count = count(rng, text::MOST);

@@ -6,9 +6,10 @@ use crate::call::{Call, Function};
 use crate::place::Place;
 use rtcm2_model::frame::Frame;
 use rtcm2_model::journal;
+use rtcm2_model::library::generals::GENERAL_SIZE;
 use rtcm2_model::library::lists::{CORRECTION_SIZE, HEALTH_SIZE};
 use rtcm2_model::library::observations::OBSERVATION_SIZE;
-use rtcm2_model::record::{correction, observation, text};
+use rtcm2_model::record::{correction, general, observation, text};
 use rtcm2_model::rng::Rng;
 use rtcm2_model::samples;
 
@@ -28,6 +29,10 @@ pub fn call(rng: &mut Rng) -> Call {
         Function::ReadEpoch,
         Function::ObservationAt,
         Function::CheckProfile,
+        Function::CountGenerals,
+        Function::ReadHead,
+        Function::GeneralAt,
+        Function::ReadGeneralNull,
     ];
     match rng.below(40) {
         0 => {
@@ -53,7 +58,14 @@ fn call_on(function: Function, rng: &mut Rng) -> Call {
         Function::CountCorrections
         | Function::CountHealths
         | Function::ReadNull
-        | Function::CountObservations => lent = numbers(rng, 1),
+        | Function::CountObservations
+        | Function::CountGenerals => lent = numbers(rng, 1),
+        Function::ReadHead => lent = numbers(rng, 5),
+        Function::ReadGeneralNull => lent = numbers(rng, 2),
+        Function::GeneralAt => {
+            given.push(index(rng, general::count(&frame).unwrap_or(0)));
+            lent.push(room(rng, GENERAL_SIZE));
+        }
         Function::ReadEpoch => lent = numbers(rng, 3),
         Function::ObservationAt => {
             given.push(edition(rng));
@@ -96,6 +108,10 @@ fn frame_for(function: Function, rng: &mut Rng) -> Frame {
         Function::ReadEpoch | Function::ObservationAt if rng.below(4) == 0 => {
             any_time(rng, &mut frame);
         }
+        Function::CountGenerals
+        | Function::ReadHead
+        | Function::GeneralAt
+        | Function::ReadGeneralNull => any_head(rng, &mut frame),
         _ => {}
     }
     match rng.below(16) {
@@ -140,6 +156,38 @@ fn any_time(rng: &mut Rng, frame: &mut Frame) {
     }
 }
 
+/// Gives a frame now and then another system, its other layout, satellite 0 in one of
+/// its entries, or another N.
+fn any_head(rng: &mut Rng, frame: &mut Frame) {
+    if frame.n == 0 {
+        return;
+    }
+    let word = &mut frame.words[0];
+    match rng.below(16) {
+        0 => *word = *word & 0x0F_FFFF | (rng.below(16) as u32) << 20,
+        1 => *word ^= 1 << 11,
+        2 | 4 => no_satellite(rng, frame),
+        3 => {
+            let n = rng.place(32);
+            frame.n = n as u8;
+            frame.words[n..].fill(0);
+        }
+        _ => {}
+    }
+}
+
+/// Gives one entry of general corrections, if there is one, satellite 0.
+fn no_satellite(rng: &mut Rng, frame: &mut Frame) {
+    let width = match general::head(frame) {
+        Ok(head) => [32, 44][usize::from(head.ionosphere)],
+        Err(_) => return,
+    };
+    let entry = rng.place(general::count(frame).unwrap_or(1));
+    for bit in (13 + width * entry..).take(6) {
+        frame.words[bit / 24] &= !(0x80_0000 >> (bit % 24));
+    }
+}
+
 /// An edition, mostly 0 or 1.
 pub fn edition(rng: &mut Rng) -> i64 {
     around(rng, 0, 1, 8)
@@ -156,6 +204,13 @@ fn kind_of(function: Function, rng: &mut Rng) -> u16 {
         Function::CountObservations | Function::ReadEpoch | Function::ObservationAt => {
             one_of(rng, &[18, 19])
         }
+        Function::CountGenerals | Function::ReadHead | Function::GeneralAt => {
+            one_of(rng, &[41, 42])
+        }
+        Function::ReadGeneralNull => match rng.below(12) {
+            0 => 41,
+            _ => 42,
+        },
         Function::CheckProfile => match rng.below(10) {
             0 => inside(rng, 1, 64) as u16,
             1 => one_of(rng, &RECORDS),

@@ -6,9 +6,10 @@ use super::{entries, frames, headed, numbers, parts, room, RECORDS};
 use crate::call::{Call, Function};
 use crate::place::Place;
 use rtcm2_model::journal::length_for;
+use rtcm2_model::library::generals::GENERAL_SIZE;
 use rtcm2_model::library::lists::{correction_row, health_row, CORRECTION_SIZE, HEALTH_SIZE};
 use rtcm2_model::library::observations::OBSERVATION_SIZE;
-use rtcm2_model::record::{correction, health, system, text, System};
+use rtcm2_model::record::{correction, general, health, system, text, System};
 use rtcm2_model::rng::Rng;
 
 /// A call of a maker.
@@ -22,11 +23,13 @@ pub fn call(rng: &mut Rng) -> Call {
         Function::MakeText,
         Function::MakeObservations,
         Function::CutCorrections,
+        Function::MakeGenerals,
+        Function::MakeGeneralNull,
     ];
     let function = one_of(rng, &functions);
     let mut given = head(function, rng);
     let mut read = vec![];
-    let mut size = 0;
+    let (mut size, mut ionosphere) = (0, 0);
     match function {
         Function::MakePosition => given.extend((0..3).map(|_| centimetres(rng))),
         Function::MakeNull => {
@@ -42,6 +45,19 @@ pub fn call(rng: &mut Rng) -> Call {
             size = bytes.len();
             read.push(Place::starting(rng, &bytes));
         }
+        Function::MakeGenerals => {
+            given.extend(headed::general_head(rng));
+            ionosphere = given[9] as u8;
+            let bytes = headed::generals(rng, given[9]);
+            size = bytes.len();
+            read.push(Place::starting(rng, &bytes));
+        }
+        Function::MakeGeneralNull => {
+            let n = wanted_n(rng);
+            size = 1;
+            given.push(if rng.bit() { 1 } else { n });
+            given.push(headed::system(rng));
+        }
         _ => {
             let kind = given[0] as u16;
             let bytes = bytes_for(function, kind, rng);
@@ -51,6 +67,10 @@ pub fn call(rng: &mut Rng) -> Call {
     }
     let need = match function {
         Function::CutCorrections => cut_length(size / CORRECTION_SIZE),
+        Function::MakeGenerals => {
+            let count = (size / GENERAL_SIZE).min(general::MOST);
+            length_for(general::n_for(ionosphere, count).min(31))
+        }
         _ => length_for(words(function, size)),
     };
     let mut lent = vec![room(rng, need)];
@@ -103,6 +123,11 @@ fn kind(function: Function, rng: &mut Rng) -> i64 {
         Function::MakeNull => one_of(rng, &[6, 34]),
         Function::MakeText => one_of(rng, &[16, 36]),
         Function::MakeObservations => one_of(rng, &[18, 19]),
+        Function::MakeGenerals => one_of(rng, &[41, 42]),
+        Function::MakeGeneralNull => match rng.below(16) {
+            0 => 41,
+            _ => 42,
+        },
         Function::CutCorrections => match rng.below(16) {
             0 => one_of(rng, &[1, 31, 34]),
             _ => 9,

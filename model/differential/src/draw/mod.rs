@@ -51,7 +51,7 @@ impl Draw {
 
 /// A call on the numbers of a record, on a window, or on nothing.
 fn number(rng: &mut Rng) -> Call {
-    let (function, given) = match rng.below(15) {
+    let (function, given) = match rng.below(23) {
         0 => return parts(Function::StateSize, vec![], vec![], vec![]),
         13 | 14 => {
             let given = vec![window(rng).into()];
@@ -60,6 +60,16 @@ fn number(rng: &mut Rng) -> Call {
         11 | 12 => {
             let given = vec![code(rng)];
             return parts(Function::LetterOf, given, vec![], numbers(rng, 1));
+        }
+        15 | 16 => (Function::GeneralPrcMm, vec![general_prc(rng)]),
+        17 | 18 => (Function::DelayMm, vec![around(rng, 0, 4095, 16)]),
+        19 | 20 => {
+            let health = around(rng, 0, 7, 8);
+            (Function::GeneralUdre, vec![health, around(rng, 0, 15, 8)])
+        }
+        21 | 22 => {
+            let given = vec![around(rng, 0, 3, 8)];
+            return parts(Function::UseSeconds, given, vec![], numbers(rng, 1));
         }
         9 | 10 => {
             let given = vec![inside(rng, -32768, 32767), inside(rng, -128, 127)];
@@ -80,6 +90,15 @@ fn number(rng: &mut Rng) -> Call {
         _ => (Function::Cn0Dbhz, vec![around(rng, 0, 31, 8)]),
     };
     parts(function, given, vec![], numbers(rng, 2))
+}
+
+/// A PRC of fourteen bits, or one just past them, or any of sixteen.
+fn general_prc(rng: &mut Rng) -> i64 {
+    match rng.below(4) {
+        0 => one_of(rng, &[-8194, -8193, -8192, -8191, 8190, 8191, 8192, 8193]),
+        1 => inside(rng, -32768, 32767),
+        _ => inside(rng, -8192, 8191),
+    }
 }
 
 /// A character's code: any, or one beside an end of what a type allows.
@@ -112,7 +131,7 @@ fn window(rng: &mut Rng) -> u32 {
 const CODES: [u8; 8] = [0, 1, 2, 127, 128, 191, 192, 255];
 
 /// The type numbers that have a record.
-const RECORDS: [u16; 13] = [1, 3, 5, 6, 9, 16, 18, 19, 31, 32, 33, 34, 36];
+const RECORDS: [u16; 15] = [1, 3, 5, 6, 9, 16, 18, 19, 31, 32, 33, 34, 36, 41, 42];
 
 /// A call of these parts.
 fn parts(function: Function, given: Vec<i64>, read: Vec<Place>, lent: Vec<Place>) -> Call {

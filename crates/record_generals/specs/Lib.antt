@@ -1,0 +1,3 @@
+pub mod Generals
+pub mod GeneralRounds
+pub mod GeneralNulls
