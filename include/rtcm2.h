@@ -44,7 +44,7 @@ enum {
     RTCM2_FRAME_WAITS = 2,    /* fed or ended while a frame waits */
     RTCM2_ENDED = 3,          /* fed or ended after the end */
     RTCM2_NO_FRAME = 4,       /* taking when no frame waits */
-    RTCM2_OUTSIDE = 5,        /* a value outside its width; bytes that are no reader state; a carried bit not 0 or 1 */
+    RTCM2_OUTSIDE = 5,        /* a value outside its width; bytes that are no reader state or no report; a carried bit not 0 or 1 */
     RTCM2_OTHER_TYPE = 6,     /* the frame is of another type */
     RTCM2_Z_COUNT = 7,        /* Z count 6000 to 8191 */
     RTCM2_WRONG_N = 8,        /* N doesn't fit the type */
@@ -57,6 +57,8 @@ enum {
     RTCM2_CUT_SHORT = 15,     /* journal record cut short */
     RTCM2_BAD_RECORD = 16,    /* N of a journal record over 31 or not that of word 2, or its preamble wrong */
     RTCM2_BROKEN = 17,        /* a kept word fails parity, or its carried bits are not the last two of the word before */
+    RTCM2_NO_ROOM = 18,       /* a new key of a season's report with all its rows in use */
+    RTCM2_COUNT = 19,         /* a count of a season's report that would pass 4,294,967,295 */
     RTCM2_OTHER_PROFILE = 20, /* the type is not of the small-beacon profile */
     RTCM2_SATELLITES = 21,    /* more than three satellites in a frame of the profile */
     RTCM2_TWICE = 22,         /* one satellite twice */
@@ -74,6 +76,8 @@ enum {
     RTCM2_GENERAL_SIZE = 7,     /* one general correction */
     RTCM2_HEALTH_SIZE = 10,     /* one satellite's health */
     RTCM2_TEXT_MAX = 90,        /* the longest text */
+    RTCM2_SEASON_SIZE = 14852,  /* a season's report, 512 rows */
+    RTCM2_SEASON_ROW_SIZE = 29, /* one row of it */
     RTCM2_REPORT_MAX = 986,     /* room for the report of any step of the mender */
     RTCM2_CUT_MAX = 144         /* the longest list that is cut, six frames of three corrections */
 };
@@ -345,6 +349,32 @@ enum {
  * searching else. Refusal: 13 for a report of fewer than RTCM2_REPORT_MAX bytes. */
 uint8_t rtcm2_mend(uint8_t *bytes, size_t bytes_size, uint64_t at, uint8_t searching, uint8_t *report, size_t report_size,
                    uint8_t *step, size_t *read, size_t *written);
+
+/* ---- Statistics over a season: of each system, station and satellite how many corrections of types 1, 9, 31 and 34 could be used and
+ * how many said stop (PRC -32768 or RRC -128), the least and the largest PRC in mm, and their exact sum. Types 41 and 42 are not counted.
+ * A report lies in RTCM2_SEASON_SIZE bytes that the caller lends; bytes past them are not looked at. It is how many rows are in use, in
+ * four bytes, and 512 rows of RTCM2_SEASON_ROW_SIZE bytes in the order first seen: system in one (0 GPS, 1 GLONASS), station in two,
+ * satellite in one, usable entries in four, stop entries in four, in one whether least and largest are present (0 or 1), least and largest
+ * in four each (0 where they are not present), and the sum in eight; each with the low byte first, signed numbers in two's complement. Rows
+ * past those in use are not looked at, and are zeros in what a call puts.
+ * Bytes are 5 that are too few, have more than 512 rows in use, or have a row in use with another system, with another number than 0 or 1
+ * for present, or with least or largest not 0 where they are not present; and a report with one key in two rows, or with a sum that is not
+ * from count times least to count times largest (where no entry is usable: a sum not 0, or least and largest present). A report that these
+ * calls put is never refused with 5. */
+
+/* Starts a report: the first RTCM2_SEASON_SIZE bytes become one without rows. Refusal: 13. */
+uint8_t rtcm2_season_start(uint8_t *report, size_t report_size);
+
+/* Adds the entries of a journal's bytes to a report: records of either form from the start while they recall. `used` is how many bytes
+ * these have; what follows them is refused by rtcm2_recall_words where its second byte is 0x34, else by rtcm2_recall, with its number. An
+ * entry that can't be read adds nothing, nor does a frame whose entries can't be counted. Refusals: 5, 18 (more keys than 512 in all), 19. */
+uint8_t rtcm2_season_journal(uint8_t *report, size_t report_size, const uint8_t *bytes, size_t bytes_size, size_t *used);
+
+/* Adds the second report to the first. Refusals: 5 for either, 18, 19. */
+uint8_t rtcm2_season_add(uint8_t *first, size_t first_size, const uint8_t *second, size_t second_size);
+
+/* The row at `index`, from 0, to the start of `row`. Refusals: 5, 9, 13. */
+uint8_t rtcm2_season_row(const uint8_t *report, size_t report_size, size_t index, uint8_t *row, size_t row_size);
 
 #ifdef __cplusplus
 }

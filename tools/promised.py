@@ -132,8 +132,9 @@ class Answers:
         return self.refuses(self.type_of(function.crate, function.answer)) or any(re.search(r"\bnumberOf\b", text) for text in function.ensures)
 
     def handed_back(self, function):
-        """The states that are passed and returned, by their place among the parameters and the field of the answer."""
+        """The states that are passed and returned, by their place among the parameters and the field of the answer: of one type, the first in the first."""
         answer = self.type_of(function.crate, function.answer)
         fields = answer.fields if answer else []
-        return [(place, name) for place, (_, given) in enumerate(function.parameters)
-                for name, inner in fields if inner == given and self.type_of(function.crate, given)]
+        given = {type: [place for place, (_, other) in enumerate(function.parameters) if other == type] for _, type in function.parameters}
+        return [(place, name) for type, places in given.items() if self.type_of(function.crate, type)
+                for place, name in zip(places, [name for name, inner in fields if inner == type])]

@@ -2,14 +2,14 @@
 //! checks the trials, and lists a stream from standard input.
 
 use rtcm2_model::trials::{self, File};
-use rtcm2_model::{example, journals, listing, streams};
+use rtcm2_model::{example, journals, listing, season_runs, streams};
 use std::fs;
 use std::io::{self, BufWriter, Read};
 use std::path::Path;
 use std::process::ExitCode;
 
 const USAGE: &str =
-    "usage: rtcm2-model trials DIR | check DIR | long DIR | journals DIR | example DIR | corrections | list";
+    "usage: rtcm2-model trials DIR | check DIR | long DIR | journals DIR | season DIR | example DIR | corrections | list";
 
 fn main() -> ExitCode {
     let arguments: Vec<String> = std::env::args().skip(1).collect();
@@ -18,7 +18,8 @@ fn main() -> ExitCode {
         ["trials", dir] => write_trials(Path::new(dir)),
         ["check", dir] => check_trials(Path::new(dir)),
         ["long", dir] => write_long(Path::new(dir)),
-        ["journals", dir] => write_journals(Path::new(dir)),
+        ["journals", dir] => write_all(Path::new(dir), journals::files()),
+        ["season", dir] => write_all(Path::new(dir), season_runs::files()),
         ["example", dir] => write_example(Path::new(dir)),
         ["corrections"] => corrections(),
         ["list"] => list(),
@@ -65,9 +66,9 @@ fn write_long(dir: &Path) -> io::Result<bool> {
     Ok(true)
 }
 
-/// Writes a line, journals, and what the programs on journals must make of them.
-fn write_journals(dir: &Path) -> io::Result<bool> {
-    for file in journals::files() {
+/// Writes journals, and what the programs on them must make of them.
+fn write_all(dir: &Path, files: Vec<File>) -> io::Result<bool> {
+    for file in files {
         fs::write(dir.join(&file.path), &file.bytes)?;
     }
     Ok(true)

@@ -12,7 +12,7 @@ pub enum Refusal {
     AfterEnd = 3,
     /// Taking when no frame waits.
     NoFrameWaits = 4,
-    /// Frame, header, reader state or carried bit outside its widths.
+    /// Frame, header, reader state, carried bit or report outside its widths.
     OutsideWidths = 5,
     /// Frame is of another type.
     AnotherType = 6,
@@ -39,6 +39,10 @@ pub enum Refusal {
     /// A word kept in a journal fails parity, or its carried bits do not repeat the
     /// word before.
     BrokenWord = 17,
+    /// A new key with all rows of a report in use.
+    NoRow = 18,
+    /// A count of a report that would pass 4,294,967,295.
+    CountPasses = 19,
     /// A type outside the small-beacon profile.
     OutsideProfile = 20,
     /// Too many satellites for the profile.

@@ -58,6 +58,9 @@ use Rattle.profile.specs.declared.Profile.the-variants as profile
 use Rattle.profile.specs.Profile.{checkProfile, saysProfile}
 use Rattle.profile.specs.Cutting.{cutOrder}
 use Rattle.profile.proofs.Said.{cut-said}
+use Rattle.season_reports.specs.Reports.{refusedAdd, addedBy, journalAdded, rowNumbered, saysAdded, saysJournal, saysRow}
+use Rattle.season_reports.specs.declared.Adding.the-variants as adding
+use Rattle.season_reports.specs.declared.RowRead.the-variants as row-read
 use Rattle.record_values.specs.Values.{prcValue, rrcValue, udreValue, cn0Value, noLetter, letterValue}
 use Rattle.record_generals.specs.Generals.{countGenerals, readHead, generalAt, makeGenerals, saysHeadRead, saysGeneralRead}
 use Rattle.record_generals.specs.GeneralNulls.{readGeneralNull, makeGeneralNull, saysGeneralNullRead}
@@ -112,7 +115,7 @@ pub carries-its-number : CarriesItsNumber
 unfolding fedBy fedAllBy endedBy takenBy countCorrections correctionAt makeCorrections countHealths healthAt makeHealths readPosition makePosition
     countObservations readEpoch observationAt makeObservations countGenerals readHead generalAt makeGenerals readGeneralNull makeGeneralNull
     readNull makeNull readText makeText checkProfile refusedMade doneMade printedBy pieceBy
-    finishBy linePut
+    finishBy linePut addedBy journalAdded rowNumbered
 carries-its-number = record {
   feed = λ r b. told (λ (x : Next). saysAnswer (x .answer)) (λ n. record { answer = Refused n; reader = r }) _ tt refl refl refl;
   feed-all = λ r bs. told (λ (x : FedAll). saysAnswer (x .answer)) (λ n. record { answer = Refused n; used = 0; passed = 0; reader = r }) _ tt refl refl refl;
@@ -178,6 +181,9 @@ carries-its-number = record {
   delay-mm = λ code. ordered ((ltb 4095 code, 10) ∷ []) (delayValue code) (delay-says code) refl refl;
   general-udre = λ s udre. ordered ((stateOutside s, 5) ∷ (ltb 15 udre, 10) ∷ []) (generalUdreValue s udre) (general-udre-says s udre) refl refl;
   use-seconds = λ code. ordered ((ltb 3 code, 10) ∷ []) (getD secondsOfUse code 0) (use-says code) refl refl;
+  add-report = λ a b. told saysAdded (refusedAdd a) _ _ refl refl refl;
+  add-journal = λ a bs. told saysJournal (λ n. record { answer = adding.Refused n; report = a; used = 0 }) _ _ refl refl refl;
+  row-at = λ a i. told saysRow row-read.Refused _ _ refl refl refl;
   print = λ text place buffer. told saysPrinted printed.Refused _ _ refl refl refl;
   put-line = λ at f out. told saysPrinted printed.Refused _ _ refl refl refl;
   mend = λ bs at s output. told saysMended refusedMend _ _ refl refl refl;

@@ -48,6 +48,11 @@ use Rattle.record_stages.specs.declared.Count.the-variants as count
 use Rattle.record_texts.specs.Texts.{lengthIn, textIn, readText, bufferAfter, makeText}
 use Rattle.profile.specs.declared.Cut.{Cut}
 use Rattle.profile.specs.Cutting.{refusedCut, cutCorrections}
+use Rattle.season_reports.specs.Reports.{refusedAdd, addedBy, journalAdded}
+use Rattle.season_reports.specs.declared.Adding.the-variants as adding
+use Rattle.season_reports.specs.declared.Report.{Report}
+use Rattle.season_reports.specs.declared.Added.{Added}
+use Rattle.season_reports.specs.declared.JournalReport.{JournalReport}
 use Rattle.printing.specs.Printing.{printOrder, printedBy, printedTo, saysPrinted}
 use Rattle.printing.specs.declared.Printed.the-variants as printed
 use Rattle.listing.specs.Listing.{Lines, lineRoom, endRoom, refusedListing, listed, linesOf}
@@ -63,9 +68,12 @@ use Rattle.promises.proofs.CarriesItsNumber.{carries-its-number, says-i
 
 -- ---- a refusal
 
--- what the reader's calls leave when they refuse
+-- what the reader's calls and a season's leave when they refuse
 abbrev fed-none : Reader → ℕ → FedAll
 fed-none r n = record { answer = Refused n; used = 0; passed = 0; reader = r }
+
+abbrev journal-none : Report → ℕ → JournalReport
+journal-none a n = record { answer = adding.Refused n; report = a; used = 0 }
 
 abbrev taken-none : Reader → ℕ → Taken
 taken-none r n = record { answer = Refused n; at = 0; frame = blank; reader = r }
@@ -85,7 +93,8 @@ moved-done (moved.Done read written) v e = cc
 moved-done (moved.Refused k) v e = let z : _≡_ {A = ℕ} 0 1 = cc in absurd (omega arith)
 
 pub changes-neither : ChangesNeither
-unfolding fedBy fedAllBy endedBy takenBy readText bufferAfter printedBy printedTo pieceBy pieceText finishBy finishText linePut lineTo
+unfolding fedBy fedAllBy endedBy takenBy readText bufferAfter printedBy printedTo pieceBy pieceText finishBy finishText linePut lineTo addedBy
+    journalAdded
 changes-neither = record {
   feed = λ r b. keeps (carries-its-number .feed r b) (λ (x : Next). x .reader) (λ n. record { answer = Refused n; reader = r }) _ _ (λ n. refl);
   feed-all = λ r bs. keeps (carries-its-number .feed-all r bs) (λ (x : FedAll). x .reader) (fed-none r) _ _ (λ n. refl);
@@ -102,6 +111,8 @@ changes-neither = record {
   put-line = λ at f out. keeps (carries-its-number .put-line at f out) (λ b. b) (λ n. out) _ _ (λ n. refl);
   mend-bytes = λ bs at s out. keeps (carries-its-number .mend bs at s out) (λ b. b) (λ n. bs) _ _ (λ n. refl);
   mend-output = λ bs at s out. keeps (carries-its-number .mend bs at s out) (λ b. b) (λ n. out) _ _ (λ n. refl);
+  add-report = λ a b. keeps (carries-its-number .add-report a b) (λ (x : Added). x .report) (refusedAdd a) _ _ (λ n. refl);
+  add-journal = λ a bs. keeps (carries-its-number .add-journal a bs) (λ (x : JournalReport). x .report) (journal-none a) _ _ (λ n. refl);
   list-piece = λ l bs room. keeps (carries-its-number .list-piece l bs room) (λ (x : Listed). x .listing) (refusedListing l) _ _ (λ n. refl);
   list-piece-output = λ l bs out. keeps (carries-its-number .list-piece l bs (length out)) (λ b. b) (λ n. out) _ _ (λ n. refl);
   finish = λ l room. keeps (carries-its-number .finish l room) (λ (x : Listed). x .listing) (refusedListing l) _ _ (λ n. refl);
@@ -111,6 +122,7 @@ changes-neither = record {
 pub number-alone : NumberAlone
 unfolding fedAllBy takenBy makeCorrections makeHealths makeObservations makeGenerals makeGeneralNull makePosition makeNull makeText cutCorrections refusedMade
     refusedCut pieceBy finishBy
+    journalAdded
 number-alone = record {
   blank-outside = unfold blank outside headerOutside numbersOutside in refl;
   feed-all = λ r bs. keeps (carries-its-number .feed-all r bs) (λ (x : FedAll). (x .used, x .passed)) (fed-none r) _ _ (λ n. refl);
@@ -127,6 +139,7 @@ number-alone = record {
   cut-corrections = λ h es c. keeps (carries-its-number .cut-corrections h es c) (λ (x : Cut). x .frames) refusedCut _ _ (λ n. refl);
   make-text = λ h t. keeps (carries-its-number .make-text h t) (λ (x : Made). x .frame) refusedMade _ _ (λ n. refl);
   mend = λ bs at s out. keeps (carries-its-number .mend bs at s out) (λ (x : Mended). (x .step, x .written)) refusedMend _ _ (λ n. refl);
+  add-journal = λ a bs. keeps (carries-its-number .add-journal a bs) (λ (x : JournalReport). x .used) (journal-none a) _ _ (λ n. refl);
   list-piece = λ l bs room. keeps (carries-its-number .list-piece l bs room) (λ (x : Listed). (x .used, x .written)) (refusedListing l) _ _ (λ n. refl);
   finish = λ l room. keeps (carries-its-number .finish l room) (λ (x : Listed). (x .used, x .written)) (refusedListing l) _ _ (λ n. refl);
 }

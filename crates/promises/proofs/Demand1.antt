@@ -7,6 +7,7 @@ use Rattle.promises.proofs.RecordCalls.{record-calls}
 use Rattle.promises.proofs.GeneralCalls.{general-calls}
 use Rattle.promises.proofs.JournalCalls.{journal-calls}
 use Rattle.promises.proofs.MenderCalls.{mender-calls}
+use Rattle.promises.proofs.SeasonCalls.{season-calls}
 use Rattle.promises.proofs.CarriesItsNumber.{carries-its-number}
 use Rattle.promises.proofs.ChangesNeither.{changes-neither, number-alone, only-its-bytes}
 use Rattle.promises.proofs.EveryReader.{next-is-accepted, takes-only-frames}
@@ -19,6 +20,7 @@ demand-1 = record {
   generals = general-calls;
   journals = journal-calls;
   menders = mender-calls;
+  seasons = season-calls;
   once = settled-once;
   carries = carries-its-number;
   changes = changes-neither;

@@ -8,6 +8,7 @@ use Rattle.promises.proofs.Slices.{in-slices}
 use Rattle.promises.proofs.LateJoiners.{late-joiners}
 use Rattle.promises.proofs.WordsKept.{words-kept}
 use Rattle.promises.proofs.SmallBeacon.{small-beacon}
+use Rattle.promises.proofs.Season.{season-totals}
 use Rattle.promises.proofs.Turned.{turned-is-same}
 use Rattle.promises.proofs.Counters.{counters}
 use Rattle.promises.proofs.EveryReader.{feed-all-is-feed}
@@ -40,6 +41,7 @@ demands = record {
   late = late-joiners;
   words = words-kept;
   beacon = small-beacon;
+  season = season-totals;
   text = text-is-whole;
   nothing-left = nothing-left;
   taken = piece-taken;

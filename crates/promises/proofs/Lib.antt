@@ -17,6 +17,7 @@ pub mod RecordCalls
 pub mod GeneralCalls
 pub mod JournalCalls
 pub mod MenderCalls
+pub mod SeasonCalls
 pub mod CarriesItsNumber
 pub mod ChangesNeither
 pub mod Demand1
@@ -33,6 +34,10 @@ pub mod Telling
 pub mod Slices
 pub mod LateJoiners
 pub mod SmallBeacon
+pub mod SeasonRuns
+pub mod SeasonReports
+pub mod SeasonSums
+pub mod Season
 pub mod Pieces
 pub mod Whole
 pub mod Progress

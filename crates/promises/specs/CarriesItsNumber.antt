@@ -55,6 +55,8 @@ use Rattle.record_healths.specs.declared.SatelliteHealth.{SatelliteHealth}
 use Rattle.record_positions.specs.declared.Position.{Position}
 use Rattle.profile.specs.Profile.{profileOrder, checkProfile, saysProfile}
 use Rattle.profile.specs.Cutting.{cutOrder, cutCorrections, saysCut}
+use Rattle.season_reports.specs.Reports.{reportOut, addOrder, addedBy, journalOrder, journalAdded, rowNumbered, saysAdded, saysJournal, saysRow}
+use Rattle.season_reports.specs.declared.Report.{Report}
 use Rattle.record_values.specs.Values.{noLetter}
 use Rattle.record_values.specs.GeneralValues.{outside14}
 use Rattle.record_values.specs.GeneralAnswer.{generalPrcMm, delayMm, generalUdre, useSeconds, saysDelay, saysGeneralLimit, saysPeriod}
@@ -216,6 +218,10 @@ pub record CarriesItsNumber : Type 0 where
   pub general-udre : (s : State) (udre : ℕ)
       → Ordered (5 ∷ 10 ∷ []) ((stateOutside s, 5) ∷ (ltb 15 udre, 10) ∷ []) (saysGeneralLimit (generalUdre s udre))
   pub use-seconds : (code : ℕ) → Ordered (10 ∷ []) ((ltb 3 code, 10) ∷ []) (saysPeriod (useSeconds code))
+  -- reports of a season: adding 5, 18, 19, where either report can be the one with 5; a row 5, 9
+  pub add-report : (a b : Report) → Ordered (5 ∷ 5 ∷ 18 ∷ 19 ∷ []) (addOrder a b) (saysAdded (addedBy a b))
+  pub add-journal : (a : Report) (bs : List ℕ) → Ordered (5 ∷ 18 ∷ 19 ∷ []) (journalOrder a bs) (saysJournal (journalAdded a bs))
+  pub row-at : (a : Report) (i : ℕ) → Ordered (5 ∷ 9 ∷ []) ((reportOut a, 5) ∷ (leb (a .used) i, 9) ∷ []) (saysRow (rowNumbered a i))
   -- text put into a buffer: 13
   pub print : (text : List ℕ) (place : ℕ) (buffer : List ℕ) → Ordered (13 ∷ []) (printOrder text place buffer) (saysPrinted (printedBy text place buffer))
   -- a step of the mender: 13

@@ -36,6 +36,8 @@ use Rattle.record_corrections.specs.declared.Correction.{Correction}
 use Rattle.record_healths.specs.declared.SatelliteHealth.{SatelliteHealth}
 use Rattle.record_positions.specs.declared.Position.{Position}
 use Rattle.profile.specs.Cutting.{noFrames, cutCorrections, saysCut}
+use Rattle.season_reports.specs.Reports.{addedBy, journalAdded, saysAdded, saysJournal}
+use Rattle.season_reports.specs.declared.Report.{Report}
 use Rattle.printing.specs.Printing.{printedBy, printedTo, saysPrinted}
 use Rattle.listing.specs.Listing.{pieceBy, pieceText, finishBy, finishText, linePut, lineTo}
 use Rattle.mender.specs.Steps.{mendBy, bytesTo, outputTo, saysMended}
@@ -63,6 +65,8 @@ pub record ChangesNeither : Type 0 where
   pub put-line : (at : ℕ) (f : Frame) (out : List ℕ) → Keeps (saysPrinted (linePut at f out)) (lineTo at f out) out
   pub mend-bytes : (bs : List ℕ) (at : ℕ) (s : Bool) (out : List ℕ) → Keeps (saysMended (mendBy bs at s out)) (bytesTo bs s out) bs
   pub mend-output : (bs : List ℕ) (at : ℕ) (s : Bool) (out : List ℕ) → Keeps (saysMended (mendBy bs at s out)) (outputTo bs at s out) out
+  pub add-report : (a b : Report) → Keeps (saysAdded (addedBy a b)) (addedBy a b .report) a
+  pub add-journal : (a : Report) (bs : List ℕ) → Keeps (saysJournal (journalAdded a bs)) (journalAdded a bs .report) a
   pub list-piece : (l : Listing) (bs : List ℕ) (room : ℕ) → Keeps (saysAnswer (pieceBy l bs room .answer)) (pieceBy l bs room .listing) l
   pub list-piece-output : (l : Listing) (bs out : List ℕ) → Keeps (saysAnswer (pieceBy l bs (length out) .answer)) (pieceText l bs out) out
   pub finish : (l : Listing) (room : ℕ) → Keeps (saysAnswer (finishBy l room .answer)) (finishBy l room .listing) l
@@ -89,6 +93,7 @@ pub record NumberAlone : Type 0 where
   pub mend : (bs : List ℕ) (at : ℕ) (s : Bool) (out : List ℕ)
       → Keeps {B = Step × ℕ} (saysMended (mendBy bs at s out)) (mendBy bs at s out .step, mendBy bs at s out .written) (End, 0)
   pub cut-corrections : (h : Header) (es : List Correction) (c : ℕ) → Keeps (saysCut (cutCorrections h es c)) (cutCorrections h es c .frames) noFrames
+  pub add-journal : (a : Report) (bs : List ℕ) → Keeps (saysJournal (journalAdded a bs)) (journalAdded a bs .used) 0
   pub list-piece : (l : Listing) (bs : List ℕ) (room : ℕ)
       → Keeps {B = ℕ × ℕ} (saysAnswer (pieceBy l bs room .answer)) (pieceBy l bs room .used, pieceBy l bs room .written) (0, 0)
   pub finish : (l : Listing) (room : ℕ)

@@ -7,6 +7,7 @@ use Rattle.promises.specs.RecordCalls.{RecordCalls}
 use Rattle.promises.specs.GeneralCalls.{GeneralCalls}
 use Rattle.promises.specs.JournalCalls.{JournalCalls}
 use Rattle.promises.specs.MenderCalls.{MenderCalls}
+use Rattle.promises.specs.SeasonCalls.{SeasonCalls}
 use Rattle.promises.specs.CarriesItsNumber.{CarriesItsNumber}
 use Rattle.promises.specs.ChangesNeither.{ChangesNeither, NumberAlone, OnlyItsBytes}
 use Rattle.promises.specs.Demand3.{NextIsAccepted, TakesOnlyFrames}
@@ -20,6 +21,7 @@ pub record Demand1 : Type 2 where
   pub generals : GeneralCalls
   pub journals : JournalCalls
   pub menders : MenderCalls
+  pub seasons : SeasonCalls
   pub once : SettledOnce
   -- "A refusal carries its number from the table .."
   pub carries : CarriesItsNumber

@@ -1,6 +1,5 @@
--- EVERYTHING PROMISED, in one record: the three demands, how words failed, late joiners, the small-beacon profile, the listing, the xor law, the mender and
--- the
--- worked values. Assumes nothing.
+-- EVERYTHING PROMISED, in one record: the three demands, how words failed, late joiners, the small-beacon profile, seasons, the listing, the xor law,
+-- the mender and the worked values. Assumes nothing.
 use mathlib.Core.List.{List}
 use Prim.Native.Nat.{ℕ}
 use Rattle.promises.specs.Demand1.{Demand1}
@@ -10,6 +9,7 @@ use Rattle.promises.specs.Counters.{Counters}
 use Rattle.promises.specs.LateJoiners.{LateJoiners}
 use Rattle.promises.specs.WordsKept.{WordsKept}
 use Rattle.promises.specs.SmallBeacon.{SmallBeacon}
+use Rattle.promises.specs.Season.{SeasonTotals}
 use Rattle.promises.specs.Course.{Piece, TextIsWhole, NothingLeft, PieceTaken, Reached, TextComes}
 use Rattle.promises.specs.XorLaw.{XorLaw}
 use Rattle.promises.specs.Mending.{Mending}
@@ -27,6 +27,8 @@ pub record Demands : Type 2 where
   pub words : WordsKept
   -- the small-beacon profile: its checker and its sender
   pub beacon : SmallBeacon
+  -- reports of a season: their totals, split in two, and what they are never refused with
+  pub season : SeasonTotals
   -- in whatever pieces a stream is listed, the text is that of the whole
   pub text : (bs : List ℕ) (ps : List Piece) (out : List ℕ) → TextIsWhole bs ps out
   -- a piece that writes nothing used all bytes lent; every piece with room for a line is taken; after enough of them nothing is left, and the whole

@@ -6,6 +6,7 @@ pub mod RecordCalls
 pub mod GeneralCalls
 pub mod JournalCalls
 pub mod MenderCalls
+pub mod SeasonCalls
 pub mod CarriesItsNumber
 pub mod ChangesNeither
 pub mod ThoseOfRtcm
@@ -18,6 +19,7 @@ pub mod Counters
 pub mod LateJoiners
 pub mod WordsKept
 pub mod SmallBeacon
+pub mod Season
 pub mod Demand1
 pub mod Course
 pub mod XorLaw

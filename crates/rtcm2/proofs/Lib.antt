@@ -26,3 +26,5 @@ pub mod WordLaws
 pub mod MendLaws
 pub mod BeaconLaws
 pub mod BeaconOrders
+pub mod SeasonLaws
+pub mod SeasonOrders

@@ -16,5 +16,6 @@ pub mod Healths
 pub mod Observations
 pub mod Generals
 pub mod Beacon
+pub mod Season
 pub mod Orders
 pub mod GeneralOrders

@@ -11,6 +11,7 @@ pub mod null;
 pub mod observation;
 pub mod position;
 mod rows;
+pub mod season;
 pub mod send;
 pub mod text;
 pub mod values;

@@ -19,4 +19,9 @@ pub mod KeptAgain
 pub mod LineBack
 pub mod CutsBack
 pub mod LateJoiners
+pub mod SeasonCalls
+pub mod SeasonEntries
+pub mod SeasonSound
+pub mod SeasonBack
+pub mod SeasonRuns
 pub mod Library

@@ -10,6 +10,8 @@ use Rattle.rtcm2_promises.proofs.Demand3.{takes-its-record, library-dem
 use Rattle.rtcm2_promises.proofs.Counters.{library-counters}
 use Rattle.rtcm2_promises.proofs.LineBack.{line-gives-back}
 use Rattle.rtcm2_promises.proofs.CutsBack.{library-cuts-back}
+use Rattle.rtcm2_promises.proofs.SeasonCalls.{season-answered, season-numbers, season-keeps}
+use Rattle.rtcm2_promises.proofs.SeasonRuns.{library-season}
 use Rattle.rtcm2_promises.proofs.LateJoiners.{library-late-joiners}
 
 pub library : Library
@@ -21,6 +23,10 @@ library = record {
   reads-back = library-reads-back;
   kept-again = kept-again;
   cuts-back = library-cuts-back;
+  season-calls = season-answered;
+  season-carries = season-numbers;
+  season-changes = season-keeps;
+  season = library-season;
   third = library-demand-3;
   takes-record = takes-its-record;
   counters = library-counters;

@@ -9,4 +9,6 @@ pub mod ReadsBack
 pub mod LineBack
 pub mod CutsBack
 pub mod LateJoiners
+pub mod SeasonCalls
+pub mod SeasonBack
 pub mod Library

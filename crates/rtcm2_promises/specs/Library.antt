@@ -13,6 +13,8 @@ use Rattle.rtcm2_promises.specs.LateJoiners.{LibraryLateJoiners}
 use Rattle.rtcm2_promises.specs.ReadsBack.{LibraryReadsBack, KeptAgain}
 use Rattle.rtcm2_promises.specs.LineBack.{LineGivesBack}
 use Rattle.rtcm2_promises.specs.CutsBack.{LibraryCutsBack}
+use Rattle.rtcm2_promises.specs.SeasonCalls.{SeasonAnswered, SeasonNumbers, SeasonKeeps}
+use Rattle.rtcm2_promises.specs.SeasonBack.{LibrarySeason}
 
 pub record Library : Type 2 where
   -- "Every byte sequence, frame and buffer gets a defined answer." "No call trusts its caller." "Every call ends."
@@ -27,6 +29,11 @@ pub record Library : Type 2 where
   pub kept-again : KeptAgain
   -- of the small-beacon profile: the records that are cut recall, one after the other, to frames that are the list cut well
   pub cuts-back : LibraryCutsBack
+  -- the calls on reports of a season, by the same three sentences; what they put reads back, is never 5, and adds up
+  pub season-calls : SeasonAnswered
+  pub season-carries : SeasonNumbers
+  pub season-changes : SeasonKeeps
+  pub season : LibrarySeason
   -- demand 3, of every state's bytes with room; a frame that is taken is the one whose record comes
   pub third : (state : List ℕ) → stateSize ≤ length state → LibraryDemand3 state
   pub takes-record : TakesItsRecord

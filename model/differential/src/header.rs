@@ -275,6 +275,27 @@ unsafe extern "C" {
         frames_size: usize,
         length: *mut usize,
     ) -> u8;
+    pub fn rtcm2_season_start(report: *mut u8, report_size: usize) -> u8;
+    pub fn rtcm2_season_journal(
+        report: *mut u8,
+        report_size: usize,
+        bytes: *const u8,
+        bytes_size: usize,
+        used: *mut usize,
+    ) -> u8;
+    pub fn rtcm2_season_add(
+        first: *mut u8,
+        first_size: usize,
+        second: *const u8,
+        second_size: usize,
+    ) -> u8;
+    pub fn rtcm2_season_row(
+        report: *const u8,
+        report_size: usize,
+        index: usize,
+        row: *mut u8,
+        row_size: usize,
+    ) -> u8;
     pub fn rtcm2_prc_mm(scale: u8, prc: i16, stop: *mut u8, mm: *mut i32) -> u8;
     pub fn rtcm2_rrc_mm_s(scale: u8, rrc: i8, stop: *mut u8, mm_s: *mut i32) -> u8;
     pub fn rtcm2_stops(prc: i16, rrc: i8, stop: *mut u8) -> u8;

@@ -3,6 +3,7 @@
 mod generals;
 mod journals;
 mod observations;
+mod season;
 
 use crate::call::{Call, Function};
 use crate::place::Place;
@@ -47,6 +48,10 @@ pub fn answer(call: &mut Call) -> u64 {
         | Function::ReadGeneralNull => u64::from(generals::read(call)),
         Function::MakeGenerals => u64::from(generals::make(call)),
         Function::MakeGeneralNull => u64::from(generals::make_null(call)),
+        Function::SeasonStart
+        | Function::SeasonJournal
+        | Function::SeasonAdd
+        | Function::SeasonRow => u64::from(season::season(call)),
         Function::PrcMm | Function::RrcMmS | Function::UdreLimitMm | Function::Cn0Dbhz => {
             u64::from(number(call))
         }

@@ -30,7 +30,7 @@ const OF_NO_FILE: i32 = 0x02 | 0x20 | 0x4000;
 const SIZE: usize = (1 << 32) + USED;
 
 /// Bytes at the start that can be used.
-pub const USED: usize = 4096;
+pub const USED: usize = 16_384;
 
 /// The address space, and where it starts.
 pub struct Region(*mut u8);

@@ -12,6 +12,7 @@ pub mod numbers;
 pub mod observations;
 pub mod profile;
 pub mod records;
+pub mod season;
 pub mod state;
 pub mod words;
 

@@ -61,7 +61,7 @@ pub fn may_have(type_number: u16, wanted: Layout) -> bool {
 }
 
 /// The system whose satellites a frame speaks of.
-#[derive(Clone, Copy, Debug, PartialEq, Eq)]
+#[derive(Clone, Copy, Debug, PartialEq, Eq, Hash)]
 pub enum System {
     /// Types 1, 5 and 9.
     Gps,

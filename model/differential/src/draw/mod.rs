@@ -8,6 +8,8 @@ mod headed;
 mod journals;
 mod makers;
 mod readers;
+mod reports;
+mod season;
 mod states;
 
 use crate::call::{Call, Function};
@@ -34,11 +36,12 @@ impl Draw {
     /// The next call.
     pub fn call(&mut self) -> Call {
         let rng = &mut self.rng;
-        match rng.below(100) {
+        match rng.below(102) {
             0..=38 => self.readers.call(rng),
             39..=60 => frames::call(rng),
             61..=80 => makers::call(rng),
             81..=91 => journals::call(rng),
+            92 | 93 => season::call(rng),
             _ => number(rng),
         }
     }

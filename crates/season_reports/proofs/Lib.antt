@@ -1,0 +1,17 @@
+pub mod Integers
+pub mod RowLaws
+pub mod RightLaws
+pub mod RowCode
+pub mod SeenLaws
+pub mod TotalLaws
+pub mod PlaceLaws
+pub mod TableLaws
+pub mod SoundLaws
+pub mod RunLaws
+pub mod EndLaws
+pub mod GatherLaws
+pub mod LoopLaws
+pub mod JournalLaws
+pub mod BytesLaws
+pub mod ReadingLaws
+pub mod OutLaws
