@@ -15,8 +15,9 @@
  * them; rtcm2_take gives them beside it. "14, 15, 16, 15, 16" below is the order in which such a record is looked at:
  * no mark; the N byte missing; N over 31; cut short; N unequal to N of word 2, or a wrong preamble.
  *
- * Headers. Where a frame is made, its header comes as five numbers: type 1 to 64, station 0 to 1023, Z count 0 to 8191
- * (0.6 s each), sequence 0 to 7, health 0 to 7. One outside its range is 5.
+ * Headers. Where a frame is made, its header comes as five numbers: type 1 to 64 (`kind`), station 0 to 1023, Z count 0 to 8191
+ * (`z`, 0.6 s each), sequence 0 to 7, health 0 to 7. One outside its range is 5. The calls at the end of this file take them in
+ * a struct instead.
  *
  * Types. 1, 3, 5, 6, 9 and 16 are of GPS, 31, 32, 33, 34 and 36 of GLONASS. A call on a record takes the types of both:
  * corrections 1, 9, 31 and 34; position 3 and 32; health 5 and 33; null frame 6 and 34; text 16 and 36. A frame of type 34
@@ -36,6 +37,11 @@
 #ifdef __cplusplus
 extern "C" {
 #endif
+
+/* The version of this file and of the library that it is for: a text, and a number that grows, 10000 times the first part, 100
+ * times the second and the third. */
+#define RTCM2_VERSION "1.0.0"
+#define RTCM2_VERSION_NUMBER 10000
 
 /* The refusals. */
 enum {
@@ -128,14 +134,14 @@ uint8_t rtcm2_write(const uint8_t *frame, size_t frame_size, uint8_t *d29, uint8
 /* ---- Frames and their journal records. */
 
 /* Keeps a frame of any type: its header and its N data words, three bytes each with the highest bits first, 3N bytes in
- * `data`. The record is written at the start of `frame`. Refusals: 5 (also when `data` is no whole number of words or holds
- * over 31), 13. */
-uint8_t rtcm2_keep(uint8_t type, uint16_t station, uint16_t z, uint8_t sequence, uint8_t health, const uint8_t *data,
-                   size_t data_size, uint8_t *frame, size_t frame_size, size_t *length);
+ * `bytes`. The record is written at the start of `frame`. Refusals: 5 (also when `bytes` are no whole number of words or over
+ * 31), 13. */
+uint8_t rtcm2_keep(uint8_t kind, uint16_t station, uint16_t z, uint8_t sequence, uint8_t health, const uint8_t *bytes,
+                   size_t bytes_size, uint8_t *frame, size_t frame_size, size_t *length);
 
 /* Recalls the record at the start of `frame`: its header, N and its length, 3N + 9. The data words are the 3N bytes from the
  * tenth on. Refusals: 14, 15, 16, 15, 16. */
-uint8_t rtcm2_recall(const uint8_t *frame, size_t frame_size, uint8_t *type, uint16_t *station, uint16_t *z, uint8_t *sequence,
+uint8_t rtcm2_recall(const uint8_t *frame, size_t frame_size, uint8_t *kind, uint16_t *station, uint16_t *z, uint8_t *sequence,
                      uint8_t *health, uint8_t *n, size_t *length);
 
 /* ---- The journal that keeps the words. A record is the mark 0x52 0x34, one byte N, then each of the N + 2 words in four bytes:
@@ -167,7 +173,7 @@ uint8_t rtcm2_correction_at(const uint8_t *frame, size_t frame_size, size_t inde
 
 /* Makes a frame of 1 to 18 corrections, one after the other in `corrections`; the type says how the last byte of each is meant.
  * Refusals: 5, 6, 7, 12, 10, 13. */
-uint8_t rtcm2_make_corrections(uint8_t type, uint16_t station, uint16_t z, uint8_t sequence, uint8_t health,
+uint8_t rtcm2_make_corrections(uint8_t kind, uint16_t station, uint16_t z, uint8_t sequence, uint8_t health,
                                const uint8_t *corrections, size_t corrections_size, uint8_t *frame, size_t frame_size,
                                size_t *length);
 
@@ -179,11 +185,11 @@ uint8_t rtcm2_make_corrections(uint8_t type, uint16_t station, uint16_t z, uint8
 /* How many satellites the frame holds. Refusals: 14, 15, 16, 15, 16, then 6, 7, 8. */
 uint8_t rtcm2_count_healths(const uint8_t *frame, size_t frame_size, size_t *count);
 
-/* The health at `index`, from 0, to the start of `health`. Refusals: 14, 15, 16, 15, 16, then 6, 7, 8, 9, 13. */
-uint8_t rtcm2_health_at(const uint8_t *frame, size_t frame_size, size_t index, uint8_t *health, size_t health_size);
+/* The health at `index`, from 0, to the start of `bytes`. Refusals: 14, 15, 16, 15, 16, then 6, 7, 8, 9, 13. */
+uint8_t rtcm2_health_at(const uint8_t *frame, size_t frame_size, size_t index, uint8_t *bytes, size_t bytes_size);
 
 /* Makes a frame of 1 to 31 satellites' health, one after the other in `healths`. Refusals: 5, 6, 7, 12, 10, 13. */
-uint8_t rtcm2_make_healths(uint8_t type, uint16_t station, uint16_t z, uint8_t sequence, uint8_t health, const uint8_t *healths,
+uint8_t rtcm2_make_healths(uint8_t kind, uint16_t station, uint16_t z, uint8_t sequence, uint8_t health, const uint8_t *healths,
                            size_t healths_size, uint8_t *frame, size_t frame_size, size_t *length);
 
 /* ---- Raw observations, types 18 (phases of the carrier) and 19 (ranges). A head of frequency 0 to 3, smoothing 0 to 3 (in type 18
@@ -206,7 +212,7 @@ uint8_t rtcm2_observation_at(uint8_t edition, const uint8_t *frame, size_t frame
                              size_t observation_size);
 
 /* Makes a frame of 1 to 15 satellites, one after the other in `observations`. Refusals: 5 (the edition first), 6, 7, 12, 10, 13. */
-uint8_t rtcm2_make_observations(uint8_t edition, uint8_t type, uint16_t station, uint16_t z, uint8_t sequence, uint8_t health,
+uint8_t rtcm2_make_observations(uint8_t edition, uint8_t kind, uint16_t station, uint16_t z, uint8_t sequence, uint8_t health,
                                 uint8_t frequency, uint8_t smoothing, uint32_t time, const uint8_t *observations,
                                 size_t observations_size, uint8_t *frame, size_t frame_size, size_t *length);
 
@@ -248,7 +254,7 @@ uint8_t rtcm2_make_general_null(uint8_t kind, uint16_t station, uint16_t z, uint
 uint8_t rtcm2_read_position(const uint8_t *frame, size_t frame_size, int32_t *x_cm, int32_t *y_cm, int32_t *z_cm);
 
 /* Refusals: 5, 6, 7, 10, 13. */
-uint8_t rtcm2_make_position(uint8_t type, uint16_t station, uint16_t z, uint8_t sequence, uint8_t health, int32_t x_cm,
+uint8_t rtcm2_make_position(uint8_t kind, uint16_t station, uint16_t z, uint8_t sequence, uint8_t health, int32_t x_cm,
                             int32_t y_cm, int32_t z_cm, uint8_t *frame, size_t frame_size, size_t *length);
 
 /* ---- The null frame, types 6 and 34, with N 0 or 1: no data word or one. */
@@ -258,7 +264,7 @@ uint8_t rtcm2_read_null(const uint8_t *frame, size_t frame_size, uint8_t *n);
 
 /* Makes a null frame of `n` data words; a data word is filled with 10101010 three times. Refusals: 5, 6, 7, 12 (`n` over 1),
  * 13. */
-uint8_t rtcm2_make_null(uint8_t type, uint16_t station, uint16_t z, uint8_t sequence, uint8_t health, uint8_t n, uint8_t *frame,
+uint8_t rtcm2_make_null(uint8_t kind, uint16_t station, uint16_t z, uint8_t sequence, uint8_t health, uint8_t n, uint8_t *frame,
                         size_t frame_size, size_t *length);
 
 /* ---- Text, types 16 and 36: 1 to 90 characters, 1 to 127 in type 16, 1 to 191 in type 36. */
@@ -267,7 +273,7 @@ uint8_t rtcm2_make_null(uint8_t type, uint16_t station, uint16_t z, uint8_t sequ
 uint8_t rtcm2_read_text(const uint8_t *frame, size_t frame_size, uint8_t *text, size_t text_size, size_t *length);
 
 /* Refusals: 5, 6, 7, 12, 11, 13. */
-uint8_t rtcm2_make_text(uint8_t type, uint16_t station, uint16_t z, uint8_t sequence, uint8_t health, const uint8_t *text,
+uint8_t rtcm2_make_text(uint8_t kind, uint16_t station, uint16_t z, uint8_t sequence, uint8_t health, const uint8_t *text,
                         size_t text_size, uint8_t *frame, size_t frame_size, size_t *length);
 
 /* ---- The small-beacon profile of one harbour group: types 3, 5, 6, 9 and 16 alone, type 9 with at most three satellites, none of
@@ -280,7 +286,7 @@ uint8_t rtcm2_check_profile(const uint8_t *frame, size_t frame_size);
  * but the last, in their order. The first has the given sequence, each other one more than that before it, modulo 8. The frames
  * stand one after the other at the start of `frames`, `length` bytes in all. Refusals: 5, 6 (any type but 9), 7, 12, 10, 22 (one
  * satellite twice in all of them), 13. */
-uint8_t rtcm2_cut_corrections(uint8_t type, uint16_t station, uint16_t z, uint8_t sequence, uint8_t health,
+uint8_t rtcm2_cut_corrections(uint8_t kind, uint16_t station, uint16_t z, uint8_t sequence, uint8_t health,
                               const uint8_t *corrections, size_t corrections_size, uint8_t *frames, size_t frames_size,
                               size_t *length);
 
@@ -290,9 +296,9 @@ uint8_t rtcm2_cut_corrections(uint8_t type, uint16_t station, uint16_t z, uint8_
  * ask rtcm2_stops before `mm` is used. Refusal: 10 for a scale over 1. */
 uint8_t rtcm2_prc_mm(uint8_t scale, int16_t prc, uint8_t *stop, int32_t *mm);
 
-/* RRC in mm/s: `stop` is 1 for -128 (`mm_s` is then 0), else 0. This looks at RRC alone, and PRC -32768 stops the satellite
- * too: ask rtcm2_stops before `mm_s` is used. Refusal: 10 for a scale over 1. */
-uint8_t rtcm2_rrc_mm_s(uint8_t scale, int8_t rrc, uint8_t *stop, int32_t *mm_s);
+/* RRC in mm/s: `stop` is 1 for -128 (`rate` is then 0), else 0. This looks at RRC alone, and PRC -32768 stops the satellite
+ * too: ask rtcm2_stops before `rate` is used. Refusal: 10 for a scale over 1. */
+uint8_t rtcm2_rrc_mm_s(uint8_t scale, int8_t rrc, uint8_t *stop, int32_t *rate);
 
 /* Whether a correction says to stop using its satellite: `stop` is 1 for PRC -32768 or RRC -128, either by itself and in
  * either scale; else 0, and PRC and RRC both have values. No refusal. */
@@ -375,6 +381,140 @@ uint8_t rtcm2_season_add(uint8_t *first, size_t first_size, const uint8_t *secon
 
 /* The row at `index`, from 0, to the start of `row`. Refusals: 5, 9, 13. */
 uint8_t rtcm2_season_row(const uint8_t *report, size_t report_size, size_t index, uint8_t *row, size_t row_size);
+
+/* ---- Beside the library: nothing below is a function of librtcm2.a. Each of these is made of the calls above. */
+
+/* What an answer says, in a few words; a text also for a number that is no answer. */
+static inline const char *rtcm2_refusal_text(uint8_t answer)
+{
+    switch (answer) {
+    case 0: return "done";
+    case 1: return "a byte without top bits 01";
+    case 2: return "fed or ended while a frame waits";
+    case 3: return "fed or ended after the end";
+    case 4: return "no frame waits to be taken";
+    case 5: return "a value is outside its width, or the bytes are no state or report";
+    case 6: return "the frame is of another type";
+    case 7: return "the Z count is past the hour, 6000 to 8191";
+    case 8: return "N doesn't fit the type";
+    case 9: return "there is no entry of this number";
+    case 10: return "a field of the record is outside its range";
+    case 11: return "a forbidden character";
+    case 12: return "no entry, or too many";
+    case 13: return "the room lent is too short";
+    case 14: return "no journal mark";
+    case 15: return "the record is cut short";
+    case 16: return "N of the record is over 31 or not that of word 2, or the preamble is wrong";
+    case 17: return "a word was altered";
+    case 18: return "a new key, and all rows are in use";
+    case 19: return "a count would pass 4294967295";
+    case 20: return "the type is not of the profile";
+    case 21: return "more than three satellites in a frame of the profile";
+    case 22: return "one satellite twice";
+    case 23: return "the system is not GPS, GLONASS, QZSS or BeiDou";
+    default: return "no answer of the library";
+    }
+}
+
+/* A header by its five numbers. */
+struct rtcm2_header {
+    uint8_t kind;     /* the type, 1 to 64 */
+    uint16_t station; /* 0 to 1023 */
+    uint16_t z;       /* the Z count, 0 to 8191, 0.6 s each */
+    uint8_t sequence; /* 0 to 7 */
+    uint8_t health;   /* 0 to 7 */
+};
+
+/* rtcm2_keep of a header in a struct. */
+static inline uint8_t rtcm2_keep_from(struct rtcm2_header header, const uint8_t *bytes, size_t bytes_size, uint8_t *frame,
+                                      size_t frame_size, size_t *length)
+{
+    return rtcm2_keep(header.kind, header.station, header.z, header.sequence, header.health, bytes, bytes_size, frame,
+                      frame_size, length);
+}
+
+/* rtcm2_make_corrections of a header in a struct. */
+static inline uint8_t rtcm2_make_corrections_from(struct rtcm2_header header, const uint8_t *corrections,
+                                                  size_t corrections_size, uint8_t *frame, size_t frame_size, size_t *length)
+{
+    return rtcm2_make_corrections(header.kind, header.station, header.z, header.sequence, header.health, corrections,
+                                  corrections_size, frame, frame_size, length);
+}
+
+/* rtcm2_make_healths of a header in a struct. */
+static inline uint8_t rtcm2_make_healths_from(struct rtcm2_header header, const uint8_t *healths, size_t healths_size,
+                                              uint8_t *frame, size_t frame_size, size_t *length)
+{
+    return rtcm2_make_healths(header.kind, header.station, header.z, header.sequence, header.health, healths, healths_size,
+                              frame, frame_size, length);
+}
+
+/* rtcm2_make_observations of a header in a struct. */
+static inline uint8_t rtcm2_make_observations_from(uint8_t edition, struct rtcm2_header header, uint8_t frequency,
+                                                   uint8_t smoothing, uint32_t time, const uint8_t *observations,
+                                                   size_t observations_size, uint8_t *frame, size_t frame_size,
+                                                   size_t *length)
+{
+    return rtcm2_make_observations(edition, header.kind, header.station, header.z, header.sequence, header.health, frequency,
+                                   smoothing, time, observations, observations_size, frame, frame_size, length);
+}
+
+/* rtcm2_make_generals of a header in a struct. */
+static inline uint8_t rtcm2_make_generals_from(struct rtcm2_header header, uint8_t system, uint8_t signal, uint8_t ephemeris,
+                                               uint8_t period, uint8_t ionosphere, const uint8_t *generals,
+                                               size_t generals_size, uint8_t *frame, size_t frame_size, size_t *length)
+{
+    return rtcm2_make_generals(header.kind, header.station, header.z, header.sequence, header.health, system, signal,
+                               ephemeris, period, ionosphere, generals, generals_size, frame, frame_size, length);
+}
+
+/* rtcm2_make_general_null of a header in a struct. */
+static inline uint8_t rtcm2_make_general_null_from(struct rtcm2_header header, uint8_t n, uint8_t system, uint8_t *frame,
+                                                   size_t frame_size, size_t *length)
+{
+    return rtcm2_make_general_null(header.kind, header.station, header.z, header.sequence, header.health, n, system, frame,
+                                   frame_size, length);
+}
+
+/* rtcm2_make_position of a header in a struct. */
+static inline uint8_t rtcm2_make_position_from(struct rtcm2_header header, int32_t x_cm, int32_t y_cm, int32_t z_cm,
+                                               uint8_t *frame, size_t frame_size, size_t *length)
+{
+    return rtcm2_make_position(header.kind, header.station, header.z, header.sequence, header.health, x_cm, y_cm, z_cm, frame,
+                               frame_size, length);
+}
+
+/* rtcm2_make_null of a header in a struct. */
+static inline uint8_t rtcm2_make_null_from(struct rtcm2_header header, uint8_t n, uint8_t *frame, size_t frame_size,
+                                           size_t *length)
+{
+    return rtcm2_make_null(header.kind, header.station, header.z, header.sequence, header.health, n, frame, frame_size,
+                           length);
+}
+
+/* rtcm2_make_text of a header in a struct. */
+static inline uint8_t rtcm2_make_text_from(struct rtcm2_header header, const uint8_t *text, size_t text_size, uint8_t *frame,
+                                           size_t frame_size, size_t *length)
+{
+    return rtcm2_make_text(header.kind, header.station, header.z, header.sequence, header.health, text, text_size, frame,
+                           frame_size, length);
+}
+
+/* rtcm2_cut_corrections of a header in a struct. */
+static inline uint8_t rtcm2_cut_corrections_from(struct rtcm2_header header, const uint8_t *corrections,
+                                                 size_t corrections_size, uint8_t *frames, size_t frames_size, size_t *length)
+{
+    return rtcm2_cut_corrections(header.kind, header.station, header.z, header.sequence, header.health, corrections,
+                                 corrections_size, frames, frames_size, length);
+}
+
+/* rtcm2_recall to a header in a struct. */
+static inline uint8_t rtcm2_recall_to(const uint8_t *frame, size_t frame_size, struct rtcm2_header *header, uint8_t *n,
+                                      size_t *length)
+{
+    return rtcm2_recall(frame, frame_size, &header->kind, &header->station, &header->z, &header->sequence, &header->health, n,
+                        length);
+}
 
 #ifdef __cplusplus
 }

@@ -1,19 +1,20 @@
-/* Prints the corrections of a line from standard input, one a line: position of the frame, the two line bits before it,
+/* Prints the corrections of a line from standard input, one a line and each as soon as its frame has come: position of the frame, the two line bits before it,
  * station, Z count, system (GPS or GLO), satellite, PRC in mm, RRC in mm/s, UDRE limit in mm, and the IOD of GPS or change
  * bit/tb of GLONASS; then how many positions a word ruled out, with an odd and with an even remainder, and how many frames,
  * corrections and refused entries there were. A satellite that is not to be used has "stop" for PRC and RRC. An entry that
  * can't be read, a GLONASS one with a tb past the hour, gives a line with its number and the refusal's, and the program goes
  * on.
  *
- *   rt staticlib rtcm2
- *   cc -std=c11 -O2 -Wall -Wextra -Iinclude examples/c/corrections.c target/staticlib/librtcm2.a -o corrections
+ *   cc -std=c11 -O2 -Wall -Wextra examples/c/corrections.c $(pkg-config --cflags --libs rtcm2) -o corrections
  *   ./corrections < examples/stream.bin
  */
+#include <errno.h>
 #include <inttypes.h>
 #include <stdio.h>
 #include <stdlib.h>
+#include <unistd.h>
 
-#include "rtcm2.h"
+#include <rtcm2.h>
 
 /* What was printed so far. */
 struct totals {
@@ -34,7 +35,7 @@ struct frame {
 static void check(uint8_t answer, const char *call)
 {
     if (answer != RTCM2_OK) {
-        fprintf(stderr, "corrections: %s answered %u\n", call, (unsigned)answer);
+        fprintf(stderr, "corrections: %s answered %u: %s\n", call, (unsigned)answer, rtcm2_refusal_text(answer));
         exit(1);
     }
 }
@@ -56,22 +57,22 @@ static void print_values(uint8_t scale, int16_t prc, int8_t rrc)
 }
 
 /* Whether corrections of this type are for GLONASS satellites. */
-static int is_glonass(uint8_t type)
+static int is_glonass(uint8_t kind)
 {
-    return type == 31 || type == 34;
+    return kind == 31 || kind == 34;
 }
 
 /* The last eight bits: the IOD, or the change bit and the seven bits of tb. */
-static void print_issue(uint8_t type, uint8_t issue)
+static void print_issue(uint8_t kind, uint8_t issue)
 {
-    if (is_glonass(type))
+    if (is_glonass(kind))
         printf(" %u/%u\n", (unsigned)issue / 128, (unsigned)issue % 128);
     else
         printf(" %u\n", (unsigned)issue);
 }
 
 /* The values of a correction of RTCM2_CORRECTION_SIZE bytes. */
-static void print_correction(const uint8_t *correction, uint8_t type, uint8_t health)
+static void print_correction(const uint8_t *correction, uint8_t kind, uint8_t health)
 {
     uint8_t scale = correction[0], udre = correction[1], satellite = correction[2], issue = correction[6];
     int16_t prc = (int16_t)(correction[3] | correction[4] << 8);
@@ -86,7 +87,7 @@ static void print_correction(const uint8_t *correction, uint8_t type, uint8_t he
         printf(" %" PRIu32, limit);
     else
         printf(" none");
-    print_issue(type, issue);
+    print_issue(kind, issue);
 }
 
 /* How many corrections a frame holds: none for another type, a Z count past the hour, or an N that doesn't fit, which a null
@@ -105,24 +106,24 @@ static size_t count_corrections(const struct frame *frame)
 /* A line for each correction of a frame, and for each entry with a number out of its range. */
 static void print_frame(const struct frame *frame, struct totals *totals)
 {
-    uint8_t type, sequence, health, n;
-    uint16_t station, z;
+    struct rtcm2_header header;
+    uint8_t n;
     size_t length, count = count_corrections(frame);
 
-    check(rtcm2_recall(frame->record, frame->length, &type, &station, &z, &sequence, &health, &n, &length), "rtcm2_recall");
+    check(rtcm2_recall_to(frame->record, frame->length, &header, &n, &length), "rtcm2_recall");
     for (size_t i = 0; i < count; i++) {
         uint8_t correction[RTCM2_CORRECTION_SIZE];
         uint8_t answer = rtcm2_correction_at(frame->record, frame->length, i, correction, sizeof correction);
 
         printf("%" PRIu32 " %u%u", frame->at, (unsigned)frame->d29, (unsigned)frame->d30);
-        printf(" %u %u %s", (unsigned)station, (unsigned)z, is_glonass(type) ? "GLO" : "GPS");
+        printf(" %u %u %s", (unsigned)header.station, (unsigned)header.z, is_glonass(header.kind) ? "GLO" : "GPS");
         if (answer == RTCM2_FIELD) {
             printf(" entry %zu refused %u\n", i, (unsigned)answer);
             totals->refused++;
             continue;
         }
         check(answer, "rtcm2_correction_at");
-        print_correction(correction, type, health);
+        print_correction(correction, header.kind, header.health);
         totals->corrections++;
     }
     totals->frames++;
@@ -143,7 +144,7 @@ static void take_all(uint8_t *state, struct totals *totals)
     }
 }
 
-/* Feeds bytes of the line, taking every frame as soon as it waits. */
+/* Feeds bytes of the line, taking every frame as soon as it waits. What was printed can be read before more of the line is. */
 static void feed(uint8_t *state, const uint8_t *bytes, size_t size, struct totals *totals)
 {
     while (size > 0) {
@@ -154,6 +155,18 @@ static void feed(uint8_t *state, const uint8_t *bytes, size_t size, struct total
         bytes += used;
         size -= used;
     }
+    fflush(stdout);
+}
+
+/* Some bytes of standard input, as many as have come: a slow line is not waited for. None at its end, -1 where it can't be read. */
+static ssize_t read_some(uint8_t *bytes, size_t room)
+{
+    ssize_t size;
+
+    do
+        size = read(STDIN_FILENO, bytes, room);
+    while (size < 0 && errno == EINTR);
+    return size;
 }
 
 int main(void)
@@ -161,15 +174,13 @@ int main(void)
     uint8_t state[RTCM2_STATE_SIZE], bytes[4096];
     struct totals totals = {0, 0, 0};
     uint32_t odd, even;
-    size_t size;
+    ssize_t size;
 
     check(rtcm2_start(state, sizeof state), "rtcm2_start");
-    while ((size = fread(bytes, 1, sizeof bytes, stdin)) > 0)
-        feed(state, bytes, size, &totals);
-    if (ferror(stdin)) {
+    while ((size = read_some(bytes, sizeof bytes)) > 0)
+        feed(state, bytes, (size_t)size, &totals);
+    if (size < 0)
         perror("corrections: standard input");
-        return 1;
-    }
     check(rtcm2_end(state, sizeof state), "rtcm2_end");
     take_all(state, &totals);
     check(rtcm2_counts(state, sizeof state, &odd, &even), "rtcm2_counts");
@@ -179,5 +190,5 @@ int main(void)
         perror("corrections: standard output");
         return 1;
     }
-    return 0;
+    return size < 0;
 }
