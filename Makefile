@@ -10,7 +10,7 @@ MANUAL = target/man
 VERSION := $(shell sed -n 's/^\#define RTCM2_VERSION "\(.*\)"$$/\1/p' include/rtcm2.h)
 TO = $(DESTDIR)$(PREFIX)
 
-.PHONY: all command install uninstall
+.PHONY: all command install uninstall python
 
 all: command
 
@@ -33,3 +33,6 @@ install: command
 uninstall:
 	rm -f "$(TO)/bin/rtcm2" "$(TO)/lib/librtcm2.a" "$(TO)/include/rtcm2.h" "$(TO)/lib/pkgconfig/rtcm2.pc"
 	rm -f "$(TO)"/share/man/man1/rtcm2.1 "$(TO)"/share/man/man1/rtcm2-*.1
+
+python: $(LIBRARY)
+	python/shared

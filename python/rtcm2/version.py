@@ -1,0 +1,3 @@
+"""The version of the package; CHANGELOG.md says what each has."""
+
+VERSION = "1.0.0"
