@@ -1,3 +1,4 @@
 pub mod StoreLaws
 pub mod DigitLaws
+pub mod MagnitudeLaws
 pub mod PutLaws

@@ -2,6 +2,7 @@
 use mathlib.Core.Bool.{cond}
 use mathlib.Core.List.{List, [], _∷_, _++_}
 use Prim.Native.Nat.{ℕ, zero, suc, _+_, _/_, _%_}
+use lib.IntN.{ℤ, pos, negsuc}
 use lib.Dec.{ltb}
 use lib.ListN.{length}
 use lib.Seq.{sets}
@@ -10,6 +11,11 @@ use Rattle.printing.specs.declared.Printed.{Printed}
 use Rattle.printing.specs.declared.Printed.the-variants.{At, Refused}
 
 -- ---- a number
+
+-- how far a signed number is from 0
+abbrev pub magnitudeOf : ℤ → ℕ
+magnitudeOf (pos n) = n
+magnitudeOf (negsuc k) = suc k
 
 -- the last k decimal digits, the highest first
 unfoldable pub lastDigits : ℕ → ℕ → List ℕ

@@ -1,16 +1,26 @@
-// Numbers as text, in ASCII, put into a lent buffer: alone or behind a label.
+// Numbers as text, in ASCII, put into a lent buffer: alone or behind a label; and of a signed number what stands behind its sign.
 ghost use mathlib.Core.Path.{_≡_};
 ghost use mathlib.Core.List.{_++_};
 ghost use Prim.Native.Nat.{_+_, _≤_};
 ghost use lib.Dec.{ltb};
 ghost use lib.ListN.{length};
 ghost use lib.Seq.{sets};
-ghost use Rattle.printing.specs.Printing.{lastDigits, digitsUpTo, decimal, printedBy, printedTo};
+ghost use Rattle.printing.specs.Printing.{magnitudeOf, lastDigits, digitsUpTo, decimal, printedBy, printedTo};
 
 // What putting text into a buffer answers: the place after the text, or the refusal's number.
 pub enum Printed {
     At(usize),
     Refused(u8),
+}
+
+// How far a signed number is from 0.
+pub fn magnitude(z: i64) -> u64
+    ensures { λ r. ⌜ r ≡ magnitudeOf z ⌝ }
+{
+    if z < 0 {
+        return (-1 - z) as u64 + 1;
+    }
+    z as u64
 }
 
 // How many digits a number has.

@@ -19,6 +19,7 @@ stream-calls = record {
   put-frame = record { asks-nothing = λ κs a. tt; settles = λ κs a z e p. p .0; leaves = λ κs a z e p. p .1; ends = journal.put_frame.Met.met };
   keep = record { asks-nothing = λ κs a. tt; settles = λ κs a z e p. p .0; leaves = λ κs a z e p. p .1; ends = journal.keep.Met.met };
   recall = record { asks-nothing = λ κs a. tt; settles = λ κs a z e p. p; ends = journal.recall.Met.met };
+  magnitude = record { asks-nothing = λ κs a. tt; settles = λ κs a z e p. p; ends = printing.magnitude.Met.met };
   put-number = record { asks-nothing = λ κs a. tt; settles = λ κs a z e p. p .0; leaves = λ κs a z e p. p .1; ends = printing.put_number.Met.met };
   put-labelled = record { asks-nothing = λ κs a. tt; settles = λ κs a z e p. p .0; leaves = λ κs a z e p. p .1; ends = printing.put_labelled.Met.met };
   listing-new = record { asks-nothing = λ κs a. tt; settles = λ κs a z e p. p; ends = listing.new.Met.met };

@@ -5,7 +5,7 @@ use denote.Ref.{now}
 use Rattle.reader.specs.Reading.{started, pastOf, fedBy, fedAllBy, endedBy, takenBy}
 use Rattle.writer.specs.Answer.{openedBy, openedTo, writtenBy, writtenTo}
 use Rattle.journal.specs.Journal.{recordedBy, recordedTo, keptBy, heldBy, recalledBy}
-use Rattle.printing.specs.Printing.{decimal, printedBy, printedTo}
+use Rattle.printing.specs.Printing.{magnitudeOf, decimal, printedBy, printedTo}
 use Rattle.listing.specs.Listing.{begun, pieceBy, pieceText, finishBy, finishText, linePut, lineTo}
 use Rattle.reader.proofs.new as reader-new
 use Rattle.reader.proofs.feed
@@ -18,6 +18,7 @@ use Rattle.writer.proofs.write
 use Rattle.journal.proofs.put_frame
 use Rattle.journal.proofs.keep
 use Rattle.journal.proofs.recall
+use Rattle.printing.proofs.magnitude
 use Rattle.printing.proofs.put_number
 use Rattle.printing.proofs.put_labelled
 use Rattle.listing.proofs.new as listing-new
@@ -57,6 +58,8 @@ pub record StreamCalls : Type 2 where
   pub recall : Answered recall.Reads.Asked recall.Reads.Learnt recall.Statement.statement
       (λ κs (bytes, _). recalledBy (now bytes))
   -- printing
+  pub magnitude : Answered magnitude.Reads.Asked magnitude.Reads.Learnt magnitude.Statement.statement
+      (λ κs (z, _). magnitudeOf z)
   pub put-number : AnsweredLent put_number.Reads.Asked put_number.Reads.Learnt put_number.Statement.statement
       (λ κs (n, (place, (buffer, _))). printedBy (decimal n) place (now buffer))
       (λ κs (_, (_, (buffer, _))). now buffer) (λ κs (n, (place, (buffer, _))). printedTo (decimal n) place (now buffer))

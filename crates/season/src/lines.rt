@@ -2,7 +2,6 @@
 use crate::sums::Amount;
 use crate::sums::is_less;
 use crate::sums::less;
-use crate::sums::magnitude;
 use crate::sums::totals_of;
 use frame::System;
 use libc::STDOUT_FILENO;
@@ -27,7 +26,7 @@ fn print_signed(z: i64) {
     if z < 0 {
         print(b"-");
     }
-    io::print_decimal(STDOUT_FILENO, magnitude(z));
+    io::print_decimal(STDOUT_FILENO, printing::magnitude(z));
 }
 
 // Writes the name of a system.

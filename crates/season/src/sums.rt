@@ -23,14 +23,6 @@ pub(crate) struct Totals {
     pub below: Amount,
 }
 
-// How far a number is from 0.
-pub(crate) fn magnitude(z: i64) -> u64 {
-    if z < 0 {
-        return std::num::wrapping_add_u64((-1 - z) as u64, 1);
-    }
-    z as u64
-}
-
 // An amount and a number more.
 fn more(amount: Amount, n: u64) -> Amount
     requires { ⌜ (amount .billions < 2 ^ 50) × (amount .rest < 1000000000) ⌝ }
@@ -102,7 +94,7 @@ fn with_row(totals: Totals, i: usize, row: Row) -> Totals
     ensures { λ r. ⌜ (r .below .rest < 1000000000) × (r .below .billions ≤ (i + 1) * 2 ^ 35) ⌝ }
 {
     let is_below = row.sum < 0;
-    let size = magnitude(row.sum);
+    let size = printing::magnitude(row.sum);
     let above = totals.above;
     let below = totals.below;
     let first = totals.extremes;

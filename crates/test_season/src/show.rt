@@ -10,21 +10,13 @@ use test_vectors::print;
 use test_vectors::print_number;
 use test_vectors::print_signed;
 
-// How far a number is from 0.
-fn magnitude(z: i64) -> u64 {
-    if z < 0 {
-        return std::num::wrapping_add_u64((-1 - z) as u64, 1);
-    }
-    z as u64
-}
-
 // Writes a sum behind its name.
 fn print_sum(sum: i64) {
     print(b", sum ");
     if sum < 0 {
         print(b"-");
     }
-    io::print_decimal(STDOUT_FILENO, magnitude(sum));
+    io::print_decimal(STDOUT_FILENO, printing::magnitude(sum));
 }
 
 // Writes the number of a system.
