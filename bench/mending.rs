@@ -1,5 +1,9 @@
 // Mends two journals of about nine million bytes by the library's rtcm2_mend, step after step, and prints millions of bytes a second of each, the best
 // of so many runs: three sound records over and over, and the same with one turned bit in each. Argument: how often.
+mod clock;
+
+use clock::now;
+
 const REPORT: usize = 986;
 const LONGEST: usize = 135;
 
@@ -21,20 +25,6 @@ extern "C" {
         read: &mut usize,
         written: &mut usize,
     ) -> u8;
-    fn clock_gettime(clock: i32, time: &mut Time) -> i32;
-}
-
-#[repr(C)]
-struct Time {
-    seconds: i64,
-    nanoseconds: i64,
-}
-
-// Processor time of this process, in seconds.
-fn now() -> f64 {
-    let mut time = Time { seconds: 0, nanoseconds: 0 };
-    assert_eq!(unsafe { clock_gettime(2, &mut time) }, 0);
-    time.seconds as f64 + time.nanoseconds as f64 / 1e9
 }
 
 // Mends a journal in place; how many records were whole.

@@ -2,6 +2,9 @@
 // each of the two handed out, millions of bytes a second of each, and nanoseconds a byte of the library fed byte by byte, with a taking after each.
 // Compiled with `other`, it has another build of the library in the turns too, whose names begin with `other_`, and prints its two speeds behind.
 // Arguments: the folder of the streams, how often (byte by byte an eighth of that), the streams' names.
+mod clock;
+
+use clock::now;
 use rtcm2_model::reader::Reader;
 use std::path::Path;
 
@@ -50,23 +53,6 @@ macro_rules! calls {
 calls!(library, "rtcm2_start", "rtcm2_feed", "rtcm2_feed_all", "rtcm2_end", "rtcm2_take");
 #[cfg(other)]
 calls!(other, "other_rtcm2_start", "other_rtcm2_feed", "other_rtcm2_feed_all", "other_rtcm2_end", "other_rtcm2_take");
-
-extern "C" {
-    fn clock_gettime(clock: i32, time: &mut Time) -> i32;
-}
-
-#[repr(C)]
-struct Time {
-    seconds: i64,
-    nanoseconds: i64,
-}
-
-// Processor time of this process, in seconds: what others do on the machine counts for little.
-fn now() -> f64 {
-    let mut time = Time { seconds: 0, nanoseconds: 0 };
-    assert_eq!(unsafe { clock_gettime(2, &mut time) }, 0);
-    time.seconds as f64 + time.nanoseconds as f64 / 1e9
-}
 
 // A reader's state in lent bytes, the place of a frame's record, and how many frames came out so far.
 struct Line {

@@ -1,6 +1,10 @@
 // Adds journals that lie in memory to a report by the library's rtcm2_season_journal, in pieces of 64 kB of which what is not used is carried over,
 // and prints millions of entries a second of each, the best of so many runs: the journal of a harbour with ten stations of both systems, and one
 // whose entries use all 512 rows. Argument: how often.
+mod clock;
+
+use clock::now;
+
 const REPORT: usize = 14852;
 const ROW: usize = 29;
 const PIECE: usize = 65536;
@@ -8,20 +12,6 @@ const PIECE: usize = 65536;
 extern "C" {
     fn rtcm2_season_start(report: *mut u8, report_size: usize) -> u8;
     fn rtcm2_season_journal(report: *mut u8, report_size: usize, bytes: *const u8, bytes_size: usize, used: &mut usize) -> u8;
-    fn clock_gettime(clock: i32, time: &mut Time) -> i32;
-}
-
-#[repr(C)]
-struct Time {
-    seconds: i64,
-    nanoseconds: i64,
-}
-
-// Processor time of this process, in seconds.
-fn now() -> f64 {
-    let mut time = Time { seconds: 0, nanoseconds: 0 };
-    assert_eq!(unsafe { clock_gettime(2, &mut time) }, 0);
-    time.seconds as f64 + time.nanoseconds as f64 / 1e9
 }
 
 // A record that keeps the data of a frame of corrections, with an entry of 40 bits for each satellite: scale 0, UDRE 1, PRC, RRC 2, and 77.
