@@ -117,7 +117,14 @@ fn journal() -> Command {
                         .long("append")
                         .action(ArgAction::SetTrue)
                         .requires("output")
-                        .help("Write on at the end of a file that is there"),
+                        .help("Write on at the end of a file that is there, if all its records are read"),
+                )
+                .arg(
+                    Arg::new("trim")
+                        .long("trim")
+                        .action(ArgAction::SetTrue)
+                        .requires("append")
+                        .help("Cut off a record at the end of that file that is cut short, as a lost supply leaves it"),
                 )
                 .arg(form("form", "What is kept of a frame: its words, or their data alone").default_value("words")),
         )

@@ -1,5 +1,6 @@
 //! `journal keep`, `show`, `move` and `mend`.
 
+use crate::append::{make_ready, Append};
 use crate::fault::{Fault, Outcome, Verdict};
 use crate::input::{open, Lines};
 use crate::list::frame_line;
@@ -36,9 +37,13 @@ impl Taker for Keeping {
 }
 
 /// Keeps every frame of every line before more of the line is read.
-pub fn keep(mut lines: Lines, form: Form, output: Option<&Path>, append: bool) -> Outcome {
+pub fn keep(mut lines: Lines, form: Form, output: Option<&Path>, append: Append) -> Outcome {
     let mut line = lines.next_line()?;
-    let mut keeping = Keeping { keeper: Keeper::new(output, append)?, form, records: Vec::new() };
+    if let Some(path) = output {
+        make_ready(path, append)?;
+    }
+    let keeper = Keeper::new(output, append != Append::Never)?;
+    let mut keeping = Keeping { keeper, form, records: Vec::new() };
     while let Some(mut open) = line {
         let ended = each_frame(&mut open, &mut keeping)?;
         lines.after(&open.name, ended.bytes, ended.read)?;

@@ -2,6 +2,7 @@
 
 #![forbid(unsafe_code)]
 
+pub mod append;
 pub mod clock;
 pub mod command;
 pub mod fault;
@@ -20,6 +21,7 @@ pub mod stream;
 pub mod units;
 pub mod watch;
 
+use append::Append;
 use clap::ArgMatches;
 use fault::{Fault, Outcome, Verdict};
 use input::{Lines, Source};
@@ -50,7 +52,7 @@ fn journal_command(given: &ArgMatches) -> Outcome {
     let output = |given: &ArgMatches| given.get_one::<PathBuf>("output").cloned();
     match given.subcommand() {
         Some(("keep", given)) => {
-            journal::keep(lines(given, false), form(given, "form"), output(given).as_deref(), given.get_flag("append"))
+            journal::keep(lines(given, false), form(given, "form"), output(given).as_deref(), append(given))
         }
         Some(("show", given)) => journal::show(path(given, "journal")),
         Some(("move", given)) => journal::move_to(form(given, "to"), path(given, "journal"), output(given).as_deref()),
@@ -102,6 +104,14 @@ fn form(given: &ArgMatches, name: &str) -> Form {
     match given.get_one::<String>(name).map(String::as_str) {
         Some("data") => Form::Data,
         _ => Form::Words,
+    }
+}
+
+fn append(given: &ArgMatches) -> Append {
+    match (given.get_flag("append"), given.get_flag("trim")) {
+        (false, _) => Append::Never,
+        (true, false) => Append::Whole,
+        (true, true) => Append::Trimmed,
     }
 }
 
