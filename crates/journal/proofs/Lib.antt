@@ -7,5 +7,6 @@ pub mod DataLaws
 pub mod PutLaws
 pub mod KeepLaws
 pub mod LiveLaws
+pub mod EitherLaws
 pub mod RoundTrip
 pub mod WordsTrip

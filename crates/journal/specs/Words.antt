@@ -1,6 +1,7 @@
 -- The journal that keeps the words. A record is its mark, N, and four bytes for each of the N + 2 words: the two carried bits before it, then its
--- thirty, the first sent highest: 4N + 11 bytes. Keeping refuses in the order 5, 13; recalling in the order 14, 15, 16, 15, 16, 17. Assumes nothing.
-use mathlib.Core.Bool.{Bool, false, not, _||_}
+-- thirty, the first sent highest: 4N + 11 bytes. Keeping refuses in the order 5, 13; recalling in the order 14, 15, 16, 15, 16, 17. And recalling a
+-- record of either form. Assumes nothing.
+use mathlib.Core.Bool.{Bool, false, cond, not, _||_}
 use mathlib.Core.List.{List, [], _∷_, _++_, map}
 use Prim.Native.Nat.{ℕ, _+_, _*_, _/_, _%_, _^_}
 use lib.Dec.{ltb, eqb}
@@ -14,7 +15,7 @@ use Rattle.frame.specs.Widths.{outside}
 use Rattle.frame.specs.declared.Carried.{Carried}
 use Rattle.frame.specs.declared.Frame.{Frame}
 use Rattle.journal.specs.Forms.{recordWith, nByte, wordsAfter, startOrder}
-use Rattle.journal.specs.Journal.{dataOrder, refusedRecall}
+use Rattle.journal.specs.Journal.{dataOrder, refusedRecall, recallOrder, recalledBy}
 use Rattle.journal.specs.declared.Kept.{Kept}
 use Rattle.journal.specs.declared.Kept.the-variants as kept
 use Rattle.journal.specs.declared.Found.the-variants as found
@@ -91,3 +92,17 @@ recalledWords bs = inOrder (recallWordsOrder bs) refusedRecall (foundWords (nByt
 -- its part once the record is known to be whole
 abbrev pub liveIn : ℕ → List ℕ → Recalled
 liveIn n vs = inOrder (liveOrder n vs) refusedRecall (foundWords n vs)
+
+-- ---- either form
+
+-- the form of a record: one with the mark 0x52 0x34 keeps the words, any other is read as data
+abbrev pub keepsWords : List ℕ → Bool
+keepsWords bs = eqb (getD bs 1 0) 0x34
+
+-- that of the form; 17 is of words alone
+abbrev pub recallEitherOrder : List ℕ → List Check
+recallEitherOrder bs = cond (keepsWords bs) (recallWordsOrder bs) (recallOrder bs ++ ((false, 17) ∷ []))
+
+-- RECALL EITHER: the record at the start of the bytes, by its form
+abbrev pub recalledEither : List ℕ → Recalled
+recalledEither bs = cond (keepsWords bs) (recalledWords bs) (recalledBy bs)

@@ -10,7 +10,7 @@ ghost use lib.Seq.{sets};
 ghost use Rattle.journal.specs.Bytes.{written, wordsFrom};
 ghost use Rattle.journal.specs.Forms.{recordWith};
 ghost use Rattle.journal.specs.Journal.{recordedBy, recordedTo, keptBy, heldBy, refusedRecall, frameIn, recalledBy};
-ghost use Rattle.journal.specs.Words.{keptWords, heldWords, recalledWords};
+ghost use Rattle.journal.specs.Words.{keptWords, heldWords, recalledWords, recalledEither};
 use crate::form::Start;
 use crate::form::put_start;
 use crate::form::put_word;
@@ -191,4 +191,17 @@ pub fn recall_words(bytes: &[u8]) -> Recalled
         Start::N(n) => live_in(n, bytes),
         Start::Refused(number) => refusal(number),
     }
+}
+
+// Recalls the record of either form at the start of the bytes, by its mark; what follows it is ignored. Order 14, 15, 16, 15, 16, 17.
+pub fn recall_either(bytes: &[u8]) -> Recalled
+    ensures { λ r. ⌜ r ≡ recalledEither (now (bytes .entry)) ⌝ }
+{
+    if bytes.len() < 2 {
+        return recall(bytes);
+    }
+    if bytes[1] == WORDS {
+        return recall_words(bytes);
+    }
+    recall(bytes)
 }

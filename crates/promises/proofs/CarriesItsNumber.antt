@@ -2,7 +2,7 @@
 use mathlib.Core.Path.{_≡_, refl, sym, subst, _∙_}
 use mathlib.Core.Bool.{Bool, true, false, not, cond}
 use mathlib.Core.Logic.{_⊎_, inl, inr}
-use mathlib.Core.List.{List, [], _∷_}
+use mathlib.Core.List.{List, [], _∷_, _++_}
 use Prim.Native.Nat.{ℕ, _*_}
 use native.Mathlib.Omega.{arith}
 use lib.ListN.{getD}
@@ -30,7 +30,8 @@ use Rattle.reader.specs.declared.Taken.{Taken}
 use Rattle.writer.specs.Answer.{saysOpened, saysWritten}
 use Rattle.writer.specs.declared.Opened.the-variants as opened
 use Rattle.writer.specs.declared.Written.the-variants as written
-use Rattle.journal.specs.Journal.{refusedRecall, saysKept, saysRecalled}
+use Rattle.journal.specs.Journal.{refusedRecall, recallOrder, recalledBy, saysKept, saysRecalled}
+use Rattle.journal.specs.Words.{recallWordsOrder, recalledWords, keepsWords}
 use Rattle.journal.specs.declared.Kept.the-variants as kept
 use Rattle.journal_moves.specs.Moving.{saysMoved}
 use Rattle.journal_moves.specs.declared.Moved.the-variants as moved
@@ -103,6 +104,13 @@ told : {A X : Type 0} {numbers : List ℕ} {cs : List Check} (says : X → Says 
     → checkNumbers cs ≡ numbers → anyOf outsideTable numbers ≡ false → Ordered numbers cs (says (inOrder cs refuse answer))
 told {cs} says refuse answer value e numbered table = ordered cs value (order-map says cs refuse answer ∙ e) numbered table
 
+-- a record of either form, by its form
+either-told : (bs : List ℕ) (words : Bool)
+    → Ordered (14 ∷ 15 ∷ 16 ∷ 15 ∷ 16 ∷ 16 ∷ 17 ∷ []) (cond words (recallWordsOrder bs) (recallOrder bs ++ ((false, 17) ∷ [])))
+    (saysRecalled (cond words (recalledWords bs) (recalledBy bs)))
+either-told bs true = told saysRecalled refusedRecall _ _ refl refl refl
+either-told bs false = told saysRecalled refusedRecall _ _ refl refl refl
+
 -- the numbers of making are of the table, for every layout
 entry-numbered : (l : Layout) → anyOf outsideTable (5 ∷ 6 ∷ 7 ∷ 12 ∷ entryRefusal l ∷ []) ≡ false
 entry-numbered l = go (eqb (layoutNumber l) (layoutNumber layout.Text))
@@ -152,6 +160,7 @@ carries-its-number = record {
   recall = λ bs. told saysRecalled refusedRecall _ _ refl refl refl;
   keep-words = λ f buffer. told saysKept kept.Refused _ _ refl refl refl;
   recall-words = λ bs. told saysRecalled refusedRecall _ _ refl refl refl;
+  recall-either = λ bs. either-told bs (keepsWords bs);
   renew = λ bs room. told saysMoved moved.Refused _ _ refl refl refl;
   restore = λ bs room. told saysMoved moved.Refused _ _ refl refl refl;
   six-of = λ b. told saysSix six.Refused _ _ refl refl refl;

@@ -1,5 +1,6 @@
 -- What a refusal leaves is the argument itself, and an answer's bytes stand before the rest of the buffer: two laws over any order. Assumes nothing.
 use mathlib.Core.Path.{_≡_, refl, sym, ap, subst, _∙_}
+use mathlib.Core.Bool.{Bool, true, false, cond}
 use mathlib.Core.List.{List, [], _∷_, _++_, append-assoc}
 use Prim.Native.Nat.{ℕ, _+_, _*_, _/_, _≤_}
 use native.Mathlib.Omega.{arith}
@@ -22,13 +23,13 @@ use Rattle.writer.specs.Answer.{over, lead, saysOpened, saysWritten}
 use Rattle.writer.proofs.Bytes.{length-bytes}
 use Rattle.writer.specs.declared.Opened.the-variants as opened
 use Rattle.writer.specs.declared.Written.the-variants as written
-use Rattle.journal.specs.Journal.{recordOf, saysKept}
+use Rattle.journal.specs.Journal.{recordOf, recalledBy, saysKept, saysRecalled}
 use Rattle.journal.specs.Journal.{refusedRecall as unrecalled}
 use Rattle.journal.specs.declared.Recalled.{Recalled}
 use Rattle.journal.specs.declared.Kept.the-variants as kept
 use Rattle.journal.proofs.KeepLaws.{length-record}
 use Rattle.journal.proofs.LiveLaws.{length-live}
-use Rattle.journal.specs.Words.{wordsRecord}
+use Rattle.journal.specs.Words.{wordsRecord, recalledWords, keepsWords}
 use Rattle.journal_moves.specs.Moving.{otherRecord, movedBy, saysMoved}
 use Rattle.journal_moves.specs.declared.Moved.{Moved}
 use Rattle.journal_moves.specs.declared.Moved.the-variants as moved
@@ -119,6 +120,12 @@ changes-neither = record {
   finish-output = λ l out. keeps (carries-its-number .finish l (length out)) (λ b. b) (λ n. out) _ _ (λ n. refl);
 }
 
+-- a record of either form, by its form
+either-alone : (bs : List ℕ) (words : Bool)
+    → Keeps (saysRecalled (cond words (recalledWords bs) (recalledBy bs))) (cond words (recalledWords bs) (recalledBy bs) .frame) blank
+either-alone bs true = keeps (carries-its-number .recall-words bs) (λ (x : Recalled). x .frame) unrecalled _ _ (λ n. refl)
+either-alone bs false = keeps (carries-its-number .recall bs) (λ (x : Recalled). x .frame) unrecalled _ _ (λ n. refl)
+
 pub number-alone : NumberAlone
 unfolding fedAllBy takenBy makeCorrections makeHealths makeObservations makeGenerals makeGeneralNull makePosition makeNull makeText cutCorrections refusedMade
     refusedCut pieceBy finishBy
@@ -129,6 +136,7 @@ number-alone = record {
   reader-take = λ r. keeps (carries-its-number .reader-take r) (λ (x : Taken). (x .at, x .frame)) (taken-none r) _ _ (λ n. refl);
   recall = λ bs. keeps (carries-its-number .recall bs) (λ (x : Recalled). x .frame) unrecalled _ _ (λ n. refl);
   recall-words = λ bs. keeps (carries-its-number .recall-words bs) (λ (x : Recalled). x .frame) unrecalled _ _ (λ n. refl);
+  recall-either = λ bs. either-alone bs (keepsWords bs);
   make-corrections = λ h es c. keeps (carries-its-number .make-corrections h es c) (λ (x : Made). x .frame) refusedMade _ _ (λ n. refl);
   make-observations = λ e h a os c. keeps (carries-its-number .make-observations e h a os c) (λ (x : Made). x .frame) refusedMade _ _ (λ n. refl);
   make-generals = λ h a gs c. keeps (carries-its-number .make-generals h a gs c) (λ (x : Made). x .frame) refusedMade _ _ (λ n. refl);

@@ -21,6 +21,7 @@ use Rattle.frame.specs.declared.Layout.the-variants as layout
 use Rattle.frame.proofs.WidthLaws.{both-false}
 use Rattle.journal.specs.declared.Found.{Found}
 use Rattle.journal.specs.declared.Found.the-variants as found
+use Rattle.journal.specs.Words.{recalledEither}
 use Rattle.record_fields.specs.Coding.{entryIn, frameBits, Each}
 use Rattle.record_stages.specs.Stages.{entryOrder}
 use Rattle.record_stages.specs.declared.Count.{Count}
@@ -33,7 +34,7 @@ use Rattle.record_values.specs.Values.{Reading, exactly, stop, isLowest, stepOf
 use Rattle.record_values.proofs.Products.{abs-product}
 use Rattle.season_reports.specs.Rows.{sameKey, widest, blankRow, wrongSum, overCount}
 use Rattle.season_reports.specs.Season.{Entry, readingOf, usableWith, usableOf, endsOf, rowOf, entryRow}
-use Rattle.season_reports.specs.Journals.{oneEntry, entriesAfter, entriesCounted, entriesRead, recalledEither, thenOn, contentsFrom, contentsOf}
+use Rattle.season_reports.specs.Journals.{oneEntry, entriesAfter, entriesCounted, entriesRead, thenOn, contentsFrom, contentsOf}
 use Rattle.season_reports.specs.Running.{seasonEntries}
 use Rattle.season_reports.specs.Tables.{EndsTyped, SoundRow}
 use Rattle.season_reports.specs.declared.Key.{Key}

@@ -26,7 +26,7 @@ use Rattle.reader.specs.declared.Reader.{Reader}
 use Rattle.writer.specs.Answer.{openChecks, openedBy, writeChecks, writtenBy, saysOpened, saysWritten}
 use Rattle.frame.specs.declared.Carried.{Carried}
 use Rattle.journal.specs.Journal.{recordOrder, recordedBy, keepOrder, keptBy, recallOrder, recalledBy, saysKept, saysRecalled}
-use Rattle.journal.specs.Words.{keepWordsOrder, keptWords, recallWordsOrder, recalledWords}
+use Rattle.journal.specs.Words.{keepWordsOrder, keptWords, recallWordsOrder, recalledWords, recallEitherOrder, recalledEither}
 use Rattle.journal_moves.specs.Moving.{moveOrder, movedBy, saysMoved}
 use Rattle.journal_moves.specs.declared.Way.the-variants.{New, Old}
 use Rattle.record_fields.specs.declared.Rows.{Rows}
@@ -182,6 +182,7 @@ pub record CarriesItsNumber : Type 0 where
   -- the journal that keeps the words: 17 last, for parity or carried bits; when moving, 13 after these
   pub keep-words : (f : Frame) (buffer : List ℕ) → Ordered (5 ∷ 13 ∷ []) (keepWordsOrder f buffer) (saysKept (keptWords f buffer))
   pub recall-words : (bs : List ℕ) → Ordered (14 ∷ 15 ∷ 16 ∷ 15 ∷ 16 ∷ 16 ∷ 17 ∷ []) (recallWordsOrder bs) (saysRecalled (recalledWords bs))
+  pub recall-either : (bs : List ℕ) → Ordered (14 ∷ 15 ∷ 16 ∷ 15 ∷ 16 ∷ 16 ∷ 17 ∷ []) (recallEitherOrder bs) (saysRecalled (recalledEither bs))
   pub renew : (bs : List ℕ) (room : ℕ) → Ordered (14 ∷ 15 ∷ 16 ∷ 15 ∷ 16 ∷ 16 ∷ 13 ∷ []) (moveOrder New bs room) (saysMoved (movedBy New bs room))
   pub restore : (bs : List ℕ) (room : ℕ)
       → Ordered (14 ∷ 15 ∷ 16 ∷ 15 ∷ 16 ∷ 16 ∷ 17 ∷ 13 ∷ []) (moveOrder Old bs room) (saysMoved (movedBy Old bs room))

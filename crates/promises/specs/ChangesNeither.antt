@@ -15,7 +15,7 @@ use Rattle.reader.specs.declared.Reader.{Reader}
 use Rattle.writer.specs.Answer.{openedBy, openedTo, writtenBy, writtenTo, saysOpened, saysWritten}
 use Rattle.frame.specs.declared.Carried.{Carried}
 use Rattle.journal.specs.Journal.{recordedBy, recordedTo, keptBy, heldBy, recalledBy, saysKept, saysRecalled}
-use Rattle.journal.specs.Words.{keptWords, heldWords, recalledWords}
+use Rattle.journal.specs.Words.{keptWords, heldWords, recalledWords, recalledEither}
 use Rattle.journal_moves.specs.Moving.{movedBy, movedTo, saysMoved}
 use Rattle.journal_moves.specs.declared.Way.{Way}
 use Rattle.record_stages.specs.Stages.{saysCount, saysMade}
@@ -80,6 +80,7 @@ pub record NumberAlone : Type 0 where
   pub reader-take : (r : Reader) → Keeps {B = ℕ × Frame} (saysAnswer (takenBy r .answer)) (takenBy r .at, takenBy r .frame) (0, blank)
   pub recall : (bs : List ℕ) → Keeps (saysRecalled (recalledBy bs)) (recalledBy bs .frame) blank
   pub recall-words : (bs : List ℕ) → Keeps (saysRecalled (recalledWords bs)) (recalledWords bs .frame) blank
+  pub recall-either : (bs : List ℕ) → Keeps (saysRecalled (recalledEither bs)) (recalledEither bs .frame) blank
   pub make-corrections : (h : Header) (es : List Correction) (c : ℕ) → Keeps (saysMade (makeCorrections h es c)) (makeCorrections h es c .frame) blank
   pub make-observations : (e : Edition) (h : Header) (a : Epoch) (os : List Observation) (c : ℕ)
       → Keeps (saysMade (makeObservations e h a os c)) (makeObservations e h a os c .frame) blank

@@ -20,6 +20,7 @@ use Rattle.frame.proofs.FrameLaws.{header-within}
 use Rattle.frame.proofs.WidthLaws.{to-inside}
 use Rattle.journal.specs.declared.Found.{Found}
 use Rattle.journal.specs.declared.Found.the-variants as found
+use Rattle.journal.specs.Words.{recalledEither}
 use Rattle.record_fields.specs.Coding.{Each, entryIn, frameBits}
 use Rattle.record_fields.proofs.TableLaws.{row-told}
 use Rattle.record_stages.specs.Stages.{entryOrder}
@@ -32,7 +33,7 @@ use Rattle.record_corrections.specs.Corrections.{coding, least, most, numbers, 
 use Rattle.record_values.specs.Values.{exactly, stop, isLowest, stepOf, signedValue, prcValue}
 use Rattle.record_values.proofs.Products.{abs-product}
 use Rattle.season_reports.specs.Season.{Entry, readingOf, readingRow, entryRow}
-use Rattle.season_reports.specs.Journals.{oneEntry, entriesAfter, entriesCounted, entriesRead, recalledEither, thenOn, contentsFrom}
+use Rattle.season_reports.specs.Journals.{oneEntry, entriesAfter, entriesCounted, entriesRead, thenOn, contentsFrom}
 use Rattle.season_reports.specs.Reports.{journalRows}
 use Rattle.season_reports.specs.Tables.{SoundRow}
 use Rattle.season_reports.specs.declared.Key.{Key}

@@ -7,7 +7,6 @@ use crate::window::Filling;
 use crate::window::brought;
 use crate::window::fill;
 use journal::Found;
-use journal::Recalled;
 use season_reports::Adding;
 use season_reports::Extremes;
 use season_reports::JournalReport;
@@ -114,20 +113,9 @@ fn take_piece(report: Report, is_passed: bool, piece: &[u8]) -> Taken {
     taken_of(again, true)
 }
 
-// The record at the start of the bytes, by the form of its mark.
-fn recall_either(bytes: &[u8]) -> Recalled {
-    if bytes.len() < 2 {
-        return journal::recall(bytes);
-    }
-    if bytes[1] == 0x34 {
-        return journal::recall_words(bytes);
-    }
-    journal::recall(bytes)
-}
-
 // That the file stops at a record, with what refuses it.
 fn stop_at(bytes: &[u8]) -> Ending {
-    let recalled = recall_either(bytes);
+    let recalled = journal::recall_either(bytes);
     let answer = recalled.answer;
     match answer {
         // never so: what recalls was added

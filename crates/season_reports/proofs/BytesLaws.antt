@@ -7,9 +7,10 @@ use native.Mathlib.Omega.{arith}
 use lib.ListN.{length, take, drop, length-drop, drop-of-length-le}
 use lib.Seq.{drop-drop, take-all}
 use Rattle.journal.specs.declared.Found.the-variants as found
+use Rattle.journal.specs.Words.{recalledEither}
 use Rattle.record_fields.specs.Coding.{Each}
 use Rattle.season_reports.specs.Season.{entryRow}
-use Rattle.season_reports.specs.Journals.{entriesRead, recalledEither, noContents, contentsOf}
+use Rattle.season_reports.specs.Journals.{entriesRead, noContents, contentsOf}
 use Rattle.season_reports.specs.Reports.{journalRows}
 use Rattle.season_reports.specs.Tables.{withRows, SoundRow, SoundTable}
 use Rattle.season_reports.specs.declared.Row.{Row}

@@ -16,7 +16,7 @@ use Rattle.frame.specs.declared.Layout.the-variants as layout
 use Rattle.frame.proofs.WidthLaws.{both-false}
 use Rattle.journal.specs.Forms.{nByte, wordsAfter, startOrder}
 use Rattle.journal.specs.Journal.{dataOrder, recallOrder, recalled, refusedRecall, recalledBy}
-use Rattle.journal.specs.Words.{liveOrder, recallWordsOrder, foundWords, recalledWords}
+use Rattle.journal.specs.Words.{liveOrder, recallWordsOrder, foundWords, recalledWords, recalledEither}
 use Rattle.journal.specs.declared.Found.the-variants as found
 use Rattle.journal.proofs.FormLaws.{start-whole}
 use Rattle.record_fields.specs.Coding.{entryIn, frameBits}
@@ -27,7 +27,7 @@ use Rattle.record_corrections.specs.declared.Correction.{Correction}
 use Rattle.record_corrections.specs.declared.CorrectionRead.the-variants as read
 use Rattle.record_corrections.specs.Corrections.{coding, least, most, numbers, outOfRange, countCorrections, correctionAt}
 use Rattle.season_reports.specs.Season.{Entry, entryRow}
-use Rattle.season_reports.specs.Journals.{entryUnder, oneEntry, entriesAfter, entriesCounted, entriesRead, recalledEither, noContents}
+use Rattle.season_reports.specs.Journals.{entryUnder, oneEntry, entriesAfter, entriesCounted, entriesRead, noContents}
 use Rattle.season_reports.specs.Journals.{readBefore, thenOn, contentsFrom, contentsOf}
 use Rattle.season_reports.specs.declared.Row.{Row}
 use Rattle.season_reports.proofs.TotalLaws.{map-append}

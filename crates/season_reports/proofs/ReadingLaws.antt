@@ -3,25 +3,19 @@ use mathlib.Core.Path.{_≡_, refl, sym, ap, ap₂, subst, _∙_}
 use mathlib.Core.Bool.{Bool, true, false, cond, _||_, true≢false}
 use Prim.Native.Nat.{ℕ, _+_, _^_, _≤_, _<_}
 use native.Mathlib.Omega.{arith}
-use lib.Dec.{eqb}
 use lib.IntN.{ℤ, pos, _+ℤ_, _*ℤ_, zero-*ℤ, sucℤ-*ℤ, +ℤ-idl}
-use lib.ListN.{length, getD, List·getD-eq-default}
 use lib.Signed.{mag}
-use mathlib.Core.List.{List}
 use mir.Syntax.{w32, w64}
 use mir.Val.{SFits}
 use mir.ValLaws.{toZ-ofZ}
-use borrow.Author.Tests.{le-ltb, eq-eqb, ne-eqb}
+use borrow.Author.Tests.{le-ltb}
 use Rattle.frame.proofs.WidthLaws.{both-false}
-use Rattle.journal.specs.Journal.{recalledBy}
-use Rattle.journal.specs.Words.{recalledWords}
 use Rattle.record_corrections.specs.declared.Correction.{Correction}
 use Rattle.record_values.specs.Values.{Reading, exactly, stop, isLowest, stepOf, signedValue, prcValue, stopsUse}
 use Rattle.record_values.specs.Answer.{distanceOf, prcMm}
 use Rattle.record_values.specs.declared.Distance.the-variants as distance
 use Rattle.season_reports.specs.Rows.{wrongSum}
 use Rattle.season_reports.specs.Season.{readingOf, readingRow}
-use Rattle.season_reports.specs.Journals.{recalledEither}
 use Rattle.season_reports.specs.Tables.{SoundRow}
 use Rattle.season_reports.specs.declared.Key.{Key}
 use Rattle.season_reports.specs.declared.Extremes.the-variants.{Present}
@@ -106,15 +100,3 @@ module _ (k : Key) (station : k .station < 2 ^ 16) (satellite : k .satellite < 2
 pub usable-is : (k : Key) (mm : ℤ) → SFits w32 mm → rowWith k 1 0 (Present (held32 mm) (held32 mm)) (held64 (held32 mm)) ≡ readingRow k (exactly mm)
 usable-is k mm f =
     ap₂ (λ z m. rowWith k 1 0 (Present z z) m) (toZ-ofZ w32 mm f) (toZ-ofZ w64 (held32 mm) (wide-fits 0 mm (omega arith) f) ∙ toZ-ofZ w32 mm f)
-
--- ---- either form of record
-
-pub either-short : (bs : List ℕ) → length bs < 2 → recalledEither bs ≡ recalledBy bs
-either-short bs h =
-    ap (λ b. cond (eqb b 0x34) (recalledWords bs) (recalledBy bs)) (List·getD-eq-default bs 0 {n = 1} (omega arith))
-
-pub either-words : (bs : List ℕ) → getD bs 1 0 ≡ 0x34 → recalledEither bs ≡ recalledWords bs
-either-words bs e = ap (λ t. cond t (recalledWords bs) (recalledBy bs)) (eq-eqb (getD bs 1 0) 0x34 e)
-
-pub either-data : (bs : List ℕ) → (getD bs 1 0 ≡ 0x34 → ⊥) → recalledEither bs ≡ recalledBy bs
-either-data bs e = ap (λ t. cond t (recalledWords bs) (recalledBy bs)) (ne-eqb (getD bs 1 0) 0x34 e)

@@ -1,16 +1,11 @@
 -- The entries of a journal's bytes: records are taken from the start while they recall, each by the form of its mark. Assumes nothing.
-use mathlib.Core.Bool.{cond}
 use mathlib.Core.List.{List, [], _∷_, _++_}
 use Prim.Native.Nat.{ℕ, zero, suc, _+_, _-_}
-use lib.Dec.{eqb}
-use lib.ListN.{getD}
 use Rattle.frame.specs.Layout.{systemOf}
 use Rattle.frame.specs.declared.Frame.{Frame}
 use Rattle.journal.specs.declared.Found.{Found}
 use Rattle.journal.specs.declared.Found.the-variants as found
-use Rattle.journal.specs.declared.Recalled.{Recalled}
-use Rattle.journal.specs.Journal.{recalledBy}
-use Rattle.journal.specs.Words.{recalledWords}
+use Rattle.journal.specs.Words.{recalledEither}
 use Rattle.record_corrections.specs.declared.Correction.{Correction}
 use Rattle.record_corrections.specs.declared.CorrectionRead.{CorrectionRead}
 use Rattle.record_corrections.specs.declared.CorrectionRead.the-variants as read
@@ -47,10 +42,6 @@ unfoldable pub entriesRead : Frame → List Entry
 entriesRead f = entriesCounted f (countCorrections f)
 
 -- ---- the records of a journal
-
--- the record at the start of the bytes: one with the mark 0x52 0x34 keeps the words, any other is read as data
-abbrev pub recalledEither : List ℕ → Recalled
-recalledEither bs = cond (eqb (getD bs 1 0) 0x34) (recalledWords bs) (recalledBy bs)
 
 -- what was read: the entries, and how many bytes their records have
 pub record Contents : Type 0 where

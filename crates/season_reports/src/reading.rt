@@ -7,7 +7,7 @@ ghost use Rattle.record_fields.specs.Coding.{Each};
 ghost use Rattle.record_stages.specs.declared.Count.the-variants.{Of};
 ghost use Rattle.record_values.specs.Values.{exactly, stop};
 ghost use Rattle.season_reports.specs.Season.{readingOf, readingRow, entryRow};
-ghost use Rattle.season_reports.specs.Journals.{entriesRead, recalledEither, contentsOf};
+ghost use Rattle.season_reports.specs.Journals.{entriesRead, contentsOf};
 ghost use Rattle.season_reports.specs.Reports.{journalRows};
 ghost use Rattle.season_reports.specs.Tables.{withRows, rowsOfBatch, SoundRow, SoundTable};
 use crate::Extremes;
@@ -19,7 +19,6 @@ use crate::table::Table;
 use crate::table::gather;
 use frame::Frame;
 use journal::Found;
-use journal::Recalled;
 use record_corrections::Correction;
 use record_corrections::CorrectionRead;
 use record_stages::Count;
@@ -125,19 +124,6 @@ fn frame_rows(frame: Frame) -> Batch
     }
 }
 
-// The record at the start of the bytes, by the form of its mark.
-fn recall_either(bytes: &[u8]) -> Recalled
-    ensures { λ r. ⌜ r ≡ recalledEither (now (bytes .entry)) ⌝ }
-{
-    if bytes.len() < 2 {
-        return journal::recall(bytes);
-    }
-    if bytes[1] == 0x34 {
-        return journal::recall_words(bytes);
-    }
-    journal::recall(bytes)
-}
-
 // Record after record, until the bytes end or one is refused.
 pub(crate) fn add_bytes(table: Table, bytes: &[u8]) -> Progress
     requires { ⌜ SoundTable table ⌝ }
@@ -147,7 +133,7 @@ pub(crate) fn add_bytes(table: Table, bytes: &[u8]) -> Progress
     let mut sum = table;
     let mut used: usize = 0;
     while used < bytes.len() {
-        let recalled = recall_either(&bytes[used..]);
+        let recalled = journal::recall_either(&bytes[used..]);
         let answer = recalled.answer;
         match answer {
             Found::Record(size) => {

@@ -4,7 +4,6 @@ ghost use Prim.Native.Nat.{_≤_};
 ghost use lib.ListN.{length};
 use frame::Frame;
 use journal::Found;
-use journal::Recalled;
 use libc::STDERR_FILENO;
 use libc::STDIN_FILENO;
 use libc::STDOUT_FILENO;
@@ -42,19 +41,6 @@ fn read_record(bytes: &mut [u8]) -> usize
     let end = 3 + size_after(bytes[1], bytes[2]);
     let rest = io::read_full(STDIN_FILENO, &mut bytes[3..end]);
     3 + rest
-}
-
-// The record at the start of the bytes, in either form: what keeps the words, or else the data.
-fn recall_either(bytes: &[u8]) -> Recalled {
-    let live = journal::recall_words(bytes);
-    let answer = live.answer;
-    let Found::Refused(number) = answer else {
-        return live;
-    };
-    if number != 14 {
-        return live;
-    }
-    journal::recall(bytes)
 }
 
 // Prints a record's line, or says that it cannot. No frame that was recalled is refused, and there is room for the longest line.
@@ -95,7 +81,7 @@ fn show_record(at: u64) -> Step {
     if n == 0 {
         return Step::Over;
     }
-    let recalled = recall_either(&record[..n]);
+    let recalled = journal::recall_either(&record[..n]);
     let answer = recalled.answer;
     match answer {
         Found::Record(length) => {

@@ -2,9 +2,9 @@
 use mathlib.Core.Path.{sym, _∙_}
 use denote.Ref.{now}
 use borrow.Author.Needs.{needs}
-use Rattle.season_reports.proofs.ReadingLaws.{either-short, either-words, either-data}
-use Rattle.season_reports.proofs.reading.recall_either.Statement.{statement}
-use Rattle.season_reports.proofs.reading.recall_either.Tie as tie
+use Rattle.journal.proofs.EitherLaws.{either-short, either-words, either-data}
+use Rattle.journal.proofs.recall_either.Statement.{statement}
+use Rattle.journal.proofs.recall_either.Tie as tie
 
 returns : tie.Need-returns
 returns c = c .recall .ensures ∙ sym (either-short (now (c .before .before .before .args .bytes)) (c .before .if1 .taken))

@@ -7,8 +7,9 @@ use lib.ListN.{length, drop}
 use denote.Ref.{now}
 use borrow.Author.Needs.{needs}
 use Rattle.journal.specs.declared.Found.the-variants as found
+use Rattle.journal.specs.Words.{recalledEither}
 use Rattle.season_reports.specs.Season.{entryRow}
-use Rattle.season_reports.specs.Journals.{entriesRead, recalledEither}
+use Rattle.season_reports.specs.Journals.{entriesRead}
 use Rattle.season_reports.proofs.BytesLaws.{tail-all, ReadSoFar, read-start, size-some, size-inside, read-on}
 use Rattle.season_reports.proofs.BytesLaws.{read-end, read-used, read-each, contents-past}
 use Rattle.season_reports.proofs.JournalLaws.{contents-refused}
