@@ -11,7 +11,7 @@ use Rattle.frame.proofs.FrameLaws.{words-after}
 use Rattle.journal.specs.Forms.{wordsAfter}
 use Rattle.journal.specs.Words.{wordsRecord, dataIn}
 use Rattle.journal.proofs.WordsTrip.{live-data}
-use Rattle.journal_moves.specs.Moving.{Run, runOf}
+use Rattle.journal_moves.specs.Moving.{MovedJournal, movedJournal}
 use Rattle.journal_moves.specs.Journals.{Keepable, AllKeepable, recordIn, journalIn, wrote, Moves, Alike, AllAlike, Journals}
 use Rattle.journal_moves.specs.declared.Way.the-variants.{New, Old}
 use Rattle.journal_moves.specs.declared.Stop.the-variants as stop
@@ -25,17 +25,17 @@ bare-data : (fs : List Frame) → journalIn Old (map bare fs) ≡ journalIn Old 
 bare-data [] = refl
 bare-data (f ∷ fs) = ap₂ _++_ (record-after zeroPair f) (bare-data fs)
 
-pub there-and-back : (bs : List ℕ) (room back : ℕ) → AreBytes bs → runOf New bs room .stop ≡ stop.End → length bs ≤ back
-    → runOf Old (runOf New bs room .bytes) back ≡ wrote (runOf New bs room .bytes) bs
+pub there-and-back : (bs : List ℕ) (room back : ℕ) → AreBytes bs → movedJournal New bs room .stop ≡ stop.End → length bs ≤ back
+    → movedJournal Old (movedJournal New bs room .bytes) back ≡ wrote (movedJournal New bs room .bytes) bs
 there-and-back bs room back fits e h =
-    ap (λ k. runOf Old k back) out ∙ run-moves Old (map bare (m .frames)) back (all-bare (m .frames) (m .keepable)) (omega (arith, ap length again, h))
+    ap (λ k. movedJournal Old k back) out ∙ run-moves Old (map bare (m .frames)) back (all-bare (m .frames) (m .keepable)) (omega (arith, ap length again, h))
     ∙ ap₂ wrote (sym out) again
   where
-    m : Moves New bs (runOf New bs room)
+    m : Moves New bs (movedJournal New bs room)
     m = run-ends New bs room fits e
 
-    out : runOf New bs room .bytes ≡ journalIn New (map bare (m .frames))
-    out = ap (λ (x : Run). x .bytes) (m .is)
+    out : movedJournal New bs room .bytes ≡ journalIn New (map bare (m .frames))
+    out = ap (λ (x : MovedJournal). x .bytes) (m .is)
 
     again : journalIn Old (map bare (map bare (m .frames))) ≡ bs
     again = bare-data (map bare (m .frames)) ∙ bare-data (m .frames) ∙ sym (m .was)
@@ -72,7 +72,7 @@ journals = record {
   old-new-old = there-and-back;
   new-old-new = λ bs room back fits e h.
       let m = run-ends Old bs room fits e in
-      let out = ap (λ (x : Run). x .bytes) (m .is) ∙ bare-data (m .frames) in
+      let out = ap (λ (x : MovedJournal). x .bytes) (m .is) ∙ bare-data (m .frames) in
       let fit : length (journalIn New (map bare (m .frames))) ≤ back = omega (arith, alike-long (m .frames) (m .keepable), ap length (m .was), h) in (
         m .frames,
         (
@@ -80,7 +80,7 @@ journals = record {
           (
             m .was,
             (
-              ap (λ k. runOf New k back) out ∙ run-moves New (m .frames) back (m .keepable) fit
+              ap (λ k. movedJournal New k back) out ∙ run-moves New (m .frames) back (m .keepable) fit
                   ∙ ap (λ k. wrote k (journalIn New (map bare (m .frames)))) (sym out),
               all-alike (m .frames) (m .keepable),
             ),

@@ -23,7 +23,7 @@ use Rattle.journal.proofs.KeepLaws.{length-record}
 use Rattle.journal.proofs.LiveLaws.{length-live}
 use Rattle.journal.proofs.RoundTrip.{recall-clear, words-back, reread, recalled-bare}
 use Rattle.journal.proofs.WordsTrip.{live-clear, live-data, after-n, after-full, reread-words}
-use Rattle.journal_moves.specs.Moving.{sizeRead, sizeWritten, readOrder, moveOrder, otherRecord, movedBy, Run, before, runOf}
+use Rattle.journal_moves.specs.Moving.{sizeRead, sizeWritten, readOrder, moveOrder, otherRecord, movedBy, MovedJournal, before, movedJournal}
 use Rattle.journal_moves.specs.Journals.{Keepable, AllKeepable, recordIn, journalIn, from, wrote, Moves}
 use Rattle.journal_moves.specs.declared.Way.{Way}
 use Rattle.journal_moves.specs.declared.Way.the-variants.{New, Old}
@@ -90,11 +90,11 @@ sizes-some New n = omega arith
 sizes-some Old n = omega arith
 
 pub run-moves : (w : Way) (fs : List Frame) (room : ℕ) → AllKeepable fs → length (journalIn w (map bare fs)) ≤ room
-    → runOf w (journalIn (from w) fs) room ≡ wrote (journalIn (from w) fs) (journalIn w (map bare fs))
+    → movedJournal w (journalIn (from w) fs) room ≡ wrote (journalIn (from w) fs) (journalIn w (map bare fs))
 run-moves w [] room k h = run-end w room
 run-moves w (f ∷ fs) room k h =
     run-moved w (recordIn (from w) f ++ rest) room (sizeRead w (f .n)) (sizeWritten w (f .n)) some (moved-one f (k .0) rest w room fits)
-    ∙ ap₂ (λ made l. before (sizeRead w (f .n)) made (runOf w l (room - sizeWritten w (f .n)))) (other f (k .0) rest w)
+    ∙ ap₂ (λ made l. before (sizeRead w (f .n)) made (movedJournal w l (room - sizeWritten w (f .n)))) (other f (k .0) rest w)
     (drop-at (recordIn (from w) f) rest (sizeRead w (f .n)) (sizes w f (k .0)))
     ∙ ap (before (sizeRead w (f .n)) (recordIn w (bare f))) (run-moves w fs (room - sizeWritten w (f .n)) (k .1) more)
     ∙ before-wrote w (sizeRead w (f .n)) (recordIn w (bare f)) (recordIn (from w) f ++ rest) rest (journalIn w (map bare fs)) long
@@ -153,25 +153,26 @@ apart : (number : ℕ) → stop.At number ≡ stop.End → ⊥
 apart number e = let z : _≡_ {A = ℕ} 0 1 = cc e in omega arith
 
 -- a run of no bytes; and by its first record, where those of fewer bytes are known
-run-none : (w : Way) (room : ℕ) → Moves w [] (runOf w [] room)
+run-none : (w : Way) (room : ℕ) → Moves w [] (movedJournal w [] room)
 run-none w room = record { frames = []; keepable = tt; was = refl; is = run-end w room }
 
-run-first : (w : Way) (most : ℕ) (bs : List ℕ) (room : ℕ) → length bs ≤ suc most → AreBytes bs → runOf w bs room .stop ≡ stop.End
-    → ((l : List ℕ) (room : ℕ) → length l ≤ most → AreBytes l → runOf w l room .stop ≡ stop.End → Moves w l (runOf w l room)) → Moves w bs (runOf w bs room)
+run-first : (w : Way) (most : ℕ) (bs : List ℕ) (room : ℕ) → length bs ≤ suc most → AreBytes bs → movedJournal w bs room .stop ≡ stop.End
+    → ((l : List ℕ) (room : ℕ) → length l ≤ most → AreBytes l → movedJournal w l room .stop ≡ stop.End → Moves w l (movedJournal w l room))
+    → Moves w bs (movedJournal w bs room)
 run-first w most [] room l fits e later = run-none w room
 run-first w most (b ∷ bs) room l fits e later = go (movedBy w (b ∷ bs) room) refl
   where
     some : 0 < length (b ∷ bs)
     some = omega arith
 
-    go : (m : Moved) → movedBy w (b ∷ bs) room ≡ m → Moves w (b ∷ bs) (runOf w (b ∷ bs) room)
-    go (Refused number) q = absurd (apart number (sym (ap (λ (x : Run). x .stop) (run-refused w (b ∷ bs) room some q)) ∙ e))
+    go : (m : Moved) → movedBy w (b ∷ bs) room ≡ m → Moves w (b ∷ bs) (movedJournal w (b ∷ bs) room)
+    go (Refused number) q = absurd (apart number (sym (ap (λ (x : MovedJournal). x .stop) (run-refused w (b ∷ bs) room some q)) ∙ e))
     go (Done read written) q =
         let all = run-moved w (b ∷ bs) room read written some q in
         let s = step-of w (b ∷ bs) room q in
         let f = held w (b ∷ bs) fits (s .clear) in
         let less : length (drop read (b ∷ bs)) ≤ most = omega (arith, length-drop read (b ∷ bs), s .some) in
-        let m = later (drop read (b ∷ bs)) (room - written) less (fit-drop read (b ∷ bs) fits) (sym (ap (λ (x : Run). x .stop) all) ∙ e) in
+        let m = later (drop read (b ∷ bs)) (room - written) less (fit-drop read (b ∷ bs) fits) (sym (ap (λ (x : MovedJournal). x .stop) all) ∙ e) in
         let long : length (b ∷ bs) ≡ read + length (drop read (b ∷ bs)) = omega (arith, length-drop read (b ∷ bs), s .inside) in
         record {
           frames = f .frame ∷ m .frames;
@@ -182,10 +183,11 @@ run-first w most (b ∷ bs) room l fits e later = go (movedBy w (b ∷ bs) room)
               ∙ before-wrote w read (recordIn w (bare (f .frame))) (b ∷ bs) (drop read (b ∷ bs)) (journalIn w (map bare (m .frames))) long;
         }
 
-run-frames : (w : Way) (most : ℕ) (bs : List ℕ) (room : ℕ) → length bs ≤ most → AreBytes bs → runOf w bs room .stop ≡ stop.End → Moves w bs (runOf w bs room)
+run-frames : (w : Way) (most : ℕ) (bs : List ℕ) (room : ℕ) → length bs ≤ most → AreBytes bs → movedJournal w bs room .stop ≡ stop.End
+    → Moves w bs (movedJournal w bs room)
 run-frames w zero [] room l fits e = run-none w room
 run-frames w zero (b ∷ bs) room l fits e = absurd (omega arith)
 run-frames w (suc most) bs room l fits e = run-first w most bs room l fits e (λ k. run-frames w most k)
 
-pub run-ends : (w : Way) (bs : List ℕ) (room : ℕ) → AreBytes bs → runOf w bs room .stop ≡ stop.End → Moves w bs (runOf w bs room)
+pub run-ends : (w : Way) (bs : List ℕ) (room : ℕ) → AreBytes bs → movedJournal w bs room .stop ≡ stop.End → Moves w bs (movedJournal w bs room)
 run-ends w bs room fits e = run-frames w (length bs) bs room (omega arith) fits e

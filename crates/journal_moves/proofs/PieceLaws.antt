@@ -6,7 +6,7 @@ use native.Mathlib.Omega.{arith}
 use native.Mathlib.Nat.{zero-add, add-zero}
 use lib.ListN.{length, take, drop, length-append, length-drop, take-append-drop, drop-of-length-le}
 use lib.Seq.{length-take-le, take-all, take-at, drop-at, drop-drop}
-use Rattle.journal_moves.specs.Moving.{otherRecord, movedBy, movedTo, Run, stopped, before, runOf, pieceBy, pieceTo}
+use Rattle.journal_moves.specs.Moving.{otherRecord, movedBy, movedTo, MovedJournal, stopped, before, movedJournal, pieceBy, pieceTo}
 use Rattle.journal_moves.specs.declared.Way.{Way}
 use Rattle.journal_moves.specs.declared.Moved.{Moved}
 use Rattle.journal_moves.specs.declared.Moved.the-variants.{Done, Refused}
@@ -40,18 +40,18 @@ module _ (w : Way) (bytes buffer : List ℕ) (read written : ℕ) where
 -- ---- how far a run has come: what is left, after what was read and written, is the whole run
 
 pub record SoFar (w : Way) (bytes start buffer : List ℕ) (read written : ℕ) : Type 0 where
-  pub run : runOf w bytes (length start) ≡ before read (take written buffer) (runOf w (drop read bytes) (length start - written))
+  pub run : movedJournal w bytes (length start) ≡ before read (take written buffer) (movedJournal w (drop read bytes) (length start - written))
   pub inside : read ≤ length bytes
   pub room : written ≤ length buffer
   pub same : length buffer ≡ length start
   pub rest : drop written buffer ≡ drop written start
 
-before-none : (x : Run) → x ≡ before 0 [] x
+before-none : (x : MovedJournal) → x ≡ before 0 [] x
 before-none x = ap (λ n. record { read = n; bytes = x .bytes; stop = x .stop }) (sym (zero-add (x .read)))
 
 pub so-none : (w : Way) (bytes buffer : List ℕ) → SoFar w bytes buffer buffer 0 0
 so-none w bytes buffer = record {
-  run = ap (runOf w bytes) all ∙ before-none (runOf w bytes (length buffer - 0));
+  run = ap (movedJournal w bytes) all ∙ before-none (movedJournal w bytes (length buffer - 0));
   inside = omega arith;
   room = omega arith;
   same = refl;
@@ -79,7 +79,7 @@ module _ (w : Way) (bytes start buffer : List ℕ) (read written : ℕ) (s : SoF
       run =
           s .run ∙ ap (before read (take written buffer)) first
           ∙ before-before read more (take written buffer) (otherRecord w (drop read bytes)) _
-          ∙ ap₂ (λ b x. before (read + more) b x) (sym taken) (ap₂ (λ l n. runOf w l n) (drop-drop more read bytes) less);
+          ∙ ap₂ (λ b x. before (read + more) b x) (sym taken) (ap₂ (λ l n. movedJournal w l n) (drop-drop more read bytes) less);
       inside = omega (arith, stepped .inside, length-drop read bytes);
       room = omega (arith, whole, fits);
       same = whole ∙ s .same;
@@ -101,11 +101,11 @@ module _ (w : Way) (bytes start buffer : List ℕ) (read written : ℕ) (s : SoF
         ahead : 0 < length (drop read bytes)
         ahead = omega (arith, length-drop read bytes)
 
-        first : runOf w (drop read bytes) (length start - written)
-            ≡ before more (otherRecord w (drop read bytes)) (runOf w (drop more (drop read bytes)) (length start - written - new))
+        first : movedJournal w (drop read bytes) (length start - written)
+            ≡ before more (otherRecord w (drop read bytes)) (movedJournal w (drop more (drop read bytes)) (length start - written - new))
         first =
-            ap (runOf w (drop read bytes)) (sym left) ∙ run-moved w (drop read bytes) (length (drop written buffer)) more new ahead e
-            ∙ ap (λ n. before more (otherRecord w (drop read bytes)) (runOf w (drop more (drop read bytes)) (n - new))) left
+            ap (movedJournal w (drop read bytes)) (sym left) ∙ run-moved w (drop read bytes) (length (drop written buffer)) more new ahead e
+            ∙ ap (λ n. before more (otherRecord w (drop read bytes)) (movedJournal w (drop more (drop read bytes)) (n - new))) left
 
         fits : written + new ≤ length buffer
         fits = omega (arith, stepped .fits, length-drop written buffer, s .room)
@@ -129,8 +129,8 @@ module _ (w : Way) (bytes start buffer : List ℕ) (read written : ℕ) (s : SoF
       q ∙ ap (λ r. take written buffer ++ r) (moved-unchanged w (drop read bytes) (drop written buffer) e) ∙ take-append-drop written buffer
 
   -- THE ANSWER, where the run stops here
-  module _ (why : Stop) (e : runOf w (drop read bytes) (length start - written) ≡ stopped why) where
-    is : runOf w bytes (length start) ≡ record { read = read; bytes = take written buffer; stop = why }
+  module _ (why : Stop) (e : movedJournal w (drop read bytes) (length start - written) ≡ stopped why) where
+    is : movedJournal w bytes (length start) ≡ record { read = read; bytes = take written buffer; stop = why }
     is =
         s .run ∙ ap (before read (take written buffer)) e
         ∙ ap₂ (λ n b. record { read = n; bytes = b; stop = why }) (add-zero read) (append-nil (take written buffer))
@@ -138,23 +138,23 @@ module _ (w : Way) (bytes start buffer : List ℕ) (read written : ℕ) (s : SoF
     pub so-piece : record { read = read; written = written; stop = why } ≡ pieceBy w bytes (length start)
     unfolding pieceBy
     so-piece =
-        sym (ap (λ (x : Run). record { read = x .read; written = length (x .bytes); stop = x .stop }) is
+        sym (ap (λ (x : MovedJournal). record { read = x .read; written = length (x .bytes); stop = x .stop }) is
         ∙ ap (λ n. record { read = read; written = n; stop = why }) (length-take-le written buffer (s .room)))
 
     pub so-held : buffer ≡ pieceTo w bytes start
     unfolding pieceTo
     so-held =
-        sym (ap (λ (x : Run). x .bytes ++ drop (length (x .bytes)) start) is
+        sym (ap (λ (x : MovedJournal). x .bytes ++ drop (length (x .bytes)) start) is
         ∙ ap (λ n. take written buffer ++ drop n start) (length-take-le written buffer (s .room))
         ∙ ap (λ r. take written buffer ++ r) (sym (s .rest))
         ∙ take-append-drop written buffer)
 
   -- at the end of the bytes
-  pub so-end : length bytes ≤ read → runOf w (drop read bytes) (length start - written) ≡ stopped stop.End
-  so-end h = ap (λ l. runOf w l (length start - written)) (drop-of-length-le bytes h) ∙ run-end w (length start - written)
+  pub so-end : length bytes ≤ read → movedJournal w (drop read bytes) (length start - written) ≡ stopped stop.End
+  so-end h = ap (λ l. movedJournal w l (length start - written)) (drop-of-length-le bytes h) ∙ run-end w (length start - written)
 
   -- at a record that is refused
   pub so-stop : {number : ℕ} → read < length bytes → movedBy w (drop read bytes) (length (drop written buffer)) ≡ Refused number
-      → runOf w (drop read bytes) (length start - written) ≡ stopped (stop.At number)
-  so-stop h e = ap (runOf w (drop read bytes)) (sym left)
+      → movedJournal w (drop read bytes) (length start - written) ≡ stopped (stop.At number)
+  so-stop h e = ap (movedJournal w (drop read bytes)) (sym left)
       ∙ run-refused w (drop read bytes) (length (drop written buffer)) (omega (arith, length-drop read bytes)) e

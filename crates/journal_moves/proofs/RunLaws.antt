@@ -18,7 +18,7 @@ use Rattle.journal.proofs.LiveLaws.{length-live}
 use Rattle.journal.proofs.RoundTrip.{read-own}
 use Rattle.journal.proofs.WordsTrip.{live-own}
 use Rattle.journal_moves.specs.Moving.{sizeRead, sizeWritten, readOrder, moveOrder, otherRecord, movedBy, movedTo}
-use Rattle.journal_moves.specs.Moving.{saysMoved, Run, stopped, before, onwards, runFrom, runOf}
+use Rattle.journal_moves.specs.Moving.{saysMoved, MovedJournal, stopped, before, onwards, movedFrom, movedJournal}
 use Rattle.journal_moves.specs.declared.Way.{Way}
 use Rattle.journal_moves.specs.declared.Way.the-variants.{New, Old}
 use Rattle.journal_moves.specs.declared.Moved.{Moved}
@@ -103,37 +103,37 @@ moved-held w bs buffer e =
 
 -- ---- a run by its first record
 
-run-skip : (w : Way) (bs : List ℕ) (room skip : ℕ) → runFrom w bs room skip ≡ runOf w (drop skip bs) room
-unfolding runFrom
+run-skip : (w : Way) (bs : List ℕ) (room skip : ℕ) → movedFrom w bs room skip ≡ movedJournal w (drop skip bs) room
+unfolding movedFrom
 run-skip w [] room zero = refl
 run-skip w [] room (suc skip) = refl
 run-skip w (b ∷ bs) room zero = refl
 run-skip w (b ∷ bs) room (suc skip) = run-skip w bs room skip
 
-pub run-end : (w : Way) (room : ℕ) → runOf w [] room ≡ stopped stop.End
-unfolding runFrom
+pub run-end : (w : Way) (room : ℕ) → movedJournal w [] room ≡ stopped stop.End
+unfolding movedFrom
 run-end w room = refl
 
 pub run-refused : (w : Way) (bs : List ℕ) (room : ℕ) {number : ℕ} → 0 < length bs → movedBy w bs room ≡ Refused number
-    → runOf w bs room ≡ stopped (stop.At number)
-unfolding runFrom
+    → movedJournal w bs room ≡ stopped (stop.At number)
+unfolding movedFrom
 run-refused w [] room h e = absurd (omega arith)
-run-refused w (b ∷ bs) room h e = ap (λ m. onwards m (otherRecord w (b ∷ bs)) (λ written read. runFrom w bs (room - written) (read - 1))) e
+run-refused w (b ∷ bs) room h e = ap (λ m. onwards m (otherRecord w (b ∷ bs)) (λ written read. movedFrom w bs (room - written) (read - 1))) e
 
 pub run-moved : (w : Way) (bs : List ℕ) (room read written : ℕ) → 0 < length bs → movedBy w bs room ≡ Done read written
-    → runOf w bs room ≡ before read (otherRecord w bs) (runOf w (drop read bs) (room - written))
-unfolding runFrom
+    → movedJournal w bs room ≡ before read (otherRecord w bs) (movedJournal w (drop read bs) (room - written))
+unfolding movedFrom
 run-moved w [] room read written h e = absurd (omega arith)
 run-moved w (b ∷ bs) room zero written h e = absurd (omega (arith, step-of w (b ∷ bs) room e .some))
 run-moved w (b ∷ bs) room (suc read) written h e =
-    ap (λ m. onwards m (otherRecord w (b ∷ bs)) (λ written read. runFrom w bs (room - written) (read - 1))) e
-    ∙ ap (before (suc read) (otherRecord w (b ∷ bs))) (ap (runFrom w bs (room - written)) lower ∙ run-skip w bs (room - written) read)
+    ap (λ m. onwards m (otherRecord w (b ∷ bs)) (λ written read. movedFrom w bs (room - written) (read - 1))) e
+    ∙ ap (before (suc read) (otherRecord w (b ∷ bs))) (ap (movedFrom w bs (room - written)) lower ∙ run-skip w bs (room - written) read)
   where
     lower : suc read - 1 ≡ read
     lower = omega arith
 
 -- a run goes on after what was moved
-pub before-before : (r₁ r₂ : ℕ) (b₁ b₂ : List ℕ) (x : Run) → before r₁ b₁ (before r₂ b₂ x) ≡ before (r₁ + r₂) (b₁ ++ b₂) x
+pub before-before : (r₁ r₂ : ℕ) (b₁ b₂ : List ℕ) (x : MovedJournal) → before r₁ b₁ (before r₂ b₂ x) ≡ before (r₁ + r₂) (b₁ ++ b₂) x
 before-before r₁ r₂ b₁ b₂ x =
     ap₂ (λ n bs. record { read = n; bytes = bs; stop = x .stop }) sum (sym (append-assoc b₁ b₂ (x .bytes)))
   where

@@ -11,7 +11,7 @@ use Rattle.frame.specs.declared.Frame.{Frame}
 use Rattle.journal.specs.Forms.{wordsAfter}
 use Rattle.journal.specs.Journal.{recordOf}
 use Rattle.journal.specs.Words.{wordsRecord, dataIn}
-use Rattle.journal_moves.specs.Moving.{Run, runOf}
+use Rattle.journal_moves.specs.Moving.{MovedJournal, movedJournal}
 use Rattle.journal_moves.specs.declared.Way.{Way}
 use Rattle.journal_moves.specs.declared.Way.the-variants.{New, Old}
 use Rattle.journal_moves.specs.declared.Stop.the-variants.{End}
@@ -40,11 +40,11 @@ from New = Old
 from Old = New
 
 -- a run that read all of its bytes, and what it wrote
-abbrev pub wrote : List ℕ → List ℕ → Run
+abbrev pub wrote : List ℕ → List ℕ → MovedJournal
 wrote bs out = record { read = length bs; bytes = out; stop = End }
 
 -- A RUN THAT CAME TO THE END: its bytes are a journal, and it wrote the same frames without their pairs in the other form
-pub record Moves (w : Way) (bs : List ℕ) (run : Run) : Type 0 where
+pub record Moves (w : Way) (bs : List ℕ) (run : MovedJournal) : Type 0 where
   pub frames : List Frame
   pub keepable : AllKeepable frames
   pub was : bs ≡ journalIn (from w) frames
@@ -66,13 +66,13 @@ AllAlike (f ∷ fs) = Alike f × AllAlike fs
 pub record Journals : Type 0 where
   -- a journal whose records all read is moved to its end, given the room
   pub moved : (w : Way) (fs : List Frame) (room : ℕ) → AllKeepable fs → length (journalIn w (map bare fs)) ≤ room
-      → runOf w (journalIn (from w) fs) room ≡ wrote (journalIn (from w) fs) (journalIn w (map bare fs))
+      → movedJournal w (journalIn (from w) fs) room ≡ wrote (journalIn (from w) fs) (journalIn w (map bare fs))
   -- and only such a one: what was moved to its end is a journal whose records all read
-  pub ends : (w : Way) (bs : List ℕ) (room : ℕ) → AreBytes bs → runOf w bs room .stop ≡ End → Moves w bs (runOf w bs room)
+  pub ends : (w : Way) (bs : List ℕ) (room : ℕ) → AreBytes bs → movedJournal w bs room .stop ≡ End → Moves w bs (movedJournal w bs room)
   -- OLD TO NEW TO OLD: every byte
-  pub old-new-old : (bs : List ℕ) (room back : ℕ) → AreBytes bs → runOf New bs room .stop ≡ End → length bs ≤ back
-      → runOf Old (runOf New bs room .bytes) back ≡ wrote (runOf New bs room .bytes) bs
+  pub old-new-old : (bs : List ℕ) (room back : ℕ) → AreBytes bs → movedJournal New bs room .stop ≡ End → length bs ≤ back
+      → movedJournal Old (movedJournal New bs room .bytes) back ≡ wrote (movedJournal New bs room .bytes) bs
   -- NEW TO OLD TO NEW: the same frames, each after 00, in records that are alike
-  pub new-old-new : (bs : List ℕ) (room back : ℕ) → AreBytes bs → runOf Old bs room .stop ≡ End → length bs ≤ back
+  pub new-old-new : (bs : List ℕ) (room back : ℕ) → AreBytes bs → movedJournal Old bs room .stop ≡ End → length bs ≤ back
       → (fs : List Frame) × (AllKeepable fs × ((bs ≡ journalIn New fs)
-      × ((runOf New (runOf Old bs room .bytes) back ≡ wrote (runOf Old bs room .bytes) (journalIn New (map bare fs))) × AllAlike fs)))
+      × ((movedJournal New (movedJournal Old bs room .bytes) back ≡ wrote (movedJournal Old bs room .bytes) (journalIn New (map bare fs))) × AllAlike fs)))

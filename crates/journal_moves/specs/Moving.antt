@@ -65,41 +65,41 @@ saysMoved (Refused number) = refuses number
 -- ---- A WHOLE JOURNAL, record after record
 
 -- how far it went: the bytes read, the bytes written, and why it stopped: at the end, or at a record that is refused
-pub record Run : Type 0 where
+pub record MovedJournal : Type 0 where
   pub read : ℕ
   pub bytes : List ℕ
   pub stop : Stop
 
-abbrev pub stopped : Stop → Run
+abbrev pub stopped : Stop → MovedJournal
 stopped why = record { read = 0; bytes = []; stop = why }
 
 -- one record before the rest
-abbrev pub before : ℕ → List ℕ → Run → Run
+abbrev pub before : ℕ → List ℕ → MovedJournal → MovedJournal
 before read bytes rest = record { read = read + rest .read; bytes = bytes ++ rest .bytes; stop = rest .stop }
 
 -- the refusal, or what was moved and then the rest
-abbrev pub onwards : Moved → List ℕ → (ℕ → ℕ → Run) → Run
+abbrev pub onwards : Moved → List ℕ → (ℕ → ℕ → MovedJournal) → MovedJournal
 onwards (Done read written) bytes rest = before read bytes (rest written read)
 onwards (Refused number) bytes rest = stopped (stop.At number)
 
 -- the bytes from here on, of which `skip` belong to a record that was moved; `room` bytes may be written
-unfoldable pub runFrom : Way → List ℕ → ℕ → ℕ → Run
-runFrom w [] room skip = stopped stop.End
-runFrom w (b ∷ bs) room (suc skip) = runFrom w bs room skip
-runFrom w (b ∷ bs) room zero =
-    onwards (movedBy w (b ∷ bs) room) (otherRecord w (b ∷ bs)) (λ written read. runFrom w bs (room - written) (read - 1))
+unfoldable pub movedFrom : Way → List ℕ → ℕ → ℕ → MovedJournal
+movedFrom w [] room skip = stopped stop.End
+movedFrom w (b ∷ bs) room (suc skip) = movedFrom w bs room skip
+movedFrom w (b ∷ bs) room zero =
+    onwards (movedBy w (b ∷ bs) room) (otherRecord w (b ∷ bs)) (λ written read. movedFrom w bs (room - written) (read - 1))
 
-abbrev pub runOf : Way → List ℕ → ℕ → Run
-runOf w bs room = runFrom w bs room 0
+abbrev pub movedJournal : Way → List ℕ → ℕ → MovedJournal
+movedJournal w bs room = movedFrom w bs room 0
 
 -- MOVE ALL: how many bytes were read and how many written, and why it stopped there
 unfoldable pub pieceBy : Way → List ℕ → ℕ → Piece
 pieceBy w bs room =
-    let run = runOf w bs room in
+    let run = movedJournal w bs room in
     record { read = run .read; written = length (run .bytes); stop = run .stop }
 
 -- what the lent buffer then holds: the records, and past them what it held before
 unfoldable pub pieceTo : Way → List ℕ → List ℕ → List ℕ
 pieceTo w bs buffer =
-    let run = runOf w bs (length buffer) in
+    let run = movedJournal w bs (length buffer) in
     run .bytes ++ drop (length (run .bytes)) buffer

@@ -29,7 +29,7 @@ use Rattle.mender_words.proofs.Turned.{found-back, back-to}
 use Rattle.mender.specs.Records.{nIn, secondOf, countOf, extentOf, windowsOf, reads, recordFor}
 use Rattle.mender.specs.Steps.{stepBy}
 use Rattle.mender.specs.Damage.{FewTurned, OneTurned, AllTurned, joinedAll}
-use Rattle.mender.specs.Run.{Run, skipOf, searchesAfter, joined, runFrom, runOf}
+use Rattle.mender.specs.Run.{MendedJournal, skipOf, searchesAfter, joined, mendedFrom, mendedJournal}
 use Rattle.mender.specs.declared.record.Extent.the-variants as extent
 use Rattle.mender.specs.declared.Step.the-variants.{Whole}
 use Rattle.mender.proofs.RecordLaws.{n-told, count-by}
@@ -79,10 +79,10 @@ getD-map (v ∷ vs) zero h = refl
 getD-map (v ∷ vs) (suc k) h = getD-map vs k (le-of-suc-le-suc h)
 
 -- bytes that were dealt with are skipped
-skipped : (s : Bool) (at : ℕ) (a rest : List ℕ) → runFrom s (length a) at (a ++ rest) ≡ runFrom s 0 (at + length a) rest
-unfolding runFrom
-skipped s at [] rest = ap (λ o. runFrom s 0 o rest) (sym (add-zero at))
-skipped s at (b ∷ a) rest = skipped s (suc at) a rest ∙ ap (λ o. runFrom s 0 o rest) more
+skipped : (s : Bool) (at : ℕ) (a rest : List ℕ) → mendedFrom s (length a) at (a ++ rest) ≡ mendedFrom s 0 (at + length a) rest
+unfolding mendedFrom
+skipped s at [] rest = ap (λ o. mendedFrom s 0 o rest) (sym (add-zero at))
+skipped s at (b ∷ a) rest = skipped s (suc at) a rest ∙ ap (λ o. mendedFrom s 0 o rest) more
   where
     more : suc at + length a ≡ at + suc (length a)
     more = omega arith
@@ -194,14 +194,14 @@ module _ (r r′ : List ℕ) (t : OneTurned r r′) where
         ∙ whole-judged n found {read = true} (sym (ap reads back ∙ clear-reads r clear)) refl
 
     -- the run takes it whole, and goes on behind it
-    pub record-run : (at : ℕ) → runFrom false 0 at (r′ ++ rest) ≡ joined (Whole (4 * n + 11)) at found (runFrom false 0 (at + length r′) rest)
-    unfolding runFrom
+    pub record-run : (at : ℕ) → mendedFrom false 0 at (r′ ++ rest) ≡ joined (Whole (4 * n + 11)) at found (mendedFrom false 0 (at + length r′) rest)
+    unfolding mendedFrom
     record-run at =
-        ap (λ x. runFrom false 0 at (x ++ rest)) (t .came)
-        ∙ ap (λ step. joined step at found (runFrom (searchesAfter step) (skipOf step) (suc at) (0x34 ∷ n ∷ (written 4 us ++ rest)))) stepped
+        ap (λ x. mendedFrom false 0 at (x ++ rest)) (t .came)
+        ∙ ap (λ step. joined step at found (mendedFrom (searchesAfter step) (skipOf step) (suc at) (0x34 ∷ n ∷ (written 4 us ++ rest)))) stepped
         ∙ ap (joined (Whole (4 * n + 11)) at found)
-        (ap (λ k. runFrom false k (suc at) ((0x34 ∷ n ∷ written 4 us) ++ rest)) size
-        ∙ skipped false (suc at) (0x34 ∷ n ∷ written 4 us) rest ∙ ap (λ o. runFrom false 0 o rest) place′)
+        (ap (λ k. mendedFrom false k (suc at) ((0x34 ∷ n ∷ written 4 us) ++ rest)) size
+        ∙ skipped false (suc at) (0x34 ∷ n ∷ written 4 us) rest ∙ ap (λ o. mendedFrom false 0 o rest) place′)
       where
         size : 4 * n + 11 - 1 ≡ length (0x34 ∷ n ∷ written 4 us)
         size = omega (arith, length-written 4 us, many)
@@ -214,13 +214,13 @@ module _ (r r′ : List ℕ) (t : OneTurned r r′) where
 
 -- ---- A JOURNAL of such records comes back, and nothing is reported lost or passed over
 
-pub record Back (r : Run) (was : List ℕ) : Type 0 where
+pub record Back (r : MendedJournal) (was : List ℕ) : Type 0 where
   pub bytes : r .bytes ≡ was
   pub lost : r .lost ≡ []
   pub passed : r .passed ≡ []
 
-all-back : (rs rs′ : List (List ℕ)) → AllTurned rs rs′ → (at : ℕ) → Back (runFrom false 0 at (joinedAll rs′)) (joinedAll rs)
-unfolding runFrom joinedAll
+all-back : (rs rs′ : List (List ℕ)) → AllTurned rs rs′ → (at : ℕ) → Back (mendedFrom false 0 at (joinedAll rs′)) (joinedAll rs)
+unfolding mendedFrom joinedAll
 all-back [] [] t at = record { bytes = refl; lost = refl; passed = refl }
 all-back [] (r′ ∷ rs′) t at = absurd t
 all-back (r ∷ rs) [] t at = absurd t
@@ -233,5 +233,5 @@ all-back (r ∷ rs) (r′ ∷ rs′) t at =
       passed = ap (λ x. x .passed) run ∙ next .passed;
     }
 
-pub first-kept : (rs rs′ : List (List ℕ)) → AllTurned rs rs′ → Back (runOf (joinedAll rs′)) (joinedAll rs)
+pub first-kept : (rs rs′ : List (List ℕ)) → AllTurned rs rs′ → Back (mendedJournal (joinedAll rs′)) (joinedAll rs)
 first-kept rs rs′ t = all-back rs rs′ t 0

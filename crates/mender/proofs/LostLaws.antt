@@ -16,7 +16,7 @@ use Rattle.mender_words.specs.Words.{mendedBy, brokenWord}
 use Rattle.mender_words.proofs.Turned.{two-kept}
 use Rattle.mender.specs.Records.{countOf, windowsOf, spoilt, recordFor}
 use Rattle.mender.specs.Steps.{stepBy, bytesAfter}
-use Rattle.mender.specs.Run.{LostAt, Run, skipOf, searchesAfter, joined, runFrom, runOf}
+use Rattle.mender.specs.Run.{LostAt, MendedJournal, skipOf, searchesAfter, joined, mendedFrom, mendedJournal}
 use Rattle.mender.specs.declared.Step.{Step}
 use Rattle.mender.specs.declared.Step.the-variants.{End, Whole, Lost, Cut, Numberless, Passed}
 use Rattle.mender.proofs.FewLaws.{marked-by}
@@ -27,7 +27,7 @@ use Rattle.mender.proofs.PlaceLaws.{behind}
 
 -- ---- the first byte of a step stays
 
-first-byte : (b : ℕ) (bs : List ℕ) (at : ℕ) (step : Step) → Saw (b ∷ bs) step → (next : Run) → take 1 (joined step at (b ∷ bs) next .bytes) ≡ b ∷ []
+first-byte : (b : ℕ) (bs : List ℕ) (at : ℕ) (step : Step) → Saw (b ∷ bs) step → (next : MendedJournal) → take 1 (joined step at (b ∷ bs) next .bytes) ≡ b ∷ []
 unfolding recordFor
 first-byte b bs at End s next = absurd (omega arith)
 first-byte b [] at (Whole size) s next = absurd (omega (arith, s .0 .there, s .0 .size-is))
@@ -38,18 +38,18 @@ first-byte b bs at Cut s next = refl
 first-byte b bs at Numberless s next = refl
 first-byte b bs at Passed s next = refl
 
-run-first : (s : Bool) (at : ℕ) (bs : List ℕ) → take 1 (runFrom s 0 at bs .bytes) ≡ take 1 bs
-unfolding runFrom
+run-first : (s : Bool) (at : ℕ) (bs : List ℕ) → take 1 (mendedFrom s 0 at bs .bytes) ≡ take 1 bs
+unfolding mendedFrom
 run-first s at [] = refl
 run-first s at (b ∷ bs) =
     let step = stepBy s (b ∷ bs) in
-    first-byte b bs at step (saw s (b ∷ bs)) (runFrom (searchesAfter step) (skipOf step) (suc at) bs)
+    first-byte b bs at step (saw s (b ∷ bs)) (mendedFrom (searchesAfter step) (skipOf step) (suc at) bs)
 
 -- a byte without a mark is passed over
-run-passed : (s : Bool) (at b : ℕ) (bs : List ℕ) → unmarked 0x34 (b ∷ bs) ≡ true → runFrom s 0 at (b ∷ bs) .bytes ≡ b ∷ runFrom true 0 (suc at) bs .bytes
-unfolding runFrom
+run-passed : (s : Bool) (at b : ℕ) (bs : List ℕ) → unmarked 0x34 (b ∷ bs) ≡ true → mendedFrom s 0 at (b ∷ bs) .bytes ≡ b ∷ mendedFrom true 0 (suc at) bs .bytes
+unfolding mendedFrom
 run-passed s at b bs u =
-    ap (λ step. joined step at (b ∷ bs) (runFrom (searchesAfter step) (skipOf step) (suc at) bs) .bytes) (step-passed s (b ∷ bs) (λ e. omega arith) u)
+    ap (λ step. joined step at (b ∷ bs) (mendedFrom (searchesAfter step) (skipOf step) (suc at) bs) .bytes) (step-passed s (b ∷ bs) (λ e. omega arith) u)
 
 other-first : (bs : List ℕ) → unmarked 0x34 (0x34 ∷ bs) ≡ true
 unfolding unmarked
@@ -57,7 +57,7 @@ other-first [] = refl
 other-first (b ∷ bs) = or-true (ltb (suc (suc (length bs))) 2) refl
 
 -- behind a mark two bytes stay: the second of the mark, which begins none, and the N byte
-run-second : (at b c : ℕ) (bs : List ℕ) → b ≡ 0x34 → take 2 (runFrom true 0 at (b ∷ c ∷ bs) .bytes) ≡ b ∷ c ∷ []
+run-second : (at b c : ℕ) (bs : List ℕ) → b ≡ 0x34 → take 2 (mendedFrom true 0 at (b ∷ c ∷ bs) .bytes) ≡ b ∷ c ∷ []
 run-second at b c bs e =
     ap (take 2) (run-passed true at b (c ∷ bs) (ap (λ x. unmarked 0x34 (x ∷ c ∷ bs)) e ∙ other-first (c ∷ bs)))
     ∙ ap (λ r. b ∷ r) (run-first true (suc at) (c ∷ bs))
@@ -70,11 +70,11 @@ pub record StaysAt (start : ℕ) (bytes was : List ℕ) (l : LostAt) : Type 0 wh
   pub stays : take (l .size) (drop (l .offset - start) bytes) ≡ take (l .size) (drop (l .offset - start) was)
 
 module _ (b : ℕ) (bs : List ℕ) (at : ℕ) where
-  abbrev Later : ℕ → Run → Type 0
+  abbrev Later : ℕ → MendedJournal → Type 0
   Later skip next = (l : LostAt) → List·Memᴰ l (next .lost) → StaysAt (suc at + skip) (next .bytes) (drop skip bs) l
 
   -- those behind k bytes
-  later : (k : ℕ) → 1 ≤ k → (new : List ℕ) → length new ≡ k → (next : Run) → Later (k - 1) next → (l : LostAt) → List·Memᴰ l (next .lost)
+  later : (k : ℕ) → 1 ≤ k → (new : List ℕ) → length new ≡ k → (next : MendedJournal) → Later (k - 1) next → (l : LostAt) → List·Memᴰ l (next .lost)
       → StaysAt at (new ++ next .bytes) (b ∷ bs) l
   later k h new e next t l m =
       let r = t l m in
@@ -112,8 +112,8 @@ module _ (b : ℕ) (bs : List ℕ) (at : ℕ) where
       go (inl q) = subst (StaysAt at bytes (b ∷ bs)) (sym q) (here bytes size e)
       go (inr k) = t x k
 
-  joined-stays : (step : Step) → Saw (b ∷ bs) step → (next : Run) → (skipOf step ≤ length bs → Later (skipOf step) next)
-      → (step ≡ Numberless → next .bytes ≡ runFrom true 0 (suc at) bs .bytes)
+  joined-stays : (step : Step) → Saw (b ∷ bs) step → (next : MendedJournal) → (skipOf step ≤ length bs → Later (skipOf step) next)
+      → (step ≡ Numberless → next .bytes ≡ mendedFrom true 0 (suc at) bs .bytes)
       → (l : LostAt) → List·Memᴰ l (joined step at (b ∷ bs) next .lost) → StaysAt at (joined step at (b ∷ bs) next .bytes) (b ∷ bs) l
   joined-stays End s next t i l m = absurd (omega arith)
   joined-stays (Whole size) s next t i l m =
@@ -128,32 +128,32 @@ module _ (b : ℕ) (bs : List ℕ) (at : ℕ) where
       split l 3 (b ∷ next .bytes) (next .lost) (ap (λ r. take 3 (b ∷ r)) (i refl) ∙ three bs (s .0) (s .1))
       (λ x k. later 1 (omega arith) (b ∷ []) refl next (t (omega arith)) x k) m
     where
-      three : (xs : List ℕ) → unmarked 0x34 (b ∷ xs) ≡ false → 11 ≤ length (b ∷ xs) → take 3 (b ∷ runFrom true 0 (suc at) xs .bytes) ≡ take 3 (b ∷ xs)
+      three : (xs : List ℕ) → unmarked 0x34 (b ∷ xs) ≡ false → 11 ≤ length (b ∷ xs) → take 3 (b ∷ mendedFrom true 0 (suc at) xs .bytes) ≡ take 3 (b ∷ xs)
       three [] u h = absurd (omega arith)
       three (x ∷ []) u h = absurd (omega arith)
       three (x ∷ y ∷ xs) u h = ap (λ r. b ∷ r) (run-second (suc at) x y xs (marked-by b x (y ∷ xs) u .1))
   joined-stays Passed s next t i l m = later 1 (omega arith) (b ∷ []) refl next (t (omega arith)) l m
 
-run-stays : (s : Bool) (skip at : ℕ) (bs : List ℕ) → skip ≤ length bs → (l : LostAt) → List·Memᴰ l (runFrom s skip at bs .lost)
-    → StaysAt (at + skip) (runFrom s skip at bs .bytes) (drop skip bs) l
-unfolding runFrom
+run-stays : (s : Bool) (skip at : ℕ) (bs : List ℕ) → skip ≤ length bs → (l : LostAt) → List·Memᴰ l (mendedFrom s skip at bs .lost)
+    → StaysAt (at + skip) (mendedFrom s skip at bs .bytes) (drop skip bs) l
+unfolding mendedFrom
 run-stays s zero at [] h l m = absurd (List·Memᴰ·not-nil m)
 run-stays s (suc skip) at [] h l m = absurd (omega arith)
 run-stays s (suc skip) at (b ∷ bs) h l m =
     let same : suc at + skip ≡ at + suc skip = omega arith in
-    subst (λ o. StaysAt o (runFrom s skip (suc at) bs .bytes) (drop skip bs) l) same (run-stays s skip (suc at) bs (omega arith) l m)
+    subst (λ o. StaysAt o (mendedFrom s skip (suc at) bs .bytes) (drop skip bs) l) same (run-stays s skip (suc at) bs (omega arith) l m)
 run-stays s zero at (b ∷ bs) h l m =
     let step = stepBy s (b ∷ bs) in
-    let next = runFrom (searchesAfter step) (skipOf step) (suc at) bs in
+    let next = mendedFrom (searchesAfter step) (skipOf step) (suc at) bs in
     subst (λ o. StaysAt o (joined step at (b ∷ bs) next .bytes) (b ∷ bs) l) (sym (add-zero at))
     (joined-stays b bs at step (saw s (b ∷ bs)) next (λ k. run-stays (searchesAfter step) (skipOf step) (suc at) bs k)
-    (λ e. ap (λ x. runFrom (searchesAfter x) (skipOf x) (suc at) bs .bytes) e) l m)
+    (λ e. ap (λ x. mendedFrom (searchesAfter x) (skipOf x) (suc at) bs .bytes) e) l m)
 
-pub lost-stays : (j : List ℕ) (l : LostAt) → List·Memᴰ l (runOf j .lost)
-    → take (l .size) (drop (l .offset) (runOf j .bytes)) ≡ take (l .size) (drop (l .offset) j)
+pub lost-stays : (j : List ℕ) (l : LostAt) → List·Memᴰ l (mendedJournal j .lost)
+    → take (l .size) (drop (l .offset) (mendedJournal j .bytes)) ≡ take (l .size) (drop (l .offset) j)
 lost-stays j l m =
     let r = run-stays false 0 0 j (omega arith) l m in
-    ap (λ i. take (l .size) (drop i (runOf j .bytes))) same ∙ r .stays ∙ sym (ap (λ i. take (l .size) (drop i j)) same)
+    ap (λ i. take (l .size) (drop i (mendedJournal j .bytes))) same ∙ r .stays ∙ sym (ap (λ i. take (l .size) (drop i j)) same)
   where
     same : l .offset ≡ l .offset - (0 + 0)
     same = omega arith

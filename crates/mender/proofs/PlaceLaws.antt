@@ -18,7 +18,7 @@ use Rattle.journal.proofs.FormLaws.{record-starts, record-words}
 use Rattle.mender_words.specs.Words.{mendedTo}
 use Rattle.mender.specs.Records.{countOf, reads, windowsOf, recordFor}
 use Rattle.mender.specs.Steps.{stepBy}
-use Rattle.mender.specs.Run.{Run, skipOf, searchesAfter, joined, runFrom, runOf}
+use Rattle.mender.specs.Run.{MendedJournal, skipOf, searchesAfter, joined, mendedFrom, mendedJournal}
 use Rattle.mender.specs.declared.Step.{Step}
 use Rattle.mender.specs.declared.Step.the-variants.{End, Whole, Lost, Cut, Numberless, Passed}
 use Rattle.mender.proofs.ReadLaws.{reads-clear, clear-reads, fit-mended, count-mended, words-mended}
@@ -60,17 +60,17 @@ reads-behind k at new bytes p l r = record { after = omega (arith, r .after); re
 
 module _ (b : ℕ) (bs : List ℕ) (at : ℕ) where
   -- what the run from the next step on has shown
-  abbrev Later : ℕ → Run → Type 0
+  abbrev Later : ℕ → MendedJournal → Type 0
   Later skip next = (p : ℕ) → List·Memᴰ p (next .whole) → ReadsAt (suc at + skip) (next .bytes) p
 
   one-more : (k : ℕ) → 1 ≤ k → suc at + (k - 1) ≡ at + k
   one-more k h = omega arith
 
-  later : (k : ℕ) → 1 ≤ k → (new : List ℕ) → length new ≡ k → (next : Run) → Later (k - 1) next → (p : ℕ) → List·Memᴰ p (next .whole)
+  later : (k : ℕ) → 1 ≤ k → (new : List ℕ) → length new ≡ k → (next : MendedJournal) → Later (k - 1) next → (p : ℕ) → List·Memᴰ p (next .whole)
       → ReadsAt at (new ++ next .bytes) p
   later k h new l next t p m = reads-behind k at new (next .bytes) p l (subst (λ o. ReadsAt o (next .bytes) p) (one-more k h) (t p m))
 
-  joined-reads : (step : Step) → Saw (b ∷ bs) step → (next : Run) → (skipOf step ≤ length bs → Later (skipOf step) next)
+  joined-reads : (step : Step) → Saw (b ∷ bs) step → (next : MendedJournal) → (skipOf step ≤ length bs → Later (skipOf step) next)
       → (p : ℕ) → List·Memᴰ p (joined step at (b ∷ bs) next .whole) → ReadsAt at (joined step at (b ∷ bs) next .bytes) p
   joined-reads End s next t p m = absurd (omega arith)
   joined-reads (Whole size) s next t p m = go (List·Memᴰ·cases-cons m)
@@ -102,23 +102,23 @@ module _ (b : ℕ) (bs : List ℕ) (at : ℕ) where
   joined-reads Numberless s next t p m = later 1 (omega arith) (b ∷ []) refl next (t (omega arith)) p m
   joined-reads Passed s next t p m = later 1 (omega arith) (b ∷ []) refl next (t (omega arith)) p m
 
-run-reads : (s : Bool) (skip at : ℕ) (bs : List ℕ) → skip ≤ length bs → (p : ℕ) → List·Memᴰ p (runFrom s skip at bs .whole)
-    → ReadsAt (at + skip) (runFrom s skip at bs .bytes) p
-unfolding runFrom
+run-reads : (s : Bool) (skip at : ℕ) (bs : List ℕ) → skip ≤ length bs → (p : ℕ) → List·Memᴰ p (mendedFrom s skip at bs .whole)
+    → ReadsAt (at + skip) (mendedFrom s skip at bs .bytes) p
+unfolding mendedFrom
 run-reads s zero at [] h p m = absurd (List·Memᴰ·not-nil m)
 run-reads s (suc skip) at [] h p m = absurd (omega arith)
 run-reads s (suc skip) at (b ∷ bs) h p m =
     let same : suc at + skip ≡ at + suc skip = omega arith in
-    subst (λ o. ReadsAt o (runFrom s skip (suc at) bs .bytes) p) same (run-reads s skip (suc at) bs (omega arith) p m)
+    subst (λ o. ReadsAt o (mendedFrom s skip (suc at) bs .bytes) p) same (run-reads s skip (suc at) bs (omega arith) p m)
 run-reads s zero at (b ∷ bs) h p m =
     let step = stepBy s (b ∷ bs) in
-    let next = runFrom (searchesAfter step) (skipOf step) (suc at) bs in
+    let next = mendedFrom (searchesAfter step) (skipOf step) (suc at) bs in
     subst (λ o. ReadsAt o (joined step at (b ∷ bs) next .bytes) p) (sym (add-zero at))
     (joined-reads b bs at step (saw s (b ∷ bs)) next (λ l. run-reads (searchesAfter step) (skipOf step) (suc at) bs l) p m)
 
 -- WHAT IS CALLED WHOLE READS, over a whole journal
-pub whole-reads : (j : List ℕ) (p : ℕ) → List·Memᴰ p (runOf j .whole) → reads (drop p (runOf j .bytes)) ≡ true
-whole-reads j p m = let r = run-reads false 0 0 j (omega arith) p m in ap (λ i. reads (drop i (runOf j .bytes))) same ∙ r .read
+pub whole-reads : (j : List ℕ) (p : ℕ) → List·Memᴰ p (mendedJournal j .whole) → reads (drop p (mendedJournal j .bytes)) ≡ true
+whole-reads j p m = let r = run-reads false 0 0 j (omega arith) p m in ap (λ i. reads (drop i (mendedJournal j .bytes))) same ∙ r .read
   where
     same : p ≡ p - (0 + 0)
     same = omega arith

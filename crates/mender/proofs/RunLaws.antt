@@ -11,7 +11,7 @@ use borrow.Author.Tests.{eq-eqb}
 use Rattle.mender.specs.Records.{countOf, recordFor}
 use Rattle.mender.specs.Report.{changesFrom}
 use Rattle.mender.specs.Steps.{stepBy}
-use Rattle.mender.specs.Run.{Run, skipOf, searchesAfter, joined, runFrom, runOf}
+use Rattle.mender.specs.Run.{MendedJournal, skipOf, searchesAfter, joined, mendedFrom, mendedJournal}
 use Rattle.mender.specs.declared.Step.{Step}
 use Rattle.mender.specs.declared.Step.the-variants.{End, Whole, Lost, Cut, Numberless, Passed}
 use Rattle.mender.proofs.FewLaws.{changes-append}
@@ -39,7 +39,7 @@ changes-front at k xs ys h l =
 
 -- ---- from a place on: the bytes left are as many as there were, and the changes are where they differ
 
-pub record Told (skip at : ℕ) (bs : List ℕ) (r : Run) : Type 0 where
+pub record Told (skip at : ℕ) (bs : List ℕ) (r : MendedJournal) : Type 0 where
   pub long : length (r .bytes) + skip ≡ length bs
   pub told : r .changes ≡ changesFrom (at + skip) (drop skip bs) (r .bytes)
 
@@ -51,8 +51,8 @@ module _ (b : ℕ) (bs : List ℕ) (at k : ℕ) (h : 1 ≤ k) (l : k ≤ length 
       back : k ≡ suc (k - 1)
       back = omega arith
 
-  pub puts : (r next : Run) → Told (k - 1) (suc at) bs next → r .bytes ≡ new ++ next .bytes → r .changes ≡ changesFrom at (b ∷ bs) new ++ next .changes
-      → Told 0 at (b ∷ bs) r
+  pub puts : (r next : MendedJournal) → Told (k - 1) (suc at) bs next → r .bytes ≡ new ++ next .bytes
+      → r .changes ≡ changesFrom at (b ∷ bs) new ++ next .changes → Told 0 at (b ∷ bs) r
   puts r next t eb ec = record {
     long = omega (arith, ap length eb, length-append new (next .bytes), t .long);
     told =
@@ -69,7 +69,7 @@ module _ (b : ℕ) (bs : List ℕ) (at k : ℕ) (h : 1 ≤ k) (l : k ≤ length 
       place = omega (arith, length-take-le k (b ∷ bs) l)
 
 -- k bytes stay
-keeps : (b : ℕ) (bs : List ℕ) (at k : ℕ) → 1 ≤ k → k ≤ length (b ∷ bs) → (r next : Run) → Told (k - 1) (suc at) bs next
+keeps : (b : ℕ) (bs : List ℕ) (at k : ℕ) → 1 ≤ k → k ≤ length (b ∷ bs) → (r next : MendedJournal) → Told (k - 1) (suc at) bs next
     → r .bytes ≡ take k (b ∷ bs) ++ next .bytes → r .changes ≡ next .changes → Told 0 at (b ∷ bs) r
 keeps b bs at k h l r next t eb ec =
     puts b bs at k h l (take k (b ∷ bs)) (length-take-le k (b ∷ bs) l) r next t eb
@@ -78,8 +78,8 @@ keeps b bs at k h l r next t eb ec =
     same : changesFrom at (b ∷ bs) (take k (b ∷ bs)) ≡ []
     same = changes-front at k (b ∷ bs) (take k (b ∷ bs)) l (length-take-le k (b ∷ bs) l) ∙ changes-self at (take k (b ∷ bs))
 
-joined-told : (b : ℕ) (bs : List ℕ) (at : ℕ) (step : Step) → Saw (b ∷ bs) step → (next : Run) → (skipOf step ≤ length bs → Told (skipOf step) (suc at) bs next)
-    → Told 0 at (b ∷ bs) (joined step at (b ∷ bs) next)
+joined-told : (b : ℕ) (bs : List ℕ) (at : ℕ) (step : Step) → Saw (b ∷ bs) step → (next : MendedJournal)
+    → (skipOf step ≤ length bs → Told (skipOf step) (suc at) bs next) → Told 0 at (b ∷ bs) (joined step at (b ∷ bs) next)
 joined-told b bs at End s next t = absurd (omega arith)
 joined-told b bs at (Whole size) s next t =
     let a = s .0 in
@@ -95,22 +95,22 @@ joined-told b bs at Cut s next t = record {
 joined-told b bs at Numberless s next t = keeps b bs at 1 (omega arith) (omega arith) (joined Numberless at (b ∷ bs) next) next (t (omega arith)) refl refl
 joined-told b bs at Passed s next t = keeps b bs at 1 (omega arith) (omega arith) (joined Passed at (b ∷ bs) next) next (t (omega arith)) refl refl
 
-pub run-told : (s : Bool) (skip at : ℕ) (bs : List ℕ) → skip ≤ length bs → Told skip at bs (runFrom s skip at bs)
-unfolding runFrom changesFrom
+pub run-told : (s : Bool) (skip at : ℕ) (bs : List ℕ) → skip ≤ length bs → Told skip at bs (mendedFrom s skip at bs)
+unfolding mendedFrom changesFrom
 run-told s zero at [] h = record { long = refl; told = refl }
 run-told s (suc skip) at [] h = absurd (omega arith)
 run-told s (suc skip) at (b ∷ bs) h =
     let t = run-told s skip (suc at) bs (omega arith) in
     let same : suc at + skip ≡ at + suc skip = omega arith in
-    record { long = omega (arith, t .long); told = t .told ∙ ap (λ o. changesFrom o (drop skip bs) (runFrom s skip (suc at) bs .bytes)) same }
+    record { long = omega (arith, t .long); told = t .told ∙ ap (λ o. changesFrom o (drop skip bs) (mendedFrom s skip (suc at) bs .bytes)) same }
 run-told s zero at (b ∷ bs) h =
     let step = stepBy s (b ∷ bs) in
-    joined-told b bs at step (saw s (b ∷ bs)) (runFrom (searchesAfter step) (skipOf step) (suc at) bs)
+    joined-told b bs at step (saw s (b ∷ bs)) (mendedFrom (searchesAfter step) (skipOf step) (suc at) bs)
     (λ l. run-told (searchesAfter step) (skipOf step) (suc at) bs l)
 
 -- A WHOLE JOURNAL
-pub run-long : (j : List ℕ) → length (runOf j .bytes) ≡ length j
-run-long j = sym (add-zero (length (runOf j .bytes))) ∙ run-told false 0 0 j (omega arith) .long
+pub run-long : (j : List ℕ) → length (mendedJournal j .bytes) ≡ length j
+run-long j = sym (add-zero (length (mendedJournal j .bytes))) ∙ run-told false 0 0 j (omega arith) .long
 
-pub changes-told : (j : List ℕ) → runOf j .changes ≡ changesFrom 0 j (runOf j .bytes)
+pub changes-told : (j : List ℕ) → mendedJournal j .changes ≡ changesFrom 0 j (mendedJournal j .bytes)
 changes-told j = run-told false 0 0 j (omega arith) .told

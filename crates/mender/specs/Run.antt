@@ -16,15 +16,15 @@ pub record LostAt : Type 0 where
   pub size : ℕ
 
 -- what a run gives: the journal after it, the changes, the offsets of the whole records, the lost ones, the offsets of the bytes passed over
-pub record Run : Type 0 where
+pub record MendedJournal : Type 0 where
   pub bytes : List ℕ
   pub changes : List Change
   pub whole : List ℕ
   pub lost : List LostAt
   pub passed : List ℕ
 
-abbrev pub noRun : Run
-noRun = record { bytes = []; changes = []; whole = []; lost = []; passed = [] }
+abbrev pub nothingMended : MendedJournal
+nothingMended = record { bytes = []; changes = []; whole = []; lost = []; passed = [] }
 
 -- WHERE THE NEXT STEP IS: so many bytes on, where `left` are left
 abbrev pub onOf : Step → ℕ → ℕ
@@ -64,7 +64,7 @@ abbrev pub skipOf : Step → ℕ
 skipOf step = onOf step 0 - 1
 
 -- a step at the offset `at` and the run from the next one on. A record cut short ends the run. One that has no N counts as its mark and N byte alone.
-abbrev pub joined : Step → ℕ → List ℕ → Run → Run
+abbrev pub joined : Step → ℕ → List ℕ → MendedJournal → MendedJournal
 joined (Whole size) at bs next = record {
   bytes = recordFor (countOf bs) bs ++ next .bytes;
   changes = changesFrom at bs (recordFor (countOf bs) bs) ++ next .changes;
@@ -97,13 +97,13 @@ joined Passed at bs next = record {
 joined End at bs next = next
 
 -- FROM A PLACE ON, searching or not: `skip` bytes, which the step before dealt with, and then step after step
-unfoldable pub runFrom : Bool → ℕ → ℕ → List ℕ → Run
-runFrom searching skip at [] = noRun
-runFrom searching (suc skip) at (b ∷ bs) = runFrom searching skip (suc at) bs
-runFrom searching zero at (b ∷ bs) =
+unfoldable pub mendedFrom : Bool → ℕ → ℕ → List ℕ → MendedJournal
+mendedFrom searching skip at [] = nothingMended
+mendedFrom searching (suc skip) at (b ∷ bs) = mendedFrom searching skip (suc at) bs
+mendedFrom searching zero at (b ∷ bs) =
     let step = stepBy searching (b ∷ bs) in
-    joined step at (b ∷ bs) (runFrom (searchesAfter step) (skipOf step) (suc at) bs)
+    joined step at (b ∷ bs) (mendedFrom (searchesAfter step) (skipOf step) (suc at) bs)
 
 -- THE RUN
-abbrev pub runOf : List ℕ → Run
-runOf journal = runFrom false 0 0 journal
+abbrev pub mendedJournal : List ℕ → MendedJournal
+mendedJournal journal = mendedFrom false 0 0 journal

@@ -37,7 +37,7 @@ use Rattle.record_texts.specs.Texts.{wrongWords, forbidden, textIn, lengthIn, r
 use Rattle.record_laws.proofs.CorrectionTrips.{entry-late, corrections-read, corrections-held}
 use Rattle.record_laws.proofs.TextHeld.{closing}
 use Rattle.profile.specs.declared.Profile.the-variants.{Inside, Refused}
-use Rattle.profile.specs.Profile.{listed, satelliteIn, satelliteCount, satellitesIn, repeated, typeOrder, checkProfile}
+use Rattle.profile.specs.Profile.{listed, satelliteNumber, satelliteCount, satellitesIn, repeated, typeOrder, checkProfile}
 use Rattle.profile.specs.Arms.{settled, textProfile, satelliteRead, fewProfile, countedProfile, correctionsProfile}
 
 -- ---- 5 and 7
@@ -131,7 +131,7 @@ module _ (f : Frame) (within : outside f ≡ false) (hour : late (f .header .z) 
   -- ---- type 9: every entry below the count is read, and says its satellite
 
   module _ (e : f .header .kind ≡ 9) where
-    pub satellite-read : (c : ℕ) → HoldsCorrections f c → (i : ℕ) → i < c → satelliteRead (correctionAt f i) ≡ satelliteIn f i
+    pub satellite-read : (c : ℕ) → HoldsCorrections f c → (i : ℕ) → i < c → satelliteRead (correctionAt f i) ≡ satelliteNumber f i
     unfolding systemOf issueOf
     satellite-read c k i l =
         ap satelliteRead
@@ -141,11 +141,12 @@ module _ (f : Frame) (within : outside f ≡ false) (hour : late (f .header .z) 
         (entry-late Gps i (frameBits f))))
 
     pub three-read : (c : ℕ) → HoldsCorrections f c → c ≤ 3
-        → take c (satelliteRead (correctionAt f 0) ∷ satelliteRead (correctionAt f 1) ∷ satelliteRead (correctionAt f 2) ∷ []) ≡ listed (satelliteIn f) c 0
+        → take c (satelliteRead (correctionAt f 0) ∷ satelliteRead (correctionAt f 1) ∷ satelliteRead (correctionAt f 2) ∷ []) ≡ listed (satelliteNumber f) c 0
     three-read c k l = go c l (satellite-read c k)
       where
-        go : (c : ℕ) → c ≤ 3 → ((i : ℕ) → i < c → satelliteRead (correctionAt f i) ≡ satelliteIn f i)
-            → take c (satelliteRead (correctionAt f 0) ∷ satelliteRead (correctionAt f 1) ∷ satelliteRead (correctionAt f 2) ∷ []) ≡ listed (satelliteIn f) c 0
+        go : (c : ℕ) → c ≤ 3 → ((i : ℕ) → i < c → satelliteRead (correctionAt f i) ≡ satelliteNumber f i)
+            → take c (satelliteRead (correctionAt f 0) ∷ satelliteRead (correctionAt f 1) ∷ satelliteRead (correctionAt f 2) ∷ [])
+            ≡ listed (satelliteNumber f) c 0
         go zero l at = refl
         go (suc zero) l at = rw (at 0 (omega arith))
         go (suc (suc zero)) l at = rw (at 0 (omega arith), at 1 (omega arith))

@@ -27,7 +27,7 @@ use Rattle.record_corrections.specs.declared.Correction.{Correction}
 use Rattle.record_corrections.specs.declared.Issue.the-variants.{Iod}
 use Rattle.record_corrections.specs.Corrections.{coding, fill, outOfRange, countCorrections, makeCorrections, Typed, CorrectionsMade, HoldsCorrections}
 use Rattle.record_laws.proofs.CorrectionTrips.{corrections-made-read, corrections-held, corrections-sent, corrections-told}
-use Rattle.profile.specs.Profile.{listed, satelliteIn, repeated, InProfile, in-corrections}
+use Rattle.profile.specs.Profile.{listed, satelliteNumber, repeated, InProfile, in-corrections}
 use Rattle.profile.specs.Cutting.{rising, part, cutFrame, frameCount, cutFrames, satellitesOf, cutOrder, refusedCut, doneCut, cutCorrections}
 use Rattle.profile.specs.Cutting.{Cuttable, Reads, ReadsAll, end, next, CutWell, IsCut}
 use Rattle.profile.specs.Arms.{satelliteRead}
@@ -63,7 +63,7 @@ module _ (h : Header) (es : List Correction) (s : Sound h es) (typed : Each Type
     holds = corrections-held (cutFrame h es i) (length (part es i)) (reads .counts)
 
     -- its satellites are those of its part
-    satellite-is : (j : ℕ) → j < length (part es i) → satelliteIn (cutFrame h es i) j ≡ getD (satellitesOf (part es i)) j 0
+    satellite-is : (j : ℕ) → j < length (part es i) → satelliteNumber (cutFrame h es i) j ≡ getD (satellitesOf (part es i)) j 0
     satellite-is j l =
         sym (satellite-read (cutFrame h es i) (made nobody .inside) (ap (λ x. late (x .z)) (made nobody .header) ∙ s .hour) kind-is
         (length (part es i)) holds j l)

@@ -32,7 +32,7 @@ use Rattle.record_laws.proofs.PositionTrips.{position-read, position-held}
 use Rattle.record_laws.proofs.TextHeld.{text-read, text-held}
 use Rattle.record_texts.proofs.TextCode.{length-characters}
 use Rattle.profile.specs.declared.Profile.the-variants.{Inside, Refused}
-use Rattle.profile.specs.Profile.{listed, satelliteIn, repeated, profileOrder, checkProfile, FewSatellites}
+use Rattle.profile.specs.Profile.{listed, satelliteNumber, repeated, profileOrder, checkProfile, FewSatellites}
 use Rattle.profile.specs.Profile.{InProfile, in-position, in-healths, in-null, in-corrections, in-text}
 use Rattle.profile.specs.Arms.{settled, satelliteRead, fewProfile, countedProfile}
 use Rattle.profile.proofs.Twice.{apart-told, apart-fine}
@@ -55,11 +55,11 @@ module _ (f : Frame) (c : ℕ) where
       ∷ (repeated (take c (satelliteRead (correctionAt f 0) ∷ satelliteRead (correctionAt f 1) ∷ satelliteRead (correctionAt f 2) ∷ [])), 22)
       ∷ []
 
-  at : (i : ℕ) → i < c → getD (listed (satelliteIn f) c 0) i 0 ≡ satelliteIn f i
-  at i l = listed-at (satelliteIn f) c i 0 l
+  at : (i : ℕ) → i < c → getD (listed (satelliteNumber f) c 0) i 0 ≡ satelliteNumber f i
+  at i l = listed-at (satelliteNumber f) c i 0 l
 
-  long : length (listed (satelliteIn f) c 0) ≡ c
-  long = length-listed (satelliteIn f) c 0
+  long : length (listed (satelliteNumber f) c 0) ≡ c
+  long = length-listed (satelliteNumber f) c 0
 
   few-inside : outside f ≡ false → late (f .header .z) ≡ false → f .header .kind ≡ 9 → FewSatellites f c → fewProfile f c ≡ Inside
   unfolding fewProfile
@@ -67,7 +67,7 @@ module _ (f : Frame) (c : ℕ) where
       rw (
         le-ltb 3 c (k .few),
         ap repeated (three-read f w z e c (k .holds) (k .few))
-            ∙ apart-fine (listed (satelliteIn f) c 0)
+            ∙ apart-fine (listed (satelliteNumber f) c 0)
             (λ i j l m q. k .apart i j l (omega (arith, long)) (sym (at i (omega (arith, long))) ∙ q ∙ at j (omega (arith, long)))),
       )
 
@@ -80,7 +80,7 @@ module _ (f : Frame) (c : ℕ) where
         holds = k;
         few = few;
         apart = λ i j l m s.
-            apart-told (listed (satelliteIn f) c 0) (ap repeated (sym (three-read f w z e c k few)) ∙ t .1 .0) i j l (omega (arith, long))
+            apart-told (listed (satelliteNumber f) c 0) (ap repeated (sym (three-read f w z e c k few)) ∙ t .1 .0) i j l (omega (arith, long))
             (at i (omega arith) ∙ s ∙ sym (at j m));
       }
 

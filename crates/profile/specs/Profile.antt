@@ -32,14 +32,14 @@ listed g zero i = []
 listed g (suc n) i = g i ∷ listed g n (suc i)
 
 -- the satellite of correction number i of a frame of type 9; how many it has; all of them
-abbrev pub satelliteIn : Frame → ℕ → ℕ
-satelliteIn f i = entryIn (coding Gps) i (frameBits f) .satellite
+abbrev pub satelliteNumber : Frame → ℕ → ℕ
+satelliteNumber f i = entryIn (coding Gps) i (frameBits f) .satellite
 
 abbrev pub satelliteCount : Frame → ℕ
 satelliteCount f = entriesHeld 40 (f .n)
 
 abbrev pub satellitesIn : Frame → List ℕ
-satellitesIn f = listed (satelliteIn f) (satelliteCount f) 0
+satellitesIn f = listed (satelliteNumber f) (satelliteCount f) 0
 
 -- one number of a list stands in it again
 unfoldable pub repeated : List ℕ → Bool
@@ -85,7 +85,7 @@ saysProfile (Refused n) = refuses n
 pub record FewSatellites (f : Frame) (c : ℕ) : Type 0 where
   pub holds : HoldsCorrections f c
   pub few : c ≤ mostSatellites
-  pub apart : (i j : ℕ) → i < j → j < c → satelliteIn f i ≡ satelliteIn f j → ⊥
+  pub apart : (i j : ℕ) → i < j → j < c → satelliteNumber f i ≡ satelliteNumber f j → ⊥
 
 pub data InProfile (f : Frame) : Type 0 where
   in-position : f .header .kind ≡ 3 → HoldsPosition f → InProfile f

@@ -12,7 +12,7 @@ use Rattle.mender_words.specs.declared.MendedWord.the-variants.{Mended, Broken}
 use Rattle.mender.specs.Records.{countOf, windowsOf, reads}
 use Rattle.mender.specs.Report.{changesFrom}
 use Rattle.mender.specs.Steps.{stepBy, bytesAfter, reportOf}
-use Rattle.mender.specs.Run.{LostAt, runOf}
+use Rattle.mender.specs.Run.{LostAt, mendedJournal}
 use Rattle.mender.specs.Damage.{AllTurned, joinedAll}
 use Rattle.mender.specs.declared.Step.the-variants.{Whole}
 
@@ -35,13 +35,13 @@ pub record Mending : Type 0 where
   pub windowed-report : (w e : List ℕ) → 135 ≤ length w → (s : Bool) (at : ℕ) → reportOf at (stepBy s (w ++ e)) (w ++ e) ≡ reportOf at (stepBy s w) w
   -- OVER A WHOLE JOURNAL. "Where marks and N bytes are sound and no word has more than one turned bit, the result equals what was first kept", and
   -- nothing is lost or passed over
-  pub first-kept : (rs rs′ : List (List ℕ)) → AllTurned rs rs′ → runOf (joinedAll rs′) .bytes ≡ joinedAll rs
-  pub none-lost : (rs rs′ : List (List ℕ)) → AllTurned rs rs′ → (runOf (joinedAll rs′) .lost ≡ []) × (runOf (joinedAll rs′) .passed ≡ [])
+  pub first-kept : (rs rs′ : List (List ℕ)) → AllTurned rs rs′ → mendedJournal (joinedAll rs′) .bytes ≡ joinedAll rs
+  pub none-lost : (rs rs′ : List (List ℕ)) → AllTurned rs rs′ → (mendedJournal (joinedAll rs′) .lost ≡ []) × (mendedJournal (joinedAll rs′) .passed ≡ [])
   -- "No byte of a lost record changes": those that count as its own
-  pub lost-stays : (j : List ℕ) (l : LostAt) → List·Memᴰ l (runOf j .lost)
-      → take (l .size) (drop (l .offset) (runOf j .bytes)) ≡ take (l .size) (drop (l .offset) j)
+  pub lost-stays : (j : List ℕ) (l : LostAt) → List·Memᴰ l (mendedJournal j .lost)
+      → take (l .size) (drop (l .offset) (mendedJournal j .bytes)) ≡ take (l .size) (drop (l .offset) j)
   -- "Print each change: byte offset, old, new": the changes are exactly where the journal and what came of it differ, and both are of one length
-  pub long : (j : List ℕ) → length (runOf j .bytes) ≡ length j
-  pub told : (j : List ℕ) → runOf j .changes ≡ changesFrom 0 j (runOf j .bytes)
+  pub long : (j : List ℕ) → length (mendedJournal j .bytes) ≡ length j
+  pub told : (j : List ℕ) → mendedJournal j .changes ≡ changesFrom 0 j (mendedJournal j .bytes)
   -- a record that is called whole reads from what came of the journal
-  pub whole-reads : (j : List ℕ) (p : ℕ) → List·Memᴰ p (runOf j .whole) → reads (drop p (runOf j .bytes)) ≡ true
+  pub whole-reads : (j : List ℕ) (p : ℕ) → List·Memᴰ p (mendedJournal j .whole) → reads (drop p (mendedJournal j .bytes)) ≡ true

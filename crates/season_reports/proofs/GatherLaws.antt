@@ -12,7 +12,7 @@ use borrow.Author.Tests.{le-leb, lt-leb, ltb-true, ltb-false}
 use Rattle.season_reports.specs.Rows.{sameKey, blankRow}
 use Rattle.season_reports.specs.Gathering.{keysOf}
 use Rattle.season_reports.specs.Reports.{mostRows, rowsIn, reportWith}
-use Rattle.season_reports.specs.Tables.{codeOf, firstOf, overBoth, merged, putRow, fullTable, placeIn, withRow, withRows, SoundRow, SoundTable}
+use Rattle.season_reports.specs.Tables.{codeOf, firstOf, overBoth, merged, putRow, fullTable, placeOfKey, withRow, withRows, SoundRow, SoundTable}
 use Rattle.season_reports.specs.declared.Row.{Row}
 use Rattle.season_reports.specs.declared.table.Table.{Table}
 use Rattle.season_reports.proofs.RowLaws.{key-eq}
@@ -61,7 +61,7 @@ module _ (t : Table) (batch : List Row) (codes : List ℕ) (now : Table) (i : �
   rows = rowsIn (now .report)
 
   -- by codes it is the place of the key
-  pub place-is : firstOf (eqb (codeOf (r .key))) (take (now .report .used) codes) ≡ placeIn now (r .key)
+  pub place-is : firstOf (eqb (codeOf (r .key))) (take (now .report .used) codes) ≡ placeOfKey now (r .key)
   place-is = ap (firstOf (eqb (codeOf (r .key)))) (s .coded) ∙ first-code r (rowsIn (now .report)) q (s .sound .rows)
 
   next : withRows t batch ≡ withRows (withRow now r) (drop (suc i) batch)
@@ -69,13 +69,13 @@ module _ (t : Table) (batch : List Row) (codes : List ℕ) (now : Table) (i : �
   next = s .same ∙ ap (withRows now) (drop-cons batch i blankRow there ∙ ap (λ x. x ∷ drop (suc i) batch) is-r)
 
   -- no room
-  pub turn-full : mostRows ≤ placeIn now (r .key) → withRows t batch ≡ fullTable now
+  pub turn-full : mostRows ≤ placeOfKey now (r .key) → withRows t batch ≡ fullTable now
   turn-full h =
-      next ∙ ap (λ x. withRows x (drop (suc i) batch)) (rw (open-now, le-leb mostRows (placeIn now (r .key)) h))
+      next ∙ ap (λ x. withRows x (drop (suc i) batch)) (rw (open-now, le-leb mostRows (placeOfKey now (r .key)) h))
       ∙ full-stays (fullTable now) (drop (suc i) batch) refl
 
-  put-is : placeIn now (r .key) < mostRows → withRow now r ≡ putRow now (placeIn now (r .key)) r
-  put-is h = rw (open-now, lt-leb mostRows (placeIn now (r .key)) h)
+  put-is : placeOfKey now (r .key) < mostRows → withRow now r ≡ putRow now (placeOfKey now (r .key)) r
+  put-is h = rw (open-now, lt-leb mostRows (placeOfKey now (r .key)) h)
 
   table-now : now ≡ tableOf rows (now .over) false
   unfolding rows

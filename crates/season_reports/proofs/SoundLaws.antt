@@ -12,7 +12,7 @@ use Rattle.record_fields.specs.Coding.{Each}
 use Rattle.season_reports.specs.Rows.{sameKey, blankRow, together}
 use Rattle.season_reports.specs.Gathering.{keysOf, keyTwice}
 use Rattle.season_reports.specs.Reports.{mostRows, rowsIn, reportWith}
-use Rattle.season_reports.specs.Tables.{overBoth, merged, putRow, fullTable, placeIn, withRow, withRows, noTable, SoundRow, SoundTable}
+use Rattle.season_reports.specs.Tables.{overBoth, merged, putRow, fullTable, placeOfKey, withRow, withRows, noTable, SoundRow, SoundTable}
 use Rattle.season_reports.specs.declared.Row.{Row}
 use Rattle.season_reports.specs.declared.table.Table.{Table}
 use Rattle.season_reports.proofs.RowLaws.{key-eq, key-sym}
@@ -62,7 +62,7 @@ step-sound rows o r t s q (new e h) = table-sound (rows ++ (r ∷ [])) o false (
 step-sound rows o r t s q (none e h) = table-sound rows o true s
 
 full-row : (t : Table) (r : Row) → t .full ≡ true → withRow t r ≡ t
-full-row t r e = ap (λ f. cond f t (cond (leb mostRows (placeIn t (r .key))) (fullTable t) (putRow t (placeIn t (r .key)) r))) e
+full-row t r e = ap (λ f. cond f t (cond (leb mostRows (placeOfKey t (r .key))) (fullTable t) (putRow t (placeOfKey t (r .key)) r))) e
 
 pub row-sound : (t : Table) (r : Row) → SoundTable t → SoundRow r → SoundTable (withRow t r)
 row-sound t r s q = go (t .full) refl

@@ -12,7 +12,7 @@ use Rattle.record_fields.specs.Coding.{Each}
 use Rattle.season_reports.specs.Rows.{sameKey, blankRow, together}
 use Rattle.season_reports.specs.Gathering.{keysOf, anyTwice, keyTwice}
 use Rattle.season_reports.specs.Reports.{mostRows, rowsIn, reportWith}
-use Rattle.season_reports.specs.Tables.{firstOf, overBoth, merged, putRow, placeIn, withRow, TypedRow, SoundRow, SoundTable}
+use Rattle.season_reports.specs.Tables.{firstOf, overBoth, merged, putRow, placeOfKey, withRow, TypedRow, SoundRow, SoundTable}
 use Rattle.season_reports.specs.declared.Row.{Row}
 use Rattle.season_reports.specs.declared.Report.{Report}
 use Rattle.season_reports.specs.declared.table.Table.{Table}
@@ -150,7 +150,7 @@ module _ (rows : List Row) (o : Bool) (r : Row) (s : SoundRows rows) (t : SoundR
   at : ℕ
   at = firstOf (λ x. sameKey (r .key) (x .key)) rows
 
-  at-is : placeIn (tableOf rows o false) (r .key) ≡ at
+  at-is : placeOfKey (tableOf rows o false) (r .key) ≡ at
   unfolding at
   at-is = ap (firstOf (λ x. sameKey (r .key) (x .key))) (rows-back rows)
 

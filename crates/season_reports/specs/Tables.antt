@@ -56,12 +56,13 @@ putRow t i row = record {
 abbrev pub fullTable : Table → Table
 fullTable t = record { report = t .report; over = t .over; full = true }
 
-abbrev pub placeIn : Table → Key → ℕ
-placeIn t k = firstOf (λ r. sameKey k (r .key)) (rowsIn (t .report))
+-- the number of the row that has a key, or of the first that is not in use
+abbrev pub placeOfKey : Table → Key → ℕ
+placeOfKey t k = firstOf (λ r. sameKey k (r .key)) (rowsIn (t .report))
 
 -- rows one after the other; once one finds no room, the rest is not looked at
 abbrev pub withRow : Table → Row → Table
-withRow t row = let i = placeIn t (row .key) in cond (t .full) t (cond (leb mostRows i) (fullTable t) (putRow t i row))
+withRow t row = let i = placeOfKey t (row .key) in cond (t .full) t (cond (leb mostRows i) (fullTable t) (putRow t i row))
 
 unfoldable pub withRows : Table → List Row → Table
 withRows t [] = t

@@ -8,7 +8,7 @@ use lib.ListN.{length, take, getD, length-take, drop-of-length-le, length-map}
 use lib.Seq.{getD-take}
 use borrow.Author.Needs.{needs}
 use Rattle.season_reports.specs.Rows.{blankRow}
-use Rattle.season_reports.specs.Tables.{firstOf, placeIn, withRows, rowsOfBatch, SoundRow, SoundTable}
+use Rattle.season_reports.specs.Tables.{firstOf, placeOfKey, withRows, rowsOfBatch, SoundRow, SoundTable}
 use Rattle.season_reports.proofs.PlaceLaws.{each-at}
 use Rattle.season_reports.proofs.SoundLaws.{any-sound}
 use Rattle.season_reports.proofs.GatherLaws.{tableWith, SoFar, full-stays, place-is, turn-full, after-turn}
@@ -74,7 +74,7 @@ sound c =
     subst SoundRow (row-is c) (each-at SoundRow (take (b .count) (b .rows)) (l .loop .i) blankRow (start l .pre .1 .1) (inside c))
 
 place : (c : tie.After-place-of Inv-loop μ-loop) → let v = loop c .loop in
-    c .place-of .result ≡ placeIn (tableWith (v .used) (v .rows) (v .over)) (getD (start (loop c) .args .batch .rows) (v .i) blankRow .key)
+    c .place-of .result ≡ placeOfKey (tableWith (v .used) (v .rows) (v .over)) (getD (start (loop c) .args .batch .rows) (v .i) blankRow .key)
 place c =
     let l = loop c in
     let v = l .loop in
