@@ -62,7 +62,8 @@ use Rattle.promises.proofs.ReadersTold.{correction-told, health-told, e
 use Rattle.promises.proofs.ReadersTold.{held-says, epoch-says, observation-says}
 use Rattle.promises.proofs.GeneralsOfRtcm.{generals-of-rtcm}
 use Rattle.promises.proofs.GeneralsBack.{generals-back, general-null-back, head-told, general-told, general-null-told, general-says}
-use Rattle.promises.proofs.ThoseOfRtcm.{count-told, gps-parity-rule, frames-of-rtcm, records-of-rtcm}
+use Rattle.promises.proofs.NumbersOfRtcm.{count-told}
+use Rattle.promises.proofs.ThoseOfRtcm.{gps-parity-rule, frames-of-rtcm, records-of-rtcm}
 use Rattle.promises.proofs.PairBeside.{made-told, pair-beside}
 use Rattle.promises.proofs.ReadsBack.{corrections-back, healths-back, observations-back, position-back, null-back, text-back, what-can-be-sent}
 

@@ -25,7 +25,7 @@ use Rattle.record_values.proofs.Readings.{lowest-stops, only-lowest-stops, exac
 use Rattle.record_values.proofs.GeneralLaws.{general-prc-says, delay-says, general-udre-says}
 use Rattle.promises.specs.GeneralsOfRtcm.{GeneralsOfRtcm}
 use Rattle.promises.proofs.CarriesItsNumber.{says-inj}
-use Rattle.promises.proofs.ThoseOfRtcm.{count-told}
+use Rattle.promises.proofs.NumbersOfRtcm.{count-told}
 use Rattle.promises.proofs.GeneralsBack.{general-null-told}
 
 -- the four systems, one test after the other

@@ -19,8 +19,11 @@ pub mod JournalCalls
 pub mod MenderCalls
 pub mod SeasonCalls
 pub mod CarriesItsNumber
+pub mod Owning
 pub mod ChangesNeither
 pub mod Demand1
+pub mod ParityOfRtcm
+pub mod NumbersOfRtcm
 pub mod ThoseOfRtcm
 pub mod RecordTypes
 pub mod ReadersTold
