@@ -1,6 +1,7 @@
 -- The demands hold of the library. Assumes nothing.
 use Rattle.rtcm2_promises.specs.Library.{Library}
 use Rattle.rtcm2_promises.proofs.LibraryCalls.{library-calls}
+use Rattle.rtcm2_promises.proofs.LibraryRecords.{library-records}
 use Rattle.rtcm2_promises.proofs.LibraryGenerals.{library-generals}
 use Rattle.rtcm2_promises.proofs.CarriesItsNumber.{library-numbers}
 use Rattle.rtcm2_promises.proofs.ChangesNeither.{library-keeps}
@@ -17,6 +18,7 @@ use Rattle.rtcm2_promises.proofs.LateJoiners.{library-late-joiners}
 pub library : Library
 library = record {
   calls = library-calls;
+  records = library-records;
   generals = library-generals;
   carries = library-numbers;
   changes = library-keeps;

@@ -1,5 +1,5 @@
 -- DEMAND 1 of the library for C and Rust, ".. and changes neither state nor buffer": after a refusal every place lent to the function holds what it
--- held. What is left there is said as in the function's field of LibraryCalls. Assumes nothing.
+-- held. What is left there is said as in the function's field of LibraryCalls or LibraryRecords. Assumes nothing.
 use mathlib.Core.Bool.{Bool}
 use mathlib.Core.List.{List}
 use Prim.Native.Nat.{ℕ}

@@ -4,6 +4,7 @@ use Prim.Native.Nat.{ℕ, _≤_}
 use lib.ListN.{length}
 use Rattle.rtcm2_state.specs.State.{stateSize}
 use Rattle.rtcm2_promises.specs.LibraryCalls.{LibraryCalls}
+use Rattle.rtcm2_promises.specs.LibraryRecords.{LibraryRecords}
 use Rattle.rtcm2_promises.specs.LibraryGenerals.{LibraryGenerals}
 use Rattle.rtcm2_promises.specs.CarriesItsNumber.{LibraryNumbers}
 use Rattle.rtcm2_promises.specs.ChangesNeither.{LibraryKeeps}
@@ -19,6 +20,7 @@ use Rattle.rtcm2_promises.specs.SeasonBack.{LibrarySeason}
 pub record Library : Type 2 where
   -- "Every byte sequence, frame and buffer gets a defined answer." "No call trusts its caller." "Every call ends."
   pub calls : LibraryCalls
+  pub records : LibraryRecords
   pub generals : LibraryGenerals
   -- "A refusal carries its number from the table .."
   pub carries : LibraryNumbers

@@ -1,4 +1,4 @@
--- DEMAND 1 of the library for C and Rust, call by call: states and entries as bytes, and the functions of the library. Assumes nothing.
+-- DEMAND 1 of the library for C and Rust, call by call: states as bytes, and the functions of the library but for those of records. Assumes nothing.
 use mathlib.Core.Bool.{cond}
 use mathlib.Core.List.{List}
 use Prim.Native.Nat.{ℕ}
@@ -6,11 +6,9 @@ use lib.IntN.{ℤ}
 use lib.ListN.{length}
 use denote.Ref.{now}
 use Rattle.bits.specs.Bits.{val}
-use Rattle.frame.specs.declared.System.the-variants.{Gps}
 use Rattle.reader.specs.Reading.{fedBy}
 use Rattle.rtcm2_state.specs.Holding.{quietIn}
 use Rattle.rtcm2_state.specs.State.{stateSize, holdsState, stateIn, storedBy, startPut, statePut}
-use Rattle.rtcm2_rows.specs.Rows.{countOf, entriesFrom, putBy, rowAfter}
 use Rattle.rtcm2.specs.Answer.{numberOf, left}
 use Rattle.rtcm2.specs.Line.{startedIn, countsIn, fedIn, fedAllIn, endedIn, takenIn}
 use Rattle.journal.specs.Journal.{heldBy}
@@ -19,12 +17,8 @@ use Rattle.writer.specs.Answer.{openedTo}
 use Rattle.rtcm2.specs.Frames.{frameSaid, keptTo, keepSaid, heldTo, sizeTo, recallSaid, kindSaid}
 use Rattle.rtcm2.specs.Frames.{stationSaid, zCountSaid, sequenceSaid, healthSaid, nSaid, lengthSaid}
 use Rattle.rtcm2.specs.Words.{wordsKept, wordsHeld, wordsSize, liveSaid, backSaid, backHeld, d29Back, d30Back, readBack, lengthBack}
-use Rattle.rtcm2.specs.Rows.{rowTo, rowHeld}
 use Rattle.rtcm2.specs.Header.{headed}
-use Rattle.rtcm2.specs.Positions.{positionSaid, xSaid, ySaid, zSaid}
 use Rattle.rtcm2.specs.Beacon.{profileSaid, cutSaid, keptAll, heldAll, sizeAll}
-use Rattle.rtcm2.specs.Nulls.{nullSaid}
-use Rattle.rtcm2.specs.Texts.{textSaid, textAfter}
 use Rattle.rtcm2.specs.Values.{prcSaid, stopFlag, exactOr0, rrcSaid, stopsSaid, limitSaid, limitFlag, limitOr0, strengthSaid, trackedFlag, dbHzOr0}
 use Rattle.rtcm2.specs.Values.{letterSaid}
 use Rattle.rtcm2.specs.Window.{remainderSaid}
@@ -32,29 +26,13 @@ use Rattle.bits.specs.Bits.{isNonzero}
 use Rattle.mender.specs.Run.{onOf}
 use Rattle.mender.specs.Steps.{bytesTo, outputTo}
 use Rattle.rtcm2.specs.Mending.{stepNumber, mendSaid}
-use Rattle.rtcm2_rows.specs.Corrections as entry-corrections
-use Rattle.rtcm2_rows.specs.Observations as entry-observations
-use Rattle.rtcm2_rows.specs.Healths as entry-healths
 use Rattle.rtcm2.specs.Send as send
-use Rattle.rtcm2.specs.Corrections as corrections
-use Rattle.rtcm2.specs.Observations as observations
-use Rattle.rtcm2.specs.Healths as healths
-use Rattle.rtcm2.specs.Positions as positions
-use Rattle.rtcm2.specs.Nulls as nulls
-use Rattle.rtcm2.specs.Texts as texts
 use Rattle.rtcm2_state.proofs.holds_state
 use Rattle.rtcm2_state.proofs.state_in
 use Rattle.rtcm2_state.proofs.candidate_in
 use Rattle.rtcm2_state.proofs.hold.hold
 use Rattle.rtcm2_state.proofs.put_start
 use Rattle.rtcm2_state.proofs.put_state
-use Rattle.rtcm2_rows.proofs.row.count_of
-use Rattle.rtcm2_rows.proofs.correction.corrections_in
-use Rattle.rtcm2_rows.proofs.correction.put_correction
-use Rattle.rtcm2_rows.proofs.observation.observations_in
-use Rattle.rtcm2_rows.proofs.observation.put_observation
-use Rattle.rtcm2_rows.proofs.health.healths_in
-use Rattle.rtcm2_rows.proofs.health.put_health
 use Rattle.rtcm2.proofs.line.rtcm2_state_size
 use Rattle.rtcm2.proofs.line.rtcm2_start
 use Rattle.rtcm2.proofs.line.rtcm2_feed
@@ -68,24 +46,8 @@ use Rattle.rtcm2.proofs.frames.rtcm2_keep
 use Rattle.rtcm2.proofs.frames.rtcm2_recall
 use Rattle.rtcm2.proofs.words.rtcm2_keep_words
 use Rattle.rtcm2.proofs.words.rtcm2_recall_words
-use Rattle.rtcm2.proofs.correction.rtcm2_count_corrections
-use Rattle.rtcm2.proofs.correction.rtcm2_correction_at
-use Rattle.rtcm2.proofs.correction.rtcm2_make_corrections
-use Rattle.rtcm2.proofs.observation.rtcm2_count_observations
-use Rattle.rtcm2.proofs.observation.rtcm2_read_epoch
-use Rattle.rtcm2.proofs.observation.rtcm2_observation_at
-use Rattle.rtcm2.proofs.observation.rtcm2_make_observations
-use Rattle.rtcm2.proofs.health.rtcm2_count_healths
-use Rattle.rtcm2.proofs.health.rtcm2_health_at
-use Rattle.rtcm2.proofs.health.rtcm2_make_healths
-use Rattle.rtcm2.proofs.position.rtcm2_read_position
-use Rattle.rtcm2.proofs.position.rtcm2_make_position
 use Rattle.rtcm2.proofs.beacon.rtcm2_check_profile
 use Rattle.rtcm2.proofs.beacon.rtcm2_cut_corrections
-use Rattle.rtcm2.proofs.null.rtcm2_read_null
-use Rattle.rtcm2.proofs.null.rtcm2_make_null
-use Rattle.rtcm2.proofs.text.rtcm2_read_text
-use Rattle.rtcm2.proofs.text.rtcm2_make_text
 use Rattle.rtcm2.proofs.values.rtcm2_prc_mm
 use Rattle.rtcm2.proofs.values.rtcm2_rrc_mm_s
 use Rattle.rtcm2.proofs.values.rtcm2_stops
@@ -114,27 +76,6 @@ pub record LibraryCalls : Type 2 where
   pub put-state : AnsweredLent put_state.Reads.Asked put_state.Reads.Learnt put_state.Statement.statement
       (λ κs (reader, (bytes, _)). storedBy (reader .candidate) (now bytes))
       (λ κs (_, (bytes, _)). now bytes) (λ κs (reader, (bytes, _)). statePut reader (now bytes))
-  -- rtcm2_rows::row
-  pub count-of : Answered count_of.Reads.Asked count_of.Reads.Learnt count_of.Statement.statement
-      (λ κs (size, (length, _)). countOf size length)
-  -- rtcm2_rows::observation
-  pub observations-in : Answered observations_in.Reads.Asked observations_in.Reads.Learnt observations_in.Statement.statement
-      (λ κs (bytes, _). entriesFrom entry-observations.row 15 (now bytes))
-  pub put-observation : AnsweredLent put_observation.Reads.Asked put_observation.Reads.Learnt put_observation.Statement.statement
-      (λ κs (_, (bytes, _)). putBy entry-observations.row (now bytes))
-      (λ κs (_, (bytes, _)). now bytes) (λ κs (entry, (bytes, _)). rowAfter entry-observations.row entry (now bytes))
-  -- rtcm2_rows::correction
-  pub corrections-in : Answered corrections_in.Reads.Asked corrections_in.Reads.Learnt corrections_in.Statement.statement
-      (λ κs (system, (bytes, _)). entriesFrom (entry-corrections.row system) 18 (now bytes))
-  pub put-correction : AnsweredLent put_correction.Reads.Asked put_correction.Reads.Learnt put_correction.Statement.statement
-      (λ κs (_, (bytes, _)). putBy (entry-corrections.row Gps) (now bytes))
-      (λ κs (_, (bytes, _)). now bytes) (λ κs (entry, (bytes, _)). rowAfter (entry-corrections.row Gps) entry (now bytes))
-  -- rtcm2_rows::health
-  pub healths-in : Answered healths_in.Reads.Asked healths_in.Reads.Learnt healths_in.Statement.statement
-      (λ κs (system, (bytes, _)). entriesFrom (entry-healths.row system) 31 (now bytes))
-  pub put-health : AnsweredLent put_health.Reads.Asked put_health.Reads.Learnt put_health.Statement.statement
-      (λ κs (_, (bytes, _)). putBy (entry-healths.row Gps) (now bytes))
-      (λ κs (_, (bytes, _)). now bytes) (λ κs (entry, (bytes, _)). rowAfter (entry-healths.row Gps) entry (now bytes))
   -- rtcm2::line
   pub state-size : Answered rtcm2_state_size.Reads.Asked rtcm2_state_size.Reads.Learnt rtcm2_state_size.Statement.statement
       (λ κs a. stateSize)
@@ -222,81 +163,6 @@ pub record LibraryCalls : Type 2 where
       (λ κs (_, (frame, (d29, (d30, (read, (length, _)))))). (now frame, (now d29, (now d30, (now read, now length)))))
       (λ κs (words, (frame, (d29, (d30, (read, (length, _)))))). let s = liveSaid (now words) in let b = backSaid s (now frame) in
       (backHeld s (now frame), (left b d29Back (now d29), (left b d30Back (now d30), (left b readBack (now read), left b lengthBack (now length))))))
-  -- rtcm2::correction
-  pub count-corrections : AnsweredLent
-      rtcm2_count_corrections.Reads.Asked rtcm2_count_corrections.Reads.Learnt rtcm2_count_corrections.Statement.statement
-      (λ κs (frame, _). numberOf (corrections.countSaid (frameSaid (now frame))))
-      (λ κs (_, (count, _)). now count)
-      (λ κs (frame, (count, _)). left (corrections.countSaid (frameSaid (now frame))) (λ k. k) (now count))
-  pub correction-at : AnsweredLent rtcm2_correction_at.Reads.Asked rtcm2_correction_at.Reads.Learnt rtcm2_correction_at.Statement.statement
-      (λ κs (frame, (index, (correction, _))).
-      numberOf (rowTo (entry-corrections.row Gps) (corrections.entrySaid (frameSaid (now frame)) index) (now correction)))
-      (λ κs (_, (_, (correction, _))). now correction)
-      (λ κs (frame, (index, (correction, _))). rowHeld (entry-corrections.row Gps) (corrections.entrySaid (frameSaid (now frame)) index) (now correction))
-  pub make-corrections : AnsweredLent {B = List ℕ × ℕ}
-      rtcm2_make_corrections.Reads.Asked rtcm2_make_corrections.Reads.Learnt rtcm2_make_corrections.Statement.statement
-      (λ κs (kind, (station, (z, (sequence, (health, (rows, (frame, _))))))).
-      numberOf (keptTo (corrections.madeSaid (headed kind station z sequence health) (now rows)) (now frame)))
-      (λ κs (_, (_, (_, (_, (_, (_, (frame, (length, _)))))))). (now frame, now length))
-      (λ κs (kind, (station, (z, (sequence, (health, (rows, (frame, (length, _)))))))).
-      let s = corrections.madeSaid (headed kind station z sequence health) (now rows) in
-      (heldTo s (now frame), left (keptTo s (now frame)) (λ k. k) (now length)))
-  -- rtcm2::health
-  pub count-healths : AnsweredLent rtcm2_count_healths.Reads.Asked rtcm2_count_healths.Reads.Learnt rtcm2_count_healths.Statement.statement
-      (λ κs (frame, _). numberOf (healths.countSaid (frameSaid (now frame))))
-      (λ κs (_, (count, _)). now count) (λ κs (frame, (count, _)). left (healths.countSaid (frameSaid (now frame))) (λ k. k) (now count))
-  pub health-at : AnsweredLent rtcm2_health_at.Reads.Asked rtcm2_health_at.Reads.Learnt rtcm2_health_at.Statement.statement
-      (λ κs (frame, (index, (bytes, _))). numberOf (rowTo (entry-healths.row Gps) (healths.entrySaid (frameSaid (now frame)) index) (now bytes)))
-      (λ κs (_, (_, (bytes, _))). now bytes)
-      (λ κs (frame, (index, (bytes, _))). rowHeld (entry-healths.row Gps) (healths.entrySaid (frameSaid (now frame)) index) (now bytes))
-  pub make-healths : AnsweredLent {B = List ℕ × ℕ}
-      rtcm2_make_healths.Reads.Asked rtcm2_make_healths.Reads.Learnt rtcm2_make_healths.Statement.statement
-      (λ κs (kind, (station, (z, (sequence, (health, (rows, (frame, _))))))).
-      numberOf (keptTo (healths.madeSaid (headed kind station z sequence health) (now rows)) (now frame)))
-      (λ κs (_, (_, (_, (_, (_, (_, (frame, (length, _)))))))). (now frame, now length))
-      (λ κs (kind, (station, (z, (sequence, (health, (rows, (frame, (length, _)))))))).
-      let s = healths.madeSaid (headed kind station z sequence health) (now rows) in
-      (heldTo s (now frame), left (keptTo s (now frame)) (λ k. k) (now length)))
-  -- rtcm2::observation
-  pub count-observations : AnsweredLent
-      rtcm2_count_observations.Reads.Asked rtcm2_count_observations.Reads.Learnt rtcm2_count_observations.Statement.statement
-      (λ κs (frame, _). numberOf (observations.countSaid (frameSaid (now frame))))
-      (λ κs (_, (count, _)). now count) (λ κs (frame, (count, _)). left (observations.countSaid (frameSaid (now frame))) (λ k. k) (now count))
-  pub read-epoch : AnsweredLent {B = ℕ × (ℕ × ℕ)}
-      rtcm2_read_epoch.Reads.Asked rtcm2_read_epoch.Reads.Learnt rtcm2_read_epoch.Statement.statement
-      (λ κs (frame, _). numberOf (observations.epochSaid (frameSaid (now frame))))
-      (λ κs (_, (frequency, (smoothing, (time, _)))). (now frequency, (now smoothing, now time)))
-      (λ κs (frame, (frequency, (smoothing, (time, _)))). let s = observations.epochSaid (frameSaid (now frame)) in
-      (left s observations.frequencySaid (now frequency), (left s observations.smoothingSaid (now smoothing), left s observations.timeSaid (now time))))
-  pub observation-at : AnsweredLent rtcm2_observation_at.Reads.Asked rtcm2_observation_at.Reads.Learnt rtcm2_observation_at.Statement.statement
-      (λ κs (edition, (frame, (index, (bytes, _)))).
-      numberOf (rowTo entry-observations.row (observations.entrySaid edition (frameSaid (now frame)) index) (now bytes)))
-      (λ κs (_, (_, (_, (bytes, _)))). now bytes)
-      (λ κs (edition, (frame, (index, (bytes, _)))).
-      rowHeld entry-observations.row (observations.entrySaid edition (frameSaid (now frame)) index) (now bytes))
-  pub make-observations : AnsweredLent {B = List ℕ × ℕ}
-      rtcm2_make_observations.Reads.Asked rtcm2_make_observations.Reads.Learnt rtcm2_make_observations.Statement.statement
-      (λ κs (edition, (kind, (station, (z, (sequence, (health, (frequency, (smoothing, (time, (rows, (frame, _))))))))))).
-      numberOf (keptTo (observations.madeSaid edition (headed kind station z sequence health) frequency smoothing time (now rows)) (now frame)))
-      (λ κs (_, (_, (_, (_, (_, (_, (_, (_, (_, (_, (frame, (length, _)))))))))))). (now frame, now length))
-      (λ κs (edition, (kind, (station, (z, (sequence, (health, (frequency, (smoothing, (time, (rows, (frame, (length, _)))))))))))).
-      let s = observations.madeSaid edition (headed kind station z sequence health) frequency smoothing time (now rows) in
-      (heldTo s (now frame), sizeTo s (now frame) (now length)))
-  -- rtcm2::position
-  pub read-position : AnsweredLent {B = ℤ × (ℤ × ℤ)}
-      rtcm2_read_position.Reads.Asked rtcm2_read_position.Reads.Learnt rtcm2_read_position.Statement.statement
-      (λ κs (frame, _). numberOf (positionSaid (frameSaid (now frame))))
-      (λ κs (_, (xCm, (yCm, (zCm, _)))). (now xCm, (now yCm, now zCm)))
-      (λ κs (frame, (xCm, (yCm, (zCm, _)))). let s = positionSaid (frameSaid (now frame)) in
-      (left s xSaid (now xCm), (left s ySaid (now yCm), left s zSaid (now zCm))))
-  pub make-position : AnsweredLent {B = List ℕ × ℕ}
-      rtcm2_make_position.Reads.Asked rtcm2_make_position.Reads.Learnt rtcm2_make_position.Statement.statement
-      (λ κs (kind, (station, (z, (sequence, (health, (xCm, (yCm, (zCm, (frame, _))))))))).
-      numberOf (keptTo (positions.makeSaid kind station z sequence health xCm yCm zCm) (now frame)))
-      (λ κs (_, (_, (_, (_, (_, (_, (_, (_, (frame, (length, _)))))))))). (now frame, now length))
-      (λ κs (kind, (station, (z, (sequence, (health, (xCm, (yCm, (zCm, (frame, (length, _)))))))))).
-      let s = positions.makeSaid kind station z sequence health xCm yCm zCm in
-      (heldTo s (now frame), sizeTo s (now frame) (now length)))
   -- rtcm2::beacon
   pub check-profile : Answered rtcm2_check_profile.Reads.Asked rtcm2_check_profile.Reads.Learnt rtcm2_check_profile.Statement.statement
       (λ κs (frame, _). numberOf (profileSaid (frameSaid (now frame))))
@@ -308,28 +174,6 @@ pub record LibraryCalls : Type 2 where
       (λ κs (kind, (station, (z, (sequence, (health, (rows, (frames, (length, _)))))))).
       let s = cutSaid (headed kind station z sequence health) (now rows) in
       (heldAll s (now frames), sizeAll s (now frames) (now length)))
-  -- rtcm2::null
-  pub read-null : AnsweredLent rtcm2_read_null.Reads.Asked rtcm2_read_null.Reads.Learnt rtcm2_read_null.Statement.statement
-      (λ κs (frame, _). numberOf (nullSaid (frameSaid (now frame))))
-      (λ κs (_, (n, _)). now n) (λ κs (frame, (n, _)). left (nullSaid (frameSaid (now frame))) (λ k. k) (now n))
-  pub make-null : AnsweredLent {B = List ℕ × ℕ} rtcm2_make_null.Reads.Asked rtcm2_make_null.Reads.Learnt rtcm2_make_null.Statement.statement
-      (λ κs (kind, (station, (z, (sequence, (health, (n, (frame, _))))))).
-      numberOf (keptTo (nulls.makeSaid kind station z sequence health n) (now frame)))
-      (λ κs (_, (_, (_, (_, (_, (_, (frame, (length, _)))))))). (now frame, now length))
-      (λ κs (kind, (station, (z, (sequence, (health, (n, (frame, (length, _)))))))). let s = nulls.makeSaid kind station z sequence health n in
-      (heldTo s (now frame), sizeTo s (now frame) (now length)))
-  -- rtcm2::text
-  pub read-text : AnsweredLent {B = List ℕ × ℕ} rtcm2_read_text.Reads.Asked rtcm2_read_text.Reads.Learnt rtcm2_read_text.Statement.statement
-      (λ κs (frame, (text, _)). numberOf (textSaid (frameSaid (now frame)) (now text)))
-      (λ κs (_, (text, (length, _))). (now text, now length))
-      (λ κs (frame, (text, (length, _))). let s = frameSaid (now frame) in
-      (textAfter s (now text), texts.countAfter s (now text) (now length)))
-  pub make-text : AnsweredLent {B = List ℕ × ℕ} rtcm2_make_text.Reads.Asked rtcm2_make_text.Reads.Learnt rtcm2_make_text.Statement.statement
-      (λ κs (kind, (station, (z, (sequence, (health, (text, (frame, _))))))).
-      numberOf (keptTo (texts.makeSaid kind station z sequence health (now text)) (now frame)))
-      (λ κs (_, (_, (_, (_, (_, (_, (frame, (length, _)))))))). (now frame, now length))
-      (λ κs (kind, (station, (z, (sequence, (health, (text, (frame, (length, _)))))))). let s = texts.makeSaid kind station z sequence health (now text) in
-      (heldTo s (now frame), sizeTo s (now frame) (now length)))
   -- rtcm2::values
   pub prc-mm : AnsweredLent {B = ℕ × ℤ} rtcm2_prc_mm.Reads.Asked rtcm2_prc_mm.Reads.Learnt rtcm2_prc_mm.Statement.statement
       (λ κs (scale, (prc, _)). numberOf (prcSaid scale prc))
