@@ -4,7 +4,8 @@
 use crate::bits::Bits;
 use crate::frame::{Frame, State};
 use crate::line::bits_of_bytes;
-use crate::record::correction::{self, Correction, Issue, LAST_TB};
+use crate::record::correction::{Correction, Issue, LAST_TB};
+use crate::record::list::List;
 use crate::record::values::{prc_mm, rrc_mm_s, udre_limit_mm, Value};
 use crate::record::{system, System};
 use crate::refusal::Answer;
@@ -18,23 +19,23 @@ use crate::scan::{faults, odd_and_even, scan};
 pub fn stream() -> Vec<u8> {
     let mut rng = Rng::named("examples");
     let mut bits = Bits::opened();
-    bits.push_frame(&samples::correction_frame(&mut rng, 1, 9));
+    bits.push_frame(&Correction::sample(&mut rng, 1, 9));
     bits.push_frame(&samples::position_frame(&mut rng, 3));
     bits.push_noise(&mut rng, 40);
-    let mut late = samples::correction_frame(&mut rng, 9, 2);
+    let mut late = Correction::sample(&mut rng, 9, 2);
     late.header.z_count = 6000;
     bits.push_frames(&[late, without_numbers(&mut rng)]);
-    let cut = bits.push_frame(&samples::correction_frame(&mut rng, 1, 18));
+    let cut = bits.push_frame(&Correction::sample(&mut rng, 1, 18));
     bits.remove(cut + 300, 7);
     bits.push_frame(&samples::text_frame(&mut rng, 16, 20));
     let turned = bits.len();
     bits.push_noise(&mut rng, 2);
-    bits.push_frame(&samples::correction_frame(&mut rng, 9, 3));
+    bits.push_frame(&Correction::sample(&mut rng, 9, 3));
     bits.push_frame(&samples::null_frame(&mut rng, 6, 1));
-    bits.push_frame(&samples::correction_frame(&mut rng, 9, 1));
+    bits.push_frame(&Correction::sample(&mut rng, 9, 1));
     bits.push_frame(&late_tb(&mut rng));
     bits.push_frame(&samples::null_frame(&mut rng, 34, 1));
-    bits.push_frame(&samples::correction_frame(&mut rng, 34, 4));
+    bits.push_frame(&Correction::sample(&mut rng, 34, 4));
     bits.push_frame(&samples::text_frame(&mut rng, 36, 11));
     bits.turn_from(turned);
     let mut bytes = bits.to_bytes();
@@ -44,18 +45,18 @@ pub fn stream() -> Vec<u8> {
 
 /// A frame with stop for PRC alone, for RRC alone, and no UDRE limit.
 fn without_numbers(rng: &mut Rng) -> Frame {
-    let mut entries = [Correction::default(); correction::MOST];
-    entries.fill_with(|| samples::correction(rng, System::Gps));
+    let mut entries = [Correction::default(); Correction::MOST];
+    entries.fill_with(|| Correction::drawn(rng, System::Gps));
     entries[0].prc = i16::MIN;
     entries[1].rrc = i8::MIN;
     entries[2].udre = 3;
-    correction::make(&samples::header(rng, 1), &entries, 3).expect("a correct record")
+    Correction::make(&samples::header(rng, 1), &entries, 3).expect("a correct record")
 }
 
 /// A frame of type 31 with three satellites. The second one's tb is past the hour: its
 /// eight bits end with seven that say the first number that no tb has.
 fn late_tb(rng: &mut Rng) -> Frame {
-    let mut frame = samples::correction_frame(rng, 31, 3);
+    let mut frame = Correction::sample(rng, 31, 3);
     let eight = frame.words[3] >> 16;
     let late = eight / 128 * 128 + u32::from(LAST_TB) + 1;
     frame.words[3] = late << 16 | frame.words[3] & 0xFFFF;
@@ -70,7 +71,7 @@ pub fn expected(bytes: &[u8]) -> String {
     let mut text = String::new();
     let (mut corrections, mut refused) = (0, 0);
     for (position, frame) in &frames {
-        for i in 0..correction::count(frame).unwrap_or(0) {
+        for i in 0..Correction::count(frame).unwrap_or(0) {
             let shown = match correction_line(frame, i) {
                 Ok(line) => {
                     corrections += 1;
@@ -106,7 +107,7 @@ fn source(frame: &Frame) -> String {
 
 /// What a correction says: satellite, PRC, RRC, UDRE limit, issue.
 fn correction_line(frame: &Frame, number: usize) -> Answer<String> {
-    let entry = correction::entry(frame, number)?;
+    let entry = Correction::entry(frame, number)?;
     Ok(format!(
         "{} {} {} {}",
         entry.satellite,

@@ -5,6 +5,8 @@
 use crate::frame::{CarriedBits, Frame, MOST_WORDS};
 use crate::line::bits_of_bytes;
 use crate::listing::frame_line;
+use crate::record::correction::Correction;
+use crate::record::list::List;
 use crate::refusal::Answer;
 use crate::rng::Rng;
 use crate::samples;
@@ -81,7 +83,7 @@ fn frame(rng: &mut Rng) -> Frame {
     let mut frame = match rng.below(8) {
         0..=3 => {
             let count = 1 + rng.place(18);
-            samples::correction_frame(rng, kind, count)
+            Correction::sample(rng, kind, count)
         }
         4 => {
             let n = rng.place(MOST_WORDS + 1) as u8;

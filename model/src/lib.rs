@@ -3,6 +3,7 @@
 #![forbid(unsafe_code)]
 #![warn(missing_docs)]
 
+pub mod again;
 pub mod bits;
 pub mod counts;
 pub mod example;
@@ -26,6 +27,7 @@ pub mod season;
 pub mod season_runs;
 pub mod seasons;
 pub mod streams;
+pub mod tables;
 pub mod tally;
 pub mod trials;
 pub mod window;

@@ -3,8 +3,10 @@
 //! cuts a list of corrections into such frames.
 
 use crate::frame::{check_frame, check_header, Frame, Header, Z_COUNTS};
-use crate::record::correction::{self, Correction, MOST};
-use crate::record::{health, null, position, text};
+use crate::record::correction::Correction;
+use crate::record::health::Health;
+use crate::record::list::List;
+use crate::record::{null, position, text};
 use crate::refusal::{refuse_if, Answer, Refusal};
 
 /// The types of the profile.
@@ -27,7 +29,7 @@ pub fn check(frame: &Frame) -> Answer<()> {
     refuse_if(!TYPES.contains(&kind), Refusal::OutsideProfile)?;
     match kind {
         3 => position::read(frame).map(|_| ()),
-        5 => (0..health::count(frame)?).try_for_each(|i| health::entry(frame, i).map(|_| ())),
+        5 => (0..Health::count(frame)?).try_for_each(|i| Health::entry(frame, i).map(|_| ())),
         6 => null::read(frame).map(|_| ()),
         16 => text::read(frame, &mut [0; text::MOST]).map(|_| ()),
         _ => check_corrections(frame),
@@ -37,8 +39,8 @@ pub fn check(frame: &Frame) -> Answer<()> {
 /// Checks a frame of type 9. Refuses with 8, 10, 21, 22.
 fn check_corrections(frame: &Frame) -> Answer<()> {
     let mut satellites = Vec::new();
-    for i in 0..correction::count(frame)? {
-        satellites.push(correction::entry(frame, i)?.satellite);
+    for i in 0..Correction::count(frame)? {
+        satellites.push(Correction::entry(frame, i)?.satellite);
     }
     let too_many = satellites.len() > MOST_SATELLITES;
     refuse_if(too_many, Refusal::TooManySatellites)?;
@@ -48,22 +50,22 @@ fn check_corrections(frame: &Frame) -> Answer<()> {
 /// Cuts the first `count` corrections into frames of type 9, three to a frame until
 /// the last; the sequence rises by one modulo 8 from the header's. Refuses with 5, 6,
 /// 7, 12, 10, 22.
-pub fn cut(header: &Header, entries: &[Correction; MOST], count: usize) -> Answer<Vec<Frame>> {
+pub fn cut(header: &Header, entries: &[Correction], count: usize) -> Answer<Vec<Frame>> {
     check_header(header)?;
     refuse_if(header.type_number != 9, Refusal::AnotherType)?;
     // 7, 12 and 10 are those of a frame of the whole list
-    correction::make(header, entries, count)?;
+    Correction::make(header, entries, count)?;
     let list = &entries[..count];
     let satellites: Vec<u8> = list.iter().map(|entry| entry.satellite).collect();
     refuse_if(has_one_twice(&satellites), Refusal::SatelliteTwice)?;
     let frame = |(i, part): (usize, &[Correction])| {
-        let mut three = [Correction::default(); MOST];
+        let mut three = [Correction::default(); Correction::MOST];
         three[..part.len()].copy_from_slice(part);
         let header = Header {
             sequence: ((usize::from(header.sequence) + i) % 8) as u8,
             ..*header
         };
-        correction::make(&header, &three, part.len())
+        Correction::make(&header, &three, part.len())
     };
     list.chunks(MOST_SATELLITES)
         .enumerate()

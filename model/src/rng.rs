@@ -71,3 +71,35 @@ impl Rng {
         self.below(1 << 24) as u32
     }
 }
+
+/// Where the numbers of a random record come from: those of samples are mostly any, those
+/// of calls mostly at an end.
+pub trait Draw {
+    /// A number from 0 to the most.
+    fn any(&mut self, most: i64) -> i64;
+
+    /// A number from the least to the most, of a field whose ends matter.
+    fn pulled(&mut self, least: i64, most: i64) -> i64;
+
+    /// A place below the bound, which is at least 1.
+    fn place(&mut self, bound: usize) -> usize;
+}
+
+impl Draw for Rng {
+    fn any(&mut self, most: i64) -> i64 {
+        self.below(most as u64 + 1) as i64
+    }
+
+    /// Now and then an end.
+    fn pulled(&mut self, least: i64, most: i64) -> i64 {
+        match self.below(8) {
+            0 => least,
+            1 => most,
+            _ => least + self.below((most - least + 1) as u64) as i64,
+        }
+    }
+
+    fn place(&mut self, bound: usize) -> usize {
+        Rng::place(self, bound)
+    }
+}

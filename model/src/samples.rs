@@ -1,139 +1,89 @@
 //! Random headers, records and frames, all correct, for streams and tests.
 
 use crate::frame::{CarriedBits, Frame, Header, State, MOST_WORDS};
-use crate::record::correction::{self, Correction, Issue, LAST_TB};
 use crate::record::general::{self, General, GeneralHead};
 use crate::record::general_null::{self, GeneralNull};
-use crate::record::health::{self, Condition, Health};
 use crate::record::observation::{self, Edition, Epoch, Mark, Measured, Observation};
 use crate::record::position::{self, Position};
-use crate::record::{null, system, text, System};
-use crate::rng::Rng;
+use crate::record::{layout, null, text, types, Layout};
+use crate::rng::{Draw, Rng};
+use crate::tables;
 
 /// A header of this type with a Z count inside the hour.
-pub fn header(rng: &mut Rng, type_number: u16) -> Header {
+pub fn header(draw: &mut dyn Draw, type_number: u16) -> Header {
     Header {
         type_number,
-        station: rng.below(1024) as u16,
-        z_count: rng.below(6000) as u16,
-        sequence: rng.below(8) as u8,
-        state: State::of_code(rng.below(8) as u32),
-    }
-}
-
-/// Any number now and then pulled to an end of its range.
-fn number(rng: &mut Rng, least: i64, most: i64) -> i64 {
-    match rng.below(8) {
-        0 => least,
-        1 => most,
-        _ => least + rng.below((most - least + 1) as u64) as i64,
-    }
-}
-
-/// One satellite's correction.
-pub fn correction(rng: &mut Rng, system: System) -> Correction {
-    Correction {
-        scale: rng.below(2) as u8,
-        udre: rng.below(4) as u8,
-        satellite: number(rng, 1, 32) as u8,
-        prc: number(rng, -32768, 32767) as i16,
-        rrc: number(rng, -128, 127) as i8,
-        issue: match system {
-            System::Gps => Issue::Iod(rng.byte()),
-            System::Glonass => Issue::Age {
-                change: rng.below(2) as u8,
-                tb: number(rng, 0, LAST_TB.into()) as u8,
-            },
-        },
-    }
-}
-
-/// One satellite's health.
-pub fn satellite_health(rng: &mut Rng, system: System) -> Health {
-    Health {
-        reserved_first: rng.below(2) as u8,
-        satellite: number(rng, 1, 32) as u8,
-        link: rng.below(2) as u8,
-        condition: match system {
-            System::Gps => Condition::Code(rng.below(8) as u8),
-            System::Glonass => Condition::Data {
-                health: rng.below(2) as u8,
-                reserved: rng.below(4) as u8,
-            },
-        },
-        cn0: number(rng, 0, 31) as u8,
-        enable: rng.below(2) as u8,
-        new_data: rng.below(2) as u8,
-        loss_warning: rng.below(2) as u8,
-        time: rng.below(16) as u8,
-        reserved_last: rng.below(4) as u8,
+        station: draw.any(1023) as u16,
+        z_count: draw.any(5999) as u16,
+        sequence: draw.any(7) as u8,
+        state: State::of_code(draw.any(7) as u32),
     }
 }
 
 /// Either edition.
-pub fn edition(rng: &mut Rng) -> Edition {
-    [Edition::Gost, Edition::Bd][rng.place(2)]
+pub fn edition(draw: &mut dyn Draw) -> Edition {
+    [Edition::Gost, Edition::Bd][draw.place(2)]
 }
 
 /// The epoch of a frame of type 18 or 19.
-pub fn epoch(rng: &mut Rng) -> Epoch {
+pub fn epoch(draw: &mut dyn Draw) -> Epoch {
     Epoch {
-        frequency: rng.below(4) as u8,
-        smoothing: rng.below(4) as u8,
-        time: number(rng, 0, observation::LAST_TIME.into()) as u32,
+        frequency: draw.any(3) as u8,
+        smoothing: draw.any(3) as u8,
+        time: draw.pulled(0, observation::LAST_TIME.into()) as u32,
     }
 }
 
 /// One satellite's observation.
-pub fn observation(rng: &mut Rng, edition: Edition, type_number: u16) -> Observation {
-    let bit = rng.below(2) as u8;
+pub fn observation(draw: &mut dyn Draw, edition: Edition, type_number: u16) -> Observation {
+    let bit = draw.any(1) as u8;
     Observation {
         mark: Mark::of(edition, type_number, bit),
-        code: rng.below(2) as u8,
-        system: rng.below(2) as u8,
-        satellite: number(rng, 1, 32) as u8,
-        quality: number(rng, 0, if type_number == 18 { 7 } else { 15 }) as u8,
+        code: draw.any(1) as u8,
+        system: draw.any(1) as u8,
+        satellite: draw.pulled(1, 32) as u8,
+        quality: draw.pulled(0, if type_number == 18 { 7 } else { 15 }) as u8,
         measured: match type_number {
             18 => Measured::Phase {
-                losses: number(rng, 0, 31) as u8,
-                phase: number(rng, i32::MIN.into(), i32::MAX.into()) as i32,
+                losses: draw.pulled(0, 31) as u8,
+                phase: draw.pulled(i32::MIN.into(), i32::MAX.into()) as i32,
             },
             _ => Measured::Range {
-                multipath: number(rng, 0, 15) as u8,
-                range: number(rng, 0, u32::MAX.into()) as u32,
+                multipath: draw.pulled(0, 15) as u8,
+                range: draw.pulled(0, u32::MAX.into()) as u32,
             },
         },
     }
 }
 
 /// The head of a frame of type 41 or 42, with delays or without.
-pub fn general_head(rng: &mut Rng, ionosphere: u8) -> GeneralHead {
+pub fn general_head(draw: &mut dyn Draw, ionosphere: u8) -> GeneralHead {
     GeneralHead {
-        system: general::SYSTEMS[rng.place(general::SYSTEMS.len())],
-        signal: rng.below(16) as u8,
-        ephemeris: rng.below(4) as u8,
-        period: rng.below(4) as u8,
+        system: general::SYSTEMS[draw.place(general::SYSTEMS.len())],
+        signal: draw.any(15) as u8,
+        ephemeris: draw.any(3) as u8,
+        period: draw.any(3) as u8,
         ionosphere,
     }
 }
 
 /// One satellite's general correction, with a delay or without.
-pub fn general(rng: &mut Rng, ionosphere: u8) -> General {
+pub fn general(draw: &mut dyn Draw, ionosphere: u8) -> General {
     General {
-        satellite: number(rng, 1, 63) as u8,
-        udre: number(rng, 0, 15) as u8,
-        iod: rng.byte(),
-        prc: number(rng, -8192, 8191) as i16,
+        satellite: draw.pulled(1, 63) as u8,
+        udre: draw.pulled(0, 15) as u8,
+        iod: draw.any(255) as u8,
+        prc: draw.pulled(-8192, 8191) as i16,
         delay: match ionosphere {
             0 => 0,
-            _ => number(rng, 0, 4095) as u16,
+            _ => draw.pulled(0, 4095) as u16,
         },
     }
 }
 
 /// A position.
-pub fn position(rng: &mut Rng) -> Position {
-    let mut centimetres = || number(rng, -2_147_483_647, 2_147_483_647) as i32;
+pub fn position(draw: &mut dyn Draw) -> Position {
+    let mut centimetres = || draw.pulled(-2_147_483_647, 2_147_483_647) as i32;
     Position {
         x: centimetres(),
         y: centimetres(),
@@ -142,30 +92,15 @@ pub fn position(rng: &mut Rng) -> Position {
 }
 
 /// A text of this many characters, for a frame of type 16 or 36.
-pub fn characters(rng: &mut Rng, type_number: u16, count: usize) -> Vec<u8> {
+pub fn characters(draw: &mut dyn Draw, type_number: u16, count: usize) -> Vec<u8> {
     let last = text::last_code(type_number).into();
-    (0..count).map(|_| number(rng, 1, last) as u8).collect()
-}
-
-/// A frame of type 1, 9, 31 or 34 with this many satellites.
-pub fn correction_frame(rng: &mut Rng, type_number: u16, count: usize) -> Frame {
-    let mut entries = [Correction::default(); correction::MOST];
-    entries.fill_with(|| correction(rng, system(type_number)));
-    let header = header(rng, type_number);
-    correction::make(&header, &entries, count).expect("a correct record")
+    (0..count).map(|_| draw.pulled(1, last) as u8).collect()
 }
 
 /// A frame of type 3 or 32.
 pub fn position_frame(rng: &mut Rng, type_number: u16) -> Frame {
     let header = header(rng, type_number);
     position::make(&header, &position(rng)).expect("a correct record")
-}
-
-/// A frame of type 5 or 33 with this many satellites.
-pub fn health_frame(rng: &mut Rng, type_number: u16, count: usize) -> Frame {
-    let mut entries = [Health::default(); health::MOST];
-    entries.fill_with(|| satellite_health(rng, system(type_number)));
-    health::make(&header(rng, type_number), &entries, count).expect("a correct record")
 }
 
 /// A null frame of type 6 or 34 with this N, 0 or 1.
@@ -224,25 +159,20 @@ pub fn plain_frame(rng: &mut Rng, type_number: u16, n: u8) -> Frame {
 
 /// A frame of a type that has no layout of its own.
 pub fn other_frame(rng: &mut Rng) -> Frame {
-    let types = [2, 4, 7, 8, 10, 17, 30, 35, 37, 59, 63, 64];
+    let mut types = vec![2, 4, 7, 8, 10, 17, 30, 35, 37, 59, 63, 64];
+    types.retain(|type_number| layout(*type_number, 0) == Layout::Plain);
     let type_number = types[rng.place(types.len())];
     let n = rng.below(32) as u8;
     plain_frame(rng, type_number, n)
 }
 
-/// A frame whose record can be read, of any of the fifteen types; types 34 and 42 have
-/// two layouts, half of their frames are null frames.
+/// A frame whose record can be read, of any type that has one; types 34 and 42 have two
+/// layouts, half of their frames are null frames.
 pub fn record_frame(rng: &mut Rng) -> Frame {
-    let types = [
-        1, 3, 5, 6, 9, 16, 18, 19, 31, 32, 33, 34, 34, 36, 41, 42, 42,
-    ];
+    let types = types();
     let type_number = types[rng.place(types.len())];
     match type_number {
         3 | 32 => position_frame(rng, type_number),
-        5 | 33 => {
-            let count = 1 + rng.place(health::MOST);
-            health_frame(rng, type_number, count)
-        }
         6 => any_null_frame(rng, 6),
         16 | 36 => {
             let count = 1 + rng.place(text::MOST);
@@ -260,8 +190,9 @@ pub fn record_frame(rng: &mut Rng) -> Frame {
             general_frame(rng, type_number, ionosphere, count)
         }
         _ => {
-            let count = 1 + rng.place(correction::MOST);
-            correction_frame(rng, type_number, count)
+            let list = tables::of_type(type_number).expect("a list layout");
+            let count = 1 + rng.place(list.most);
+            (list.sample)(rng, type_number, count)
         }
     }
 }

@@ -3,8 +3,10 @@
 //! in mm and their exact sum.
 
 use crate::frame::Frame;
+use crate::record::correction::Correction;
+use crate::record::list::List;
 use crate::record::values::{prc_mm, stops, Value};
-use crate::record::{correction, system, System};
+use crate::record::{system, System};
 use crate::refusal::{refuse_if, Answer, Refusal};
 use crate::{journal, word_journal};
 use std::collections::HashSet;
@@ -57,9 +59,9 @@ pub struct Report {
 /// The entries of a frame's corrections, those that can be read; none where the frame
 /// holds no corrections or their number can't be read.
 pub fn entries_of(frame: &Frame) -> Vec<Entry> {
-    let count = correction::count(frame).unwrap_or(0);
-    let read = (0..count).filter_map(|i| correction::entry(frame, i).ok());
-    let entry = |found: correction::Correction| Entry {
+    let count = Correction::count(frame).unwrap_or(0);
+    let read = (0..count).filter_map(|i| Correction::entry(frame, i).ok());
+    let entry = |found: Correction| Entry {
         key: Key {
             system: system(frame.header.type_number),
             station: frame.header.station,

@@ -3,7 +3,8 @@
 
 use crate::frame::{Frame, Header, State};
 use crate::journals::old_journal;
-use crate::record::correction::{self, Correction, Issue, MOST};
+use crate::record::correction::{Correction, Issue};
+use crate::record::list::List;
 use crate::record::{system, System};
 use crate::rng::Rng;
 use crate::samples;
@@ -171,7 +172,7 @@ fn record(frame: &Frame) -> Vec<u8> {
 /// The record of a frame of corrections for these satellites: every fifth has the PRC
 /// and every seventh the RRC of a stop.
 fn corrections(kind: u16, station: u16, satellites: RangeInclusive<u8>) -> Vec<u8> {
-    let mut entries = [Correction::default(); MOST];
+    let mut entries = [Correction::default(); Correction::MOST];
     let count = satellites.clone().count();
     for (entry, satellite) in entries.iter_mut().zip(satellites) {
         let step = i16::from(satellite);
@@ -201,5 +202,5 @@ fn corrections(kind: u16, station: u16, satellites: RangeInclusive<u8>) -> Vec<u
         sequence: 0,
         state: State::NotMonitored,
     };
-    record(&correction::make(&header, &entries, count).expect("a correct record"))
+    record(&Correction::make(&header, &entries, count).expect("a correct record"))
 }

@@ -3,29 +3,20 @@
 
 mod common;
 
-use common::{bytes, frame, header, turned};
+use common::{bytes, frame, header, number, stands, with_words, words};
 use rtcm2_model::frame::{Frame, Header, State};
 use rtcm2_model::library::generals::{
     count_generals, general_at, general_row, make_general_null, make_generals, read_general_null,
     read_head, Heading, GENERAL_SIZE,
 };
 use rtcm2_model::library::{numbers, Head};
-use rtcm2_model::line::{bits_of_bytes, turned_over};
 use rtcm2_model::record::general::{
     count, entry, head, make, most, n_for, General, GeneralHead, MOST, SYSTEMS,
 };
 use rtcm2_model::record::general_null::{self, GeneralNull};
 use rtcm2_model::record::values::{delay_mm, general_prc_mm, general_udre, use_seconds, Value};
-use rtcm2_model::refusal::Answer;
 use rtcm2_model::rng::Rng;
-use rtcm2_model::scan::scan;
-use rtcm2_model::streams::{self, Stream};
-use rtcm2_model::{journal, samples, writer};
-use std::sync::OnceLock;
-
-fn number<T>(answer: Answer<T>) -> u8 {
-    answer.map_or_else(|refusal| refusal.number(), |_| 0)
-}
+use rtcm2_model::{journal, samples};
 
 /// System, signal, ephemeris type, use, ionosphere.
 fn of_head([system, signal, ephemeris, period, ionosphere]: [u8; 5]) -> GeneralHead {
@@ -55,46 +46,6 @@ fn entries_of(all: &[[i32; 5]]) -> [General; MOST] {
         *entry = of_entry(*numbers);
     }
     entries
-}
-
-/// The frame of these data words.
-fn with_words(kind: u16, words: &[u32]) -> Frame {
-    let mut whole = frame(kind, words.len() as u8);
-    whole.words[..words.len()].copy_from_slice(words);
-    whole
-}
-
-fn words(text: &str) -> Vec<u32> {
-    let parts = text.split_whitespace();
-    parts
-        .map(|part| u32::from_str_radix(part, 16).unwrap())
-        .collect()
-}
-
-/// The bytes of the test stream with this name, if there is one.
-fn stream(name: &str) -> Option<Vec<u8>> {
-    static MADE: OnceLock<Vec<Stream>> = OnceLock::new();
-    let mut all = MADE.get_or_init(streams::all).iter();
-    let found = all.find(|stream| stream.name[3..] == *name);
-    found.map(|stream| stream.bytes.clone())
-}
-
-fn line_of(frame: &Frame) -> Vec<u8> {
-    let mut buffer = vec![0; 200];
-    let opened = writer::open(&mut buffer).unwrap();
-    let written = writer::write(frame, opened.carried, &mut buffer[1..]).unwrap();
-    buffer.truncate(1 + written.length);
-    buffer
-}
-
-/// The frame is that of the stream of this name, if there is one, and stands in its
-/// line in either polarity.
-fn stands(name: &str, whole: Frame) {
-    let line = line_of(&whole);
-    assert!(stream(name).is_none_or(|bytes| bytes == line), "{name}");
-    for (line, frame) in [(line.clone(), whole), (turned_over(&line), turned(whole))] {
-        assert_eq!(scan(&bits_of_bytes(&line), true), [(6, frame)]);
-    }
 }
 
 /// A record: made it is these words, and the bytes of the stream of this name; read it
@@ -562,16 +513,6 @@ fn numbers_of_the_library() {
     assert_eq!(seconds, 120);
 }
 
-fn library_head(kind: u8) -> Head {
-    Head {
-        kind,
-        station: 5,
-        z: 100,
-        sequence: 3,
-        health: 0,
-    }
-}
-
 #[test]
 fn frames_of_the_library() {
     let entries = [
@@ -583,7 +524,7 @@ fn frames_of_the_library() {
     let numbers = of_head([5, 6, 2, 0, 1]);
     let call = |kind, numbers, rows: &[u8], room: usize| {
         let (mut frame, mut length) = (vec![0xEE; room], 999);
-        let answer = make_generals(library_head(kind), numbers, rows, &mut frame, &mut length);
+        let answer = make_generals(common::head(kind), numbers, rows, &mut frame, &mut length);
         (answer, length, frame)
     };
     let (answer, length, record) = call(42, numbers, &rows, 26);
@@ -626,7 +567,7 @@ fn null_frames_of_the_library() {
     let call = |kind, n, system, room: usize| {
         let (mut frame, mut length) = (vec![0xEE; room], 999);
         let wanted = GeneralNull { n, system };
-        let answer = make_general_null(library_head(kind), wanted, &mut frame, &mut length);
+        let answer = make_general_null(common::head(kind), wanted, &mut frame, &mut length);
         (answer, length, frame)
     };
     for system in SYSTEMS {
@@ -644,7 +585,7 @@ fn null_frames_of_the_library() {
     assert_eq!(call(41, 2, 7, 11).0, 6);
     let head = Head {
         health: 8,
-        ..library_head(41)
+        ..common::head(41)
     };
     let (mut frame, mut length) = ([0; 12], 0);
     let wanted = GeneralNull { n: 1, system: 1 };

@@ -3,27 +3,17 @@
 
 mod common;
 
-use common::{frame, header};
+use common::{frame, head, header, kept, number, with_words};
 use rtcm2_model::frame::Frame;
-use rtcm2_model::library::{lists, numbers, records, Head};
-use rtcm2_model::record::correction::{self, Correction, Issue};
-use rtcm2_model::record::health::{self, Condition, Health};
+use rtcm2_model::library::{lists, numbers, records};
+use rtcm2_model::record::correction::{Correction, Issue};
+use rtcm2_model::record::health::{Condition, Health};
+use rtcm2_model::record::list::List;
 use rtcm2_model::record::position::{self, Position};
 use rtcm2_model::record::values::letter;
 use rtcm2_model::record::{null, text};
 use rtcm2_model::refusal::Answer;
-use rtcm2_model::{bits::Bits, journal, rng::Rng, samples, tally};
-
-fn number<T>(answer: Answer<T>) -> u8 {
-    answer.map_or_else(|refusal| refusal.number(), |_| 0)
-}
-
-/// The frame of these data words.
-fn with_words(type_number: u16, words: &[u32]) -> Frame {
-    let mut whole = frame(type_number, words.len() as u8);
-    whole.words[..words.len()].copy_from_slice(words);
-    whole
-}
+use rtcm2_model::{bits::Bits, rng::Rng, tally};
 
 fn age(change: u8, tb: u8) -> Issue {
     Issue::Age { change, tb }
@@ -40,13 +30,13 @@ fn with_issue(issue: Issue) -> Correction {
 
 /// Makes a frame of this one correction, so many times.
 fn make(type_number: u16, entry: Correction, count: usize) -> Answer<Frame> {
-    correction::make(&header(type_number), &[entry; correction::MOST], count)
+    Correction::make(&header(type_number), &[entry; Correction::MOST], count)
 }
 
 #[test]
 fn tb_of_120_is_refused_for_its_entry_alone() {
     let whole = with_words(31, &[0x0303E8, 0xFB4D01, 0x0001FF, 0x78AAAA]);
-    assert_eq!(correction::count(&whole), Ok(2));
+    assert_eq!(Correction::count(&whole), Ok(2));
     let first = Correction {
         satellite: 3,
         prc: 1000,
@@ -54,16 +44,16 @@ fn tb_of_120_is_refused_for_its_entry_alone() {
         issue: age(0, 77),
         ..Correction::default()
     };
-    assert_eq!(correction::entry(&whole, 0), Ok(first));
-    assert_eq!(number(correction::entry(&whole, 1)), 10);
-    assert_eq!(number(correction::entry(&whole, 2)), 9);
+    assert_eq!(Correction::entry(&whole, 0), Ok(first));
+    assert_eq!(number(Correction::entry(&whole, 1)), 10);
+    assert_eq!(number(Correction::entry(&whole, 2)), 9);
 }
 
 #[test]
 fn last_eight_bits_as_read() {
     for last in 0..=255_u8 {
         let words = [0, u32::from(last) << 8 | 0xAA];
-        let read = |type_number| correction::entry(&with_words(type_number, &words), 0);
+        let read = |type_number| Correction::entry(&with_words(type_number, &words), 0);
         for type_number in [1, 9] {
             assert_eq!(read(type_number), Ok(with_issue(Issue::Iod(last))));
         }
@@ -98,13 +88,13 @@ fn last_eight_bits_as_made() {
 fn n_of_type_34() {
     for n in 0..=31 {
         let (short, whole) = (frame(34, n), frame(31, n));
-        let counted = correction::count(&whole);
-        assert_eq!(correction::count(&short), counted);
+        let counted = Correction::count(&whole);
+        assert_eq!(Correction::count(&short), counted);
         assert_eq!(number(null::read(&short)), if n <= 1 { 0 } else { 8 });
         assert_eq!(number(null::read(&whole)), 6);
         if n <= 1 {
             assert_eq!(number(counted), 8);
-            assert_eq!(number(correction::entry(&short, usize::MAX)), 8);
+            assert_eq!(number(Correction::entry(&short, usize::MAX)), 8);
         }
     }
     let mut late = frame(34, 0);
@@ -117,7 +107,7 @@ fn refusals_on_reading() {
     assert_eq!(number(position::read(&frame(32, 3))), 8);
     let outside = with_words(32, &[0x800000, 0, 0, 0]);
     assert_eq!(number(position::read(&outside)), 10);
-    assert_eq!(number(health::count(&frame(33, 0))), 8);
+    assert_eq!(number(Health::count(&frame(33, 0))), 8);
     let mut buffer = [0; text::MOST];
     let texts: [(u16, &[u32], u8); 8] = [
         (36, &[0x4142C0], 11),
@@ -172,7 +162,7 @@ fn refusals_on_making() {
 fn three_health_bits() {
     for bits in 0..8 {
         let words = [u32::from(bits) << 14];
-        let read = |type_number| health::entry(&with_words(type_number, &words), 0).unwrap();
+        let read = |type_number| Health::entry(&with_words(type_number, &words), 0).unwrap();
         assert_eq!(read(5).condition, Condition::Code(bits));
         let (health, reserved) = (bits / 4, bits % 4);
         assert_eq!(read(33).condition, Condition::Data { health, reserved });
@@ -183,9 +173,9 @@ fn three_health_bits() {
             condition,
             ..Health::default()
         };
-        number(health::make(
+        number(Health::make(
             &header(type_number),
-            &[entry; health::MOST],
+            &[entry; Health::MOST],
             1,
         ))
     };
@@ -206,37 +196,19 @@ fn three_health_bits() {
     }
 }
 
-fn head(kind: u8) -> Head {
-    Head {
-        kind,
-        station: 5,
-        z: 100,
-        sequence: 3,
-        health: 0,
-    }
-}
-
-/// A frame's journal record.
-fn record(frame: &Frame) -> Vec<u8> {
-    let mut bytes = vec![0; 102];
-    let length = journal::keep(frame, &mut bytes).unwrap();
-    bytes.truncate(length);
-    bytes
-}
-
 #[test]
 fn rows_of_corrections_hold_the_bits_as_sent() {
     for kind in [1, 9, 31, 34] {
         for last in 0..=255 {
             let row = [1, 3, 32, 0x01, 0x80, 0x81, last];
             let (mut made, mut length) = ([0xEE; 15], 7);
-            let answer = lists::make_corrections(head(kind), &row, &mut made, &mut length);
+            let answer = lists::make::<Correction>(head(kind), &row, &mut made, &mut length);
             if kind > 9 && last % 128 > 119 {
                 assert_eq!((answer, made, length), (10, [0xEE; 15], 7));
             } else {
                 assert_eq!((answer, made[13], made[14], length), (0, last, 0xAA, 15));
                 let mut back = [0; 7];
-                assert_eq!(lists::correction_at(&made, 0, &mut back), 0);
+                assert_eq!(lists::at::<Correction>(&made, 0, &mut back), 0);
                 assert_eq!(back, row);
             }
         }
@@ -245,15 +217,15 @@ fn rows_of_corrections_hold_the_bits_as_sent() {
 
 #[test]
 fn a_tb_of_120_comes_before_a_short_buffer() {
-    let bytes = record(&with_words(34, &[0, 0x0078AA]));
+    let bytes = kept(&with_words(34, &[0, 0x0078AA]));
     for room in [0, 6, 7] {
         let mut row = vec![0xEE; room];
-        assert_eq!(lists::correction_at(&bytes, 0, &mut row), 10);
-        assert_eq!(lists::correction_at(&bytes, 1, &mut row), 9);
+        assert_eq!(lists::at::<Correction>(&bytes, 0, &mut row), 10);
+        assert_eq!(lists::at::<Correction>(&bytes, 1, &mut row), 9);
         assert_eq!(row, vec![0xEE; room]);
     }
-    let bytes = record(&with_words(34, &[0, 0x0077AA]));
-    assert_eq!(lists::correction_at(&bytes, 0, &mut [0; 6]), 13);
+    let bytes = kept(&with_words(34, &[0, 0x0077AA]));
+    assert_eq!(lists::at::<Correction>(&bytes, 0, &mut [0; 6]), 13);
 }
 
 #[test]
@@ -262,11 +234,11 @@ fn rows_of_healths_hold_the_bits_as_sent() {
         for bits in 0..=255 {
             let row = [0, 24, 1, bits, 31, 1, 0, 1, 15, 3];
             let (mut made, mut length) = ([0xEE; 12], 7);
-            let answer = lists::make_healths(head(kind), &row, &mut made, &mut length);
+            let answer = lists::make::<Health>(head(kind), &row, &mut made, &mut length);
             assert_eq!(answer, if bits <= 7 { 0 } else { 10 });
             if bits <= 7 {
                 let mut back = [0; 10];
-                assert_eq!(lists::health_at(&made, 0, &mut back), 0);
+                assert_eq!(lists::at::<Health>(&made, 0, &mut back), 0);
                 assert_eq!(back, row);
             }
         }
@@ -294,7 +266,7 @@ fn null_frames_of_the_library() {
     }
     let mut n = 0xEE;
     for kind in [6, 34] {
-        assert_eq!(records::read_null(&record(&frame(kind, 2)), &mut n), 8);
+        assert_eq!(records::read_null(&kept(&frame(kind, 2)), &mut n), 8);
     }
     assert_eq!(n, 0xEE);
 }
@@ -304,7 +276,7 @@ fn null_frames_of_the_library() {
 fn records_of_type_1_read_as_31() {
     let mut rng = Rng::named("other type");
     for _ in 0..2000 {
-        let mut whole = samples::correction_frame(&mut rng, 1, 18);
+        let mut whole = Correction::sample(&mut rng, 1, 18);
         let iods: Vec<u8> = (0..18).map(|i| row(&whole, i).unwrap()[6]).collect();
         whole.header.type_number = 31;
         for (i, iod) in iods.into_iter().enumerate() {
@@ -318,7 +290,7 @@ fn records_of_type_1_read_as_31() {
 
 fn row(frame: &Frame, index: usize) -> Result<[u8; 7], u8> {
     let mut row = [0; 7];
-    match lists::correction_at(&record(frame), index, &mut row) {
+    match lists::at::<Correction>(&kept(frame), index, &mut row) {
         0 => Ok(row),
         refusal => Err(refusal),
     }

@@ -5,10 +5,11 @@ use rtcm2_model::library::line::Taking;
 use rtcm2_model::library::state::State;
 use rtcm2_model::library::{line, lists, state};
 use rtcm2_model::line::bits_of_bytes;
-use rtcm2_model::record::correction::{self, Issue};
+use rtcm2_model::record::correction::{Correction, Issue};
+use rtcm2_model::record::list::List;
 use rtcm2_model::rng::Rng;
 use rtcm2_model::scan::scan;
-use rtcm2_model::{journal, samples, streams};
+use rtcm2_model::{journal, streams};
 
 /// A frame taken: its position, its record and its two carried bits.
 type Found = (usize, Vec<u8>, [u8; 2]);
@@ -94,18 +95,18 @@ fn streams_give_the_frames_of_the_scan() {
 #[test]
 fn corrections_are_rows_of_the_entries() {
     let mut rng = Rng::named("rows");
-    for count in 1..=correction::MOST {
+    for count in 1..=Correction::MOST {
         let type_number = [9, 31][count % 2];
-        let frame = samples::correction_frame(&mut rng, type_number, count);
+        let frame = Correction::sample(&mut rng, type_number, count);
         let mut record = [0; 102];
         journal::keep(&frame, &mut record).unwrap();
         let mut counted = 0;
-        assert_eq!(lists::count_corrections(&record, &mut counted), 0);
+        assert_eq!(lists::count::<Correction>(&record, &mut counted), 0);
         assert_eq!(counted, count);
         for i in 0..count {
-            let mut row = [0; lists::CORRECTION_SIZE];
-            assert_eq!(lists::correction_at(&record, i, &mut row), 0);
-            let entry = correction::entry(&frame, i).unwrap();
+            let mut row = [0; Correction::SIZE];
+            assert_eq!(lists::at::<Correction>(&record, i, &mut row), 0);
+            let entry = Correction::entry(&frame, i).unwrap();
             let prc = i16::from(row[4] as i8) * 256 + i16::from(row[3]);
             assert_eq!((row[2], prc), (entry.satellite, entry.prc));
             let last = match entry.issue {

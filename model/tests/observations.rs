@@ -3,26 +3,18 @@
 
 mod common;
 
-use common::{bytes, frame, header, turned};
-use rtcm2_model::frame::{Frame, Header};
+use common::{bytes, frame, head, header, kept, number, stands, with_words, words};
+use rtcm2_model::frame::Header;
 use rtcm2_model::library::observations::{
     make_observations, observation_at, observation_row, read_epoch, OBSERVATION_SIZE,
 };
-use rtcm2_model::library::Head;
-use rtcm2_model::line::{bits_of_bytes, turned_over};
+use rtcm2_model::line::bits_of_bytes;
 use rtcm2_model::record::observation::{
     count, entry, epoch, make, Edition, Epoch, Mark, Measured, Observation, MOST, NONE,
 };
-use rtcm2_model::refusal::Answer;
 use rtcm2_model::rng::Rng;
+use rtcm2_model::samples;
 use rtcm2_model::scan::scan;
-use rtcm2_model::streams::{self, Stream};
-use rtcm2_model::{journal, samples, writer};
-use std::sync::OnceLock;
-
-fn number<T>(answer: Answer<T>) -> u8 {
-    answer.map_or_else(|refusal| refusal.number(), |_| 0)
-}
 
 const EDITIONS: [Edition; 2] = [Edition::Gost, Edition::Bd];
 
@@ -56,36 +48,6 @@ fn of_epoch([frequency, smoothing, time]: [u32; 3]) -> Epoch {
     }
 }
 
-/// The frame of these data words.
-fn with_words(kind: u16, words: &[u32]) -> Frame {
-    let mut whole = frame(kind, words.len() as u8);
-    whole.words[..words.len()].copy_from_slice(words);
-    whole
-}
-
-fn words(text: &str) -> Vec<u32> {
-    let parts = text.split(' ');
-    parts
-        .map(|part| u32::from_str_radix(part, 16).unwrap())
-        .collect()
-}
-
-/// The bytes of the test stream with this name, if there is one.
-fn stream(name: &str) -> Option<Vec<u8>> {
-    static MADE: OnceLock<Vec<Stream>> = OnceLock::new();
-    let mut all = MADE.get_or_init(streams::all).iter();
-    let found = all.find(|stream| stream.name[3..] == *name);
-    found.map(|stream| stream.bytes.clone())
-}
-
-fn line_of(frame: &Frame) -> Vec<u8> {
-    let mut buffer = vec![0; 200];
-    let opened = writer::open(&mut buffer).unwrap();
-    let written = writer::write(frame, opened.carried, &mut buffer[1..]).unwrap();
-    buffer.truncate(1 + written.length);
-    buffer
-}
-
 /// A record under each edition: made it is these words, and the bytes of the stream
 /// of this name; read it is what it was.
 fn worked(name: &str, kind: u16, head: [u32; 3], all: &[[i64; 7]], data: &str) {
@@ -104,11 +66,7 @@ fn worked(name: &str, kind: u16, head: [u32; 3], all: &[[i64; 7]], data: &str) {
         }
         assert_eq!(number(entry(edition, &whole, all.len())), 9);
     }
-    let line = line_of(&whole);
-    assert!(stream(name).is_none_or(|bytes| bytes == line), "{name}");
-    for (line, frame) in [(line.clone(), whole), (turned_over(&line), turned(whole))] {
-        assert_eq!(scan(&bits_of_bytes(&line), true), [(6, frame)]);
-    }
+    stands(name, whole);
 }
 
 #[test]
@@ -437,25 +395,6 @@ fn the_worked_line_of_document_002() {
         bytes("40 66 49 41 68 49 40 53 4C 46 6C 5E 6C 40 66 4E 63 66 70 7F 62 40 40 40 40 6A");
     let frames = scan(&bits_of_bytes(&line), true);
     assert_eq!(epoch(&frames[0].1).unwrap().time, 471_014);
-}
-
-/// The library's numbers of a header of this type.
-fn head(kind: u8) -> Head {
-    Head {
-        kind,
-        station: 5,
-        z: 100,
-        sequence: 3,
-        health: 0,
-    }
-}
-
-/// A frame's record.
-fn kept(frame: &Frame) -> Vec<u8> {
-    let mut buffer = vec![0; 102];
-    let length = journal::keep(frame, &mut buffer).unwrap();
-    buffer.truncate(length);
-    buffer
 }
 
 /// O18b's rows by GOST's edition.

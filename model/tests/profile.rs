@@ -3,21 +3,18 @@
 
 mod common;
 
-use common::{frame, header};
+use common::{frame, header, number, with_words};
 use rtcm2_model::frame::{Frame, Header};
-use rtcm2_model::library::lists::correction_row;
 use rtcm2_model::library::profile::{check_profile, cut_corrections};
 use rtcm2_model::library::Head;
 use rtcm2_model::profile::{check, cut};
-use rtcm2_model::record::correction::{self, Correction, Issue, MOST};
+use rtcm2_model::record::correction::{Correction, Issue};
+use rtcm2_model::record::list::List;
 use rtcm2_model::record::text;
-use rtcm2_model::refusal::Answer;
 use rtcm2_model::rng::Rng;
 use rtcm2_model::{journal, samples};
 
-fn number<T>(answer: Answer<T>) -> u8 {
-    answer.map_or_else(|refusal| refusal.number(), |_| 0)
-}
+const MOST: usize = Correction::MOST;
 
 fn satellite(satellite: u8) -> Correction {
     Correction {
@@ -32,14 +29,7 @@ fn of_satellites(type_number: u16, satellites: &[u8]) -> Frame {
     for (entry, number) in entries.iter_mut().zip(satellites) {
         *entry = satellite(*number);
     }
-    correction::make(&header(type_number), &entries, satellites.len()).unwrap()
-}
-
-/// The frame of these data words.
-fn with_words(type_number: u16, words: &[u32]) -> Frame {
-    let mut whole = frame(type_number, words.len() as u8);
-    whole.words[..words.len()].copy_from_slice(words);
-    whole
+    Correction::make(&header(type_number), &entries, satellites.len()).unwrap()
 }
 
 fn late(mut frame: Frame) -> Frame {
@@ -211,7 +201,7 @@ fn drawn(rng: &mut Rng) -> [Correction; MOST] {
     let (first, step) = (rng.place(32), 1 + 2 * rng.place(16));
     std::array::from_fn(|i| Correction {
         satellite: ((first + i * step) % 32 + 1) as u8,
-        ..samples::correction(rng, rtcm2_model::record::System::Gps)
+        ..Correction::drawn(rng, rtcm2_model::record::System::Gps)
     })
 }
 
@@ -231,9 +221,9 @@ fn lists_are_read_back_from_frames_in_the_profile() {
                 ..header
             };
             assert_eq!(frame.header, expected);
-            let held = correction::count(frame).unwrap();
+            let held = Correction::count(frame).unwrap();
             assert!(held == 3 || i + 1 == frames.len());
-            read.extend((0..held).map(|i| correction::entry(frame, i).unwrap()));
+            read.extend((0..held).map(|i| Correction::entry(frame, i).unwrap()));
         }
         assert_eq!(read, entries[..count]);
     }
@@ -242,7 +232,7 @@ fn lists_are_read_back_from_frames_in_the_profile() {
 #[test]
 fn records_of_the_library() {
     let entries: [Correction; MOST] = std::array::from_fn(worked_entry);
-    let rows: Vec<u8> = entries.iter().flat_map(correction_row).collect();
+    let rows: Vec<u8> = entries.iter().flat_map(Correction::row).collect();
     let call = |kind, rows: &[u8], room| {
         let head = Head {
             kind,
@@ -261,7 +251,7 @@ fn records_of_the_library() {
     for record in frames[..144].chunks(24) {
         let (frame, length) = journal::recall(record).unwrap();
         assert_eq!(length, 24);
-        read.extend((0..3).map(|i| correction::entry(&frame, i).unwrap()));
+        read.extend((0..3).map(|i| Correction::entry(&frame, i).unwrap()));
     }
     assert_eq!(read, entries);
     let (answer, length, frames) = call(9, &rows[..28], 39);

@@ -3,43 +3,17 @@
 
 mod common;
 
-use common::{frame, header};
+use common::{frame, header, making_order, number, reading_order};
 use rtcm2_model::frame::{check_frame, check_header, CarriedBits, Frame, Header, State};
 use rtcm2_model::journal;
 use rtcm2_model::reader::Reader;
-use rtcm2_model::record::correction::{self, Correction};
-use rtcm2_model::record::health::{self, Condition, Health};
+use rtcm2_model::record::correction::Correction;
+use rtcm2_model::record::health::{Condition, Health};
+use rtcm2_model::record::list::List;
 use rtcm2_model::record::position::{self, Position};
 use rtcm2_model::record::values::{cn0_dbhz, minutes, prc_mm, rrc_mm_s, udre_limit_mm, z_tenths};
-use rtcm2_model::record::{layout, may_have, null, text, Layout};
-use rtcm2_model::refusal::Answer;
+use rtcm2_model::record::{layout, may_have, null, text, types, Layout};
 use rtcm2_model::writer;
-
-fn number<T>(answer: Answer<T>) -> u8 {
-    answer.map_or_else(|refusal| refusal.number(), |_| 0)
-}
-
-/// Faults 5, 6 and 7 in a header; the type is plain.
-fn bad_header() -> Header {
-    Header {
-        type_number: 2,
-        station: 1024,
-        z_count: 6000,
-        sequence: 3,
-        state: State::Factor(100),
-    }
-}
-
-/// Mends the first fault of `bad_header` that is left.
-fn mend(header: &mut Header, type_number: u16) {
-    if header.station > 1023 {
-        header.station = 1023;
-    } else if header.type_number != type_number {
-        header.type_number = type_number;
-    } else {
-        header.z_count = 5999;
-    }
-}
 
 #[test]
 fn five_for_headers() {
@@ -89,11 +63,11 @@ fn calls_on(whole: &Frame) -> [u8; 10] {
     let mut bytes = [0xEE; 165];
     let answers = [
         number(check_frame(whole)),
-        number(correction::count(whole)),
-        number(correction::entry(whole, 0)),
+        number(Correction::count(whole)),
+        number(Correction::entry(whole, 0)),
         number(position::read(whole)),
-        number(health::count(whole)),
-        number(health::entry(whole, 0)),
+        number(Health::count(whole)),
+        number(Health::entry(whole, 0)),
         number(null::read(whole)),
         number(text::read(whole, &mut bytes)),
         number(writer::write(whole, CarriedBits::ZEROS, &mut bytes)),
@@ -150,7 +124,11 @@ fn layouts() {
     assert_eq!(listed(Layout::Observation), [18, 19]);
     assert_eq!(listed(Layout::General), [41, 42]);
     assert_eq!(listed(Layout::GeneralNull), [42]);
-    assert_eq!(listed(Layout::Plain).len(), 65536 - 15);
+    let mut named = types();
+    assert_eq!(named.iter().filter(|number| **number == 34).count(), 2);
+    named.dedup();
+    let plain = (0..=u16::MAX).filter(|number| !named.contains(number));
+    assert_eq!(listed(Layout::Plain), plain.collect::<Vec<u16>>());
     for type_number in 0..=u16::MAX {
         let of_n = (0..=31).map(|n| layout(type_number, n));
         let same = of_n.clone().all(|of_n| of_n == layout(type_number, 0));
@@ -162,32 +140,16 @@ fn layouts() {
     assert_eq!(null.collect::<Vec<u8>>(), [1]);
 }
 
-/// Reads with faults 5, 6, 7 and 8 mended one after the other.
-fn reading_order(type_number: u16, good_n: u8, bad_n: u8, read: fn(&Frame) -> u8) -> Vec<u8> {
-    let mut whole = Frame {
-        header: bad_header(),
-        ..frame(2, bad_n)
-    };
-    let mut numbers = vec![read(&whole)];
-    for _ in 0..3 {
-        mend(&mut whole.header, type_number);
-        numbers.push(read(&whole));
-    }
-    whole.n = good_n;
-    numbers.push(read(&whole));
-    numbers
-}
-
 #[test]
 fn reading_orders() {
-    let count = |whole: &Frame| number(correction::count(whole));
-    let entry = |whole: &Frame| number(correction::entry(whole, 1));
+    let count = |whole: &Frame| number(Correction::count(whole));
+    let entry = |whole: &Frame| number(Correction::entry(whole, 1));
     for (type_number, bad_n) in [(1, 3), (9, 0), (31, 31), (34, 0), (34, 1), (34, 3)] {
         assert_eq!(reading_order(type_number, 2, bad_n, count), [5, 6, 7, 8, 0]);
         assert_eq!(reading_order(type_number, 2, bad_n, entry), [5, 6, 7, 8, 9]);
     }
-    let count = |whole: &Frame| number(health::count(whole));
-    let entry = |whole: &Frame| number(health::entry(whole, usize::MAX));
+    let count = |whole: &Frame| number(Health::count(whole));
+    let entry = |whole: &Frame| number(Health::entry(whole, usize::MAX));
     for type_number in [5, 33] {
         assert_eq!(reading_order(type_number, 31, 0, count), [5, 6, 7, 8, 0]);
         assert_eq!(reading_order(type_number, 1, 0, entry), [5, 6, 7, 8, 9]);
@@ -239,11 +201,11 @@ fn n_of_corrections() {
         let place = fits.iter().position(|fit| *fit == n);
         match place {
             Some(place) => {
-                assert_eq!(correction::count(&whole), Ok(place + 1));
-                assert_eq!(number(correction::entry(&whole, place)), 0);
-                assert_eq!(number(correction::entry(&whole, place + 1)), 9);
+                assert_eq!(Correction::count(&whole), Ok(place + 1));
+                assert_eq!(number(Correction::entry(&whole, place)), 0);
+                assert_eq!(number(Correction::entry(&whole, place + 1)), 9);
             }
-            None => assert_eq!(number(correction::entry(&whole, 99)), 8),
+            None => assert_eq!(number(Correction::entry(&whole, 99)), 8),
         }
     }
 }
@@ -303,29 +265,18 @@ fn texts_that_are_refused() {
     assert_eq!(buffer, [0x41, 0x42, 0xEE]);
 }
 
-/// Makes with faults 5, 6 and 7 mended one after the other.
-fn making_order(type_number: u16, make: impl Fn(&Header) -> u8) -> Vec<u8> {
-    let mut header = bad_header();
-    let mut numbers = vec![make(&header)];
-    for _ in 0..3 {
-        mend(&mut header, type_number);
-        numbers.push(make(&header));
-    }
-    numbers
-}
-
 #[test]
 fn making_orders() {
-    let bad = [Correction::default(); correction::MOST];
+    let bad = [Correction::default(); Correction::MOST];
     for (count, last) in [(0, 12), (19, 12), (usize::MAX, 12), (1, 10), (18, 10)] {
-        let make = |header: &Header| number(correction::make(header, &bad, count));
+        let make = |header: &Header| number(Correction::make(header, &bad, count));
         for type_number in [1, 9, 31, 34] {
             assert_eq!(making_order(type_number, make), [5, 6, 7, last]);
         }
     }
-    let bad = [Health::default(); health::MOST];
+    let bad = [Health::default(); Health::MOST];
     for (count, last) in [(0, 12), (32, 12), (usize::MAX, 12), (1, 10), (31, 10)] {
-        let make = |header: &Header| number(health::make(header, &bad, count));
+        let make = |header: &Header| number(Health::make(header, &bad, count));
         assert_eq!(making_order(5, make), [5, 6, 7, last]);
         assert_eq!(making_order(33, make), [5, 6, 7, last]);
     }
@@ -365,13 +316,13 @@ fn entries_past_the_count_are_not_read() {
         |entry| entry.satellite = 33,
     ];
     for bad in breaks {
-        for place in 0..correction::MOST {
-            let mut entries = [good; correction::MOST];
+        for place in 0..Correction::MOST {
+            let mut entries = [good; Correction::MOST];
             bad(&mut entries[place]);
-            let below = correction::make(&header(1), &entries, place + 1);
+            let below = Correction::make(&header(1), &entries, place + 1);
             assert_eq!(number(below), 10);
             if place > 0 {
-                assert_eq!(number(correction::make(&header(1), &entries, place)), 0);
+                assert_eq!(number(Correction::make(&header(1), &entries, place)), 0);
             }
         }
     }
@@ -397,10 +348,10 @@ fn health_fields_outside_their_range() {
         |entry| entry.reserved_last = 4,
     ];
     for bad in breaks {
-        let mut entries = [good; health::MOST];
+        let mut entries = [good; Health::MOST];
         bad(&mut entries[7]);
-        assert_eq!(number(health::make(&header(5), &entries, 8)), 10);
-        assert_eq!(number(health::make(&header(5), &entries, 7)), 0);
+        assert_eq!(number(Health::make(&header(5), &entries, 8)), 10);
+        assert_eq!(number(Health::make(&header(5), &entries, 7)), 0);
     }
 }
 

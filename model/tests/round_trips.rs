@@ -1,57 +1,17 @@
 //! Round trips at random: records to frames and back, frames to bytes and back,
 //! frames to journal records and back.
 
+use rtcm2_model::again::made_again;
 use rtcm2_model::frame::{check_frame, header_of, header_words, n_of};
 use rtcm2_model::frame::{CarriedBits, Frame, Header, State};
 use rtcm2_model::line::bits_of_bytes;
-use rtcm2_model::record::correction::{self, Correction};
-use rtcm2_model::record::general::{self, General};
-use rtcm2_model::record::health::{self, Health};
-use rtcm2_model::record::observation::{self, Edition};
-use rtcm2_model::record::{general_null, layout, null, position, system, text, Layout};
+use rtcm2_model::record::observation::Edition;
+use rtcm2_model::record::{general, general_null, layout, null, position, text, types, Layout};
 use rtcm2_model::refusal::Answer;
 use rtcm2_model::rng::Rng;
 use rtcm2_model::scan::scan;
 use rtcm2_model::writer;
-use rtcm2_model::{journal, samples};
-
-#[test]
-fn made_corrections_read_back_equal() {
-    let mut rng = Rng::named("corrections");
-    for round in 0..1000 {
-        let type_number = [1, 9, 31, 34][rng.place(4)];
-        let mut entries = [Correction::default(); correction::MOST];
-        entries.fill_with(|| samples::correction(&mut rng, system(type_number)));
-        let count = 1 + round % correction::MOST;
-        let header = samples::header(&mut rng, type_number);
-        let frame = correction::make(&header, &entries, count).unwrap();
-        assert_eq!(usize::from(frame.n), correction::n_for(count));
-        assert_eq!(check_frame(&frame), Ok(()));
-        assert_eq!(correction::count(&frame), Ok(count));
-        assert_eq!(correction::fill_is_standard(&frame), Ok(true));
-        for (i, entry) in entries[..count].iter().enumerate() {
-            assert_eq!(correction::entry(&frame, i), Ok(*entry));
-        }
-    }
-}
-
-#[test]
-fn made_healths_read_back_equal() {
-    let mut rng = Rng::named("healths");
-    for round in 0..1000 {
-        let type_number = [5, 33][rng.place(2)];
-        let mut entries = [Health::default(); health::MOST];
-        entries.fill_with(|| samples::satellite_health(&mut rng, system(type_number)));
-        let count = 1 + round % health::MOST;
-        let header = samples::header(&mut rng, type_number);
-        let frame = health::make(&header, &entries, count).unwrap();
-        assert_eq!(check_frame(&frame), Ok(()));
-        assert_eq!(health::count(&frame), Ok(count));
-        for (i, entry) in entries[..count].iter().enumerate() {
-            assert_eq!(health::entry(&frame, i), Ok(*entry));
-        }
-    }
-}
+use rtcm2_model::{journal, samples, tables};
 
 #[test]
 fn made_positions_nulls_and_texts_read_back_equal() {
@@ -81,57 +41,20 @@ fn made_positions_nulls_and_texts_read_back_equal() {
 
 /// Reads whatever record the frame has and makes the frame anew.
 fn made_anew(frame: &Frame) -> Answer<Frame> {
-    let header = &frame.header;
-    match layout(header.type_number, frame.n) {
-        Layout::Correction => {
-            let count = correction::count(frame)?;
-            let mut entries = [Correction::default(); correction::MOST];
-            for (i, entry) in entries[..count].iter_mut().enumerate() {
-                *entry = correction::entry(frame, i)?;
-            }
-            correction::make(header, &entries, count)
-        }
-        Layout::Position => position::make(header, &position::read(frame)?),
-        Layout::Health => {
-            let count = health::count(frame)?;
-            let mut entries = [Health::default(); health::MOST];
-            for (i, entry) in entries[..count].iter_mut().enumerate() {
-                *entry = health::entry(frame, i)?;
-            }
-            health::make(header, &entries, count)
-        }
-        Layout::Null => null::make(header, null::read(frame)?),
-        Layout::Observation => {
-            let (count, epoch) = (observation::count(frame)?, observation::epoch(frame)?);
-            let edition = [Edition::Gost, Edition::Bd][usize::from(frame.header.station) % 2];
-            let mut entries = [observation::NONE; observation::MOST];
-            for (i, entry) in entries[..count].iter_mut().enumerate() {
-                *entry = observation::entry(edition, frame, i)?;
-            }
-            observation::make(edition, header, &epoch, &entries, count)
-        }
-        Layout::General => {
-            let (count, head) = (general::count(frame)?, general::head(frame)?);
-            let mut entries = [General::default(); general::MOST];
-            for (i, entry) in entries[..count].iter_mut().enumerate() {
-                *entry = general::entry(frame, i)?;
-            }
-            general::make(header, &head, &entries, count)
-        }
-        Layout::GeneralNull => general_null::make(header, &general_null::read(frame)?),
-        Layout::Text => {
-            let mut buffer = [0; text::MOST];
-            let count = text::read(frame, &mut buffer)?;
-            text::make(header, &buffer[..count])
-        }
+    let edition = [Edition::Gost, Edition::Bd][usize::from(frame.header.station) % 2];
+    match layout(frame.header.type_number, frame.n) {
         Layout::Plain => Ok(frame.bare()),
+        _ => made_again(frame, edition, &mut Vec::new()),
     }
 }
 
 /// Whether the frame has standard fill, wherever its layout has fill.
 fn fill_is_standard(frame: &Frame) -> bool {
-    match layout(frame.header.type_number, frame.n) {
-        Layout::Correction => correction::fill_is_standard(frame).unwrap(),
+    let layout = layout(frame.header.type_number, frame.n);
+    if let Some(list) = tables::of(layout) {
+        return (list.fill_is_standard)(frame).unwrap();
+    }
+    match layout {
         Layout::Null => null::fill_is_standard(frame).unwrap(),
         Layout::General => general::fill_is_standard(frame).unwrap(),
         Layout::GeneralNull => general_null::fill_is_standard(frame).unwrap(),
@@ -156,9 +79,9 @@ fn written(frame: &Frame, carried: CarriedBits) -> Vec<u8> {
 #[test]
 fn readable_frames_made_anew_give_their_own_bits() {
     let mut rng = Rng::named("made anew");
+    let types = types();
     let mut readable = 0;
     for _ in 0..20_000 {
-        let types = [1, 9, 3, 5, 6, 16, 31, 32, 33, 34, 36, 41, 42];
         let type_number = types[rng.place(types.len())];
         let bound = if rng.bit() { 32 } else { 3 };
         let n = rng.below(bound) as u8;

@@ -3,10 +3,13 @@
 
 mod common;
 
+use common::number;
 use rtcm2_model::library::season::{
     report_bytes, report_in, row_bytes, season_add, season_journal, season_row, season_start,
     REPORT_SIZE, ROW_SIZE,
 };
+use rtcm2_model::record::correction::Correction;
+use rtcm2_model::record::list::List;
 use rtcm2_model::record::values::Value;
 use rtcm2_model::record::System;
 use rtcm2_model::refusal::Answer;
@@ -16,11 +19,7 @@ use rtcm2_model::season::{
 };
 use rtcm2_model::season_runs::{files, full, worked};
 use rtcm2_model::seasons::{run, run_from};
-use rtcm2_model::{journal, journals, samples, word_journal};
-
-fn number<T>(answer: Answer<T>) -> u8 {
-    answer.map_or_else(|refusal| refusal.number(), |_| 0)
-}
+use rtcm2_model::{journal, journals, word_journal};
 
 fn key(system: System, station: u16, satellite: u8) -> Key {
     Key {
@@ -449,7 +448,7 @@ fn long_journals_split_anywhere() {
 fn a_frame_that_can_not_be_counted_adds_nothing() {
     let mut rng = Rng::named("season frames");
     for _ in 0..200 {
-        let mut frame = samples::correction_frame(&mut rng, 1, 3);
+        let mut frame = Correction::sample(&mut rng, 1, 3);
         assert_eq!(entries_of(&frame).len(), 3);
         frame.header.z_count = 6000;
         assert_eq!(entries_of(&frame), []);

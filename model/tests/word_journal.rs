@@ -3,20 +3,16 @@
 
 mod common;
 
-use common::{bytes, frame, header};
+use common::{bytes, frame, header, number};
 use rtcm2_model::frame::{CarriedBits, Frame};
 use rtcm2_model::library::journals::{keep_words, recall_words, Recalling};
-use rtcm2_model::refusal::{Answer, Refusal};
+use rtcm2_model::refusal::Refusal;
 use rtcm2_model::rng::Rng;
 use rtcm2_model::word_journal::{
     data_of, each, is_sound, keep, length_for, recall, renew, renewed, restore, restored,
     windows_in, Moved, Stop,
 };
-use rtcm2_model::{journal, journals, samples};
-
-fn number<T>(answer: Answer<T>) -> u8 {
-    answer.map_or_else(|refusal| refusal.number(), |_| 0)
-}
+use rtcm2_model::{journals, samples};
 
 /// The record of a frame.
 fn kept(frame: &Frame) -> Vec<u8> {
@@ -24,14 +20,6 @@ fn kept(frame: &Frame) -> Vec<u8> {
     let length = keep(frame, &mut buffer).unwrap();
     assert_eq!(length, length_for(frame.n.into()));
     assert!(buffer[length..].iter().all(|byte| *byte == 0));
-    buffer.truncate(length);
-    buffer
-}
-
-/// The record of a frame in the first form.
-fn kept_old(frame: &Frame) -> Vec<u8> {
-    let mut buffer = vec![0; 102];
-    let length = journal::keep(frame, &mut buffer).unwrap();
     buffer.truncate(length);
     buffer
 }
@@ -137,7 +125,7 @@ fn worked_refusals() {
 #[test]
 fn worked_journal() {
     let frames = [frame(6, 0), filled(), v1a()];
-    let old: Vec<u8> = frames.iter().flat_map(kept_old).collect();
+    let old: Vec<u8> = frames.iter().flat_map(common::kept).collect();
     let new: Vec<u8> = frames.iter().flat_map(kept).collect();
     assert_eq!((old.len(), new.len()), (36, 45));
     assert_eq!(renewed(&old), Ok(new.clone()));
@@ -159,7 +147,7 @@ fn worked_journal() {
 #[test]
 fn one_record_is_moved_into_a_lent_buffer() {
     for frame in [frame(6, 0), filled(), v1a(), frame(2, 31)] {
-        let (old, new) = (kept_old(&frame), kept(&frame));
+        let (old, new) = (common::kept(&frame), kept(&frame));
         for (from, to, call) in [
             (&old, &new, renew as fn(&[u8], &mut [u8]) -> _),
             (&new, &old, restore),
@@ -286,7 +274,7 @@ fn records_go_both_ways() {
         let record = kept(&frame);
         assert_eq!(recall(&record), Ok((frame, record.len())));
         let old = restored(&record).unwrap();
-        assert_eq!(old, kept_old(&frame));
+        assert_eq!(old, common::kept(&frame));
         let again = renewed(&old).unwrap();
         assert_eq!(again, kept(&frame.bare()));
         assert_eq!((&again[..3], again.len()), (&record[..3], record.len()));
@@ -301,7 +289,7 @@ fn journals_there_and_back() {
     let mut rng = Rng::named("whole journals");
     for _ in 0..60 {
         let frames: Vec<Frame> = (0..rng.place(20)).map(|_| drawn(&mut rng)).collect();
-        let old: Vec<u8> = frames.iter().flat_map(kept_old).collect();
+        let old: Vec<u8> = frames.iter().flat_map(common::kept).collect();
         let new: Vec<u8> = frames.iter().flat_map(kept).collect();
         let moved = renewed(&old).unwrap();
         assert_eq!(restored(&moved), Ok(old.clone()));
@@ -361,7 +349,7 @@ fn library_keep(record: &[u8], pair: [u8; 2], room: usize) -> (u8, usize, Vec<u8
 
 #[test]
 fn the_library_keeps_and_recalls_words() {
-    let old = kept_old(&v1a());
+    let old = common::kept(&v1a());
     let e = bytes(E);
     assert_eq!(library_keep(&old, [1, 0], 19), (0, 19, e.clone()));
     let wrong: [(&[u8], [u8; 2], usize, u8); 8] = [

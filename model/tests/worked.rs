@@ -7,8 +7,10 @@ use common::{frame, header, turned};
 use rtcm2_model::frame::State;
 use rtcm2_model::line::{bits_of_byte, turned_over};
 use rtcm2_model::reader::{Fed, Reader};
+use rtcm2_model::record::correction::Correction;
+use rtcm2_model::record::list::List;
 use rtcm2_model::record::values::{cn0_dbhz, prc_mm, rrc_mm_s, stops, udre_limit_mm, Value};
-use rtcm2_model::record::{correction, null, text};
+use rtcm2_model::record::{null, text};
 use rtcm2_model::refusal::Refusal;
 use rtcm2_model::word::{bits_of, encode, Pair};
 use rtcm2_model::{journal, listing, writer};
@@ -143,10 +145,10 @@ fn udre_limits_and_cn0() {
 
 #[test]
 fn satellites_that_n_gives() {
-    assert_eq!(correction::count(&frame(1, 5)), Ok(3));
-    assert_eq!(correction::count(&frame(1, 7)), Ok(4));
+    assert_eq!(Correction::count(&frame(1, 5)), Ok(3));
+    assert_eq!(Correction::count(&frame(1, 7)), Ok(4));
     for n in [1, 3, 31] {
-        assert_eq!(correction::count(&frame(1, n)), Err(Refusal::NDoesNotFit));
+        assert_eq!(Correction::count(&frame(1, n)), Err(Refusal::NDoesNotFit));
     }
 }
 

@@ -1,9 +1,11 @@
 //! A call of the library as data: the function, numbers given, bytes to read,
 //! places lent, each in the order of `include/rtcm2.h`.
 
+use crate::header::LISTS;
 use crate::place::Place;
 use rtcm2_model::library::Head;
 use std::fmt::{self, Display, Formatter};
+use std::sync::LazyLock;
 
 /// The functions of the library.
 #[derive(Clone, Copy, Debug, PartialEq, Eq)]
@@ -22,12 +24,12 @@ pub enum Function {
     KeepWords,
     RecallWords,
     Mend,
-    CountCorrections,
-    CorrectionAt,
-    MakeCorrections,
-    CountHealths,
-    HealthAt,
-    MakeHealths,
+    /// Counts the entries of the list at this place.
+    Count(usize),
+    /// Reads an entry of it.
+    At(usize),
+    /// Makes a frame of it.
+    Make(usize),
     ReadPosition,
     MakePosition,
     ReadNull,
@@ -64,6 +66,7 @@ pub enum Function {
 }
 
 /// A function, its name and every number that it can answer.
+#[derive(Clone, Copy)]
 pub struct Row {
     /// The function.
     pub function: Function,
@@ -81,8 +84,8 @@ const fn row(function: Function, name: &'static str, answers: &'static [u64]) ->
     }
 }
 
-/// All functions, in the order of the header.
-pub const FUNCTIONS: &[Row] = &[
+/// All functions but those of the lists, in the order of the header.
+const OTHERS: &[Row] = &[
     row(Function::StateSize, "rtcm2_state_size", &[196]),
     row(Function::Start, "rtcm2_start", &[0, 13]),
     row(Function::Feed, "rtcm2_feed", &[0, 1, 2, 3, 5]),
@@ -105,36 +108,6 @@ pub const FUNCTIONS: &[Row] = &[
         &[0, 13, 14, 15, 16, 17],
     ),
     row(Function::Mend, "rtcm2_mend", &[0, 13]),
-    row(
-        Function::CountCorrections,
-        "rtcm2_count_corrections",
-        &[0, 6, 7, 8, 14, 15, 16],
-    ),
-    row(
-        Function::CorrectionAt,
-        "rtcm2_correction_at",
-        &[0, 6, 7, 8, 9, 10, 13, 14, 15, 16],
-    ),
-    row(
-        Function::MakeCorrections,
-        "rtcm2_make_corrections",
-        &[0, 5, 6, 7, 10, 12, 13],
-    ),
-    row(
-        Function::CountHealths,
-        "rtcm2_count_healths",
-        &[0, 6, 7, 8, 14, 15, 16],
-    ),
-    row(
-        Function::HealthAt,
-        "rtcm2_health_at",
-        &[0, 6, 7, 8, 9, 13, 14, 15, 16],
-    ),
-    row(
-        Function::MakeHealths,
-        "rtcm2_make_healths",
-        &[0, 5, 6, 7, 10, 12, 13],
-    ),
     row(
         Function::ReadPosition,
         "rtcm2_read_position",
@@ -241,6 +214,28 @@ pub const FUNCTIONS: &[Row] = &[
     row(Function::LetterOf, "rtcm2_letter_of", &[0, 11]),
     row(Function::Remainder, "rtcm2_remainder", &[0]),
 ];
+
+/// The three functions of the list at a place.
+fn of_list(place: usize) -> [Row; 3] {
+    let list = &LISTS[place];
+    let [count, at, make] = list.names;
+    [
+        row(Function::Count(place), count, &[0, 6, 7, 8, 14, 15, 16]),
+        row(Function::At(place), at, list.answers),
+        row(Function::Make(place), make, &[0, 5, 6, 7, 10, 12, 13]),
+    ]
+}
+
+/// All functions, in the order of the header: the lists stand behind the mender.
+pub static FUNCTIONS: LazyLock<Vec<Row>> = LazyLock::new(|| {
+    let mender = OTHERS.iter().position(|row| row.function == Function::Mend);
+    let (before, behind) = OTHERS.split_at(mender.expect("its row") + 1);
+    let lists = (0..LISTS.len()).flat_map(of_list);
+    let mut all = before.to_vec();
+    all.extend(lists);
+    all.extend_from_slice(behind);
+    all
+});
 
 /// The place of a function in the table.
 pub fn row_of(function: Function) -> usize {

@@ -87,46 +87,6 @@ unsafe extern "C" {
         read: *mut usize,
         written: *mut usize,
     ) -> u8;
-    pub fn rtcm2_count_corrections(frame: *const u8, frame_size: usize, count: *mut usize) -> u8;
-    pub fn rtcm2_correction_at(
-        frame: *const u8,
-        frame_size: usize,
-        index: usize,
-        correction: *mut u8,
-        correction_size: usize,
-    ) -> u8;
-    pub fn rtcm2_make_corrections(
-        kind: u8,
-        station: u16,
-        z: u16,
-        sequence: u8,
-        health: u8,
-        corrections: *const u8,
-        corrections_size: usize,
-        frame: *mut u8,
-        frame_size: usize,
-        length: *mut usize,
-    ) -> u8;
-    pub fn rtcm2_count_healths(frame: *const u8, frame_size: usize, count: *mut usize) -> u8;
-    pub fn rtcm2_health_at(
-        frame: *const u8,
-        frame_size: usize,
-        index: usize,
-        health: *mut u8,
-        health_size: usize,
-    ) -> u8;
-    pub fn rtcm2_make_healths(
-        kind: u8,
-        station: u16,
-        z: u16,
-        sequence: u8,
-        health: u8,
-        healths: *const u8,
-        healths_size: usize,
-        frame: *mut u8,
-        frame_size: usize,
-        length: *mut usize,
-    ) -> u8;
     pub fn rtcm2_read_position(
         frame: *const u8,
         frame_size: usize,
@@ -307,4 +267,70 @@ unsafe extern "C" {
     pub fn rtcm2_use_seconds(code: u8, seconds: *mut u8) -> u8;
     pub fn rtcm2_letter_of(code: u8, letter: *mut u32) -> u8;
     pub fn rtcm2_remainder(window: u32, remainder: *mut u8) -> u8;
+}
+
+/// Counts the entries of a list.
+pub type Counter = unsafe extern "C" fn(*const u8, usize, *mut usize) -> u8;
+
+/// Reads an entry of a list.
+pub type EntryReader = unsafe extern "C" fn(*const u8, usize, usize, *mut u8, usize) -> u8;
+
+/// Makes a frame of a header's five numbers and bytes.
+pub type Maker =
+    unsafe extern "C" fn(u8, u16, u16, u8, u8, *const u8, usize, *mut u8, usize, *mut usize) -> u8;
+
+/// The three functions of a list layout, their names, and every number that the second
+/// can answer; the other two can answer the same for all.
+pub struct List {
+    pub count: Counter,
+    pub at: EntryReader,
+    pub make: Maker,
+    pub names: [&'static str; 3],
+    pub answers: &'static [u64],
+}
+
+/// The lists, in the order of the header, which is the model's.
+macro_rules! lists {
+    ($($count:ident $at:ident $make:ident $answers:expr;)*) => {
+        unsafe extern "C" {
+            $(
+                fn $count(frame: *const u8, frame_size: usize, count: *mut usize) -> u8;
+                fn $at(
+                    frame: *const u8,
+                    frame_size: usize,
+                    index: usize,
+                    row: *mut u8,
+                    row_size: usize,
+                ) -> u8;
+                fn $make(
+                    kind: u8,
+                    station: u16,
+                    z: u16,
+                    sequence: u8,
+                    health: u8,
+                    rows: *const u8,
+                    rows_size: usize,
+                    frame: *mut u8,
+                    frame_size: usize,
+                    length: *mut usize,
+                ) -> u8;
+            )*
+        }
+
+        pub const LISTS: &[List] = &[
+            $(List {
+                count: $count,
+                at: $at,
+                make: $make,
+                names: [stringify!($count), stringify!($at), stringify!($make)],
+                answers: &$answers,
+            },)*
+        ];
+    };
+}
+
+lists! {
+    rtcm2_count_corrections rtcm2_correction_at rtcm2_make_corrections
+        [0, 6, 7, 8, 9, 10, 13, 14, 15, 16];
+    rtcm2_count_healths rtcm2_health_at rtcm2_make_healths [0, 6, 7, 8, 9, 13, 14, 15, 16];
 }

@@ -23,15 +23,12 @@ pub fn answer(call: &mut Call) -> u64 {
         }
         Function::KeepWords | Function::RecallWords => u64::from(journals::words(call)),
         Function::Mend => u64::from(journals::mend(call)),
-        Function::CountCorrections
-        | Function::CorrectionAt
-        | Function::CountHealths
-        | Function::HealthAt => u64::from(list(call)),
-        Function::Keep
-        | Function::MakeCorrections
-        | Function::MakeHealths
-        | Function::MakeText
-        | Function::CutCorrections => u64::from(make(call)),
+        Function::Count(place) => u64::from(count(&LISTS[place], call)),
+        Function::At(place) => u64::from(entry_at(&LISTS[place], call)),
+        Function::Make(place) => u64::from(make(LISTS[place].make, call)),
+        Function::Keep => u64::from(make(rtcm2_keep, call)),
+        Function::MakeText => u64::from(make(rtcm2_make_text, call)),
+        Function::CutCorrections => u64::from(make(rtcm2_cut_corrections, call)),
         Function::CheckProfile => u64::from(check_profile(call)),
         Function::MakePosition => u64::from(make_position(call)),
         Function::MakeNull => u64::from(make_null(call)),
@@ -146,38 +143,19 @@ fn read(call: &mut Call) -> u8 {
     }
 }
 
-fn list(call: &mut Call) -> u8 {
-    let ([frame], [lent]) = (of(&mut call.read), of(&mut call.lent));
-    let (size, frame) = (frame.size(), at(frame));
-    let (room, index) = (
-        lent.size(),
-        call.given.first().map(|number| *number as usize),
-    );
-    match (call.function, index) {
-        (Function::CountCorrections, None) => unsafe {
-            rtcm2_count_corrections(frame, size, at(lent))
-        },
-        (Function::CorrectionAt, Some(index)) => unsafe {
-            rtcm2_correction_at(frame, size, index, at(lent), room)
-        },
-        (Function::CountHealths, None) => unsafe { rtcm2_count_healths(frame, size, at(lent)) },
-        (Function::HealthAt, Some(index)) => unsafe {
-            rtcm2_health_at(frame, size, index, at(lent), room)
-        },
-        other => unreachable!("{other:?}"),
-    }
+fn count(list: &List, call: &mut Call) -> u8 {
+    let ([frame], [count]) = (of(&mut call.read), of(&mut call.lent));
+    unsafe { (list.count)(at(frame), frame.size(), at(count)) }
 }
 
-/// The five makers that have the same arguments.
-fn make(call: &mut Call) -> u8 {
-    let maker = match call.function {
-        Function::Keep => rtcm2_keep,
-        Function::MakeCorrections => rtcm2_make_corrections,
-        Function::MakeHealths => rtcm2_make_healths,
-        Function::MakeText => rtcm2_make_text,
-        Function::CutCorrections => rtcm2_cut_corrections,
-        other => unreachable!("{other:?}"),
-    };
+fn entry_at(list: &List, call: &mut Call) -> u8 {
+    let ([frame], [row]) = (of(&mut call.read), of(&mut call.lent));
+    let (size, frame) = (frame.size(), at(frame));
+    unsafe { (list.at)(frame, size, call.given[0] as usize, at(row), row.size()) }
+}
+
+/// The makers that have the same arguments.
+fn make(maker: Maker, call: &mut Call) -> u8 {
     let head = call.head();
     let ([bytes], [frame, length]) = (of(&mut call.read), of(&mut call.lent));
     let (size, bytes) = (bytes.size(), at(bytes));

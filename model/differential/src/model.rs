@@ -9,8 +9,9 @@ use crate::call::{Call, Function};
 use crate::place::Place;
 use rtcm2_model::library::frames::{self, Recalled};
 use rtcm2_model::library::line::{self, Taking};
-use rtcm2_model::library::{lists, numbers, profile, records, words as windows};
+use rtcm2_model::library::{numbers, profile, records, words as windows};
 use rtcm2_model::record::position::Position;
+use rtcm2_model::tables::LISTS;
 
 /// Makes the call and gives its answer.
 pub fn answer(call: &mut Call) -> u64 {
@@ -26,13 +27,9 @@ pub fn answer(call: &mut Call) -> u64 {
         }
         Function::KeepWords | Function::RecallWords => u64::from(journals::words(call)),
         Function::Mend => u64::from(journals::mend(call)),
-        Function::CountCorrections
-        | Function::CorrectionAt
-        | Function::CountHealths
-        | Function::HealthAt => u64::from(list(call)),
+        Function::Count(_) | Function::At(_) => u64::from(list(call)),
         Function::Keep
-        | Function::MakeCorrections
-        | Function::MakeHealths
+        | Function::Make(_)
         | Function::MakePosition
         | Function::MakeNull
         | Function::MakeText
@@ -150,15 +147,10 @@ fn read(call: &mut Call) -> u8 {
 
 fn list(call: &mut Call) -> u8 {
     let ([frame], [lent]) = (of(&mut call.read), of(&mut call.lent));
-    let (frame, index) = (
-        frame.bytes(),
-        call.given.first().map(|number| *number as usize),
-    );
-    match (call.function, index) {
-        (Function::CountCorrections, None) => lists::count_corrections(frame, lent.number()),
-        (Function::CorrectionAt, Some(index)) => lists::correction_at(frame, index, lent.bytes()),
-        (Function::CountHealths, None) => lists::count_healths(frame, lent.number()),
-        (Function::HealthAt, Some(index)) => lists::health_at(frame, index, lent.bytes()),
+    let frame = frame.bytes();
+    match call.function {
+        Function::Count(place) => (LISTS[place].count)(frame, lent.number()),
+        Function::At(place) => (LISTS[place].at)(frame, call.given[0] as usize, lent.bytes()),
         other => unreachable!("{other:?}"),
     }
 }
@@ -170,13 +162,10 @@ fn make(call: &mut Call) -> u8 {
     let read = &mut call.read;
     match call.function {
         Function::Keep => frames::keep(head, of::<1>(read)[0].bytes(), frame, length),
-        Function::MakeCorrections => {
-            lists::make_corrections(head, of::<1>(read)[0].bytes(), frame, length)
-        }
+        Function::Make(place) => (LISTS[place].make)(head, of::<1>(read)[0].bytes(), frame, length),
         Function::CutCorrections => {
             profile::cut_corrections(head, of::<1>(read)[0].bytes(), frame, length)
         }
-        Function::MakeHealths => lists::make_healths(head, of::<1>(read)[0].bytes(), frame, length),
         Function::MakePosition => {
             let [x, y, z] = [5, 6, 7].map(|i| call.given[i] as i32);
             records::make_position(head, Position { x, y, z }, frame, length)

@@ -5,14 +5,14 @@ use std::collections::BTreeMap;
 
 /// The counts, a map from answers for each function.
 pub struct Tally {
-    counts: [BTreeMap<u64, u64>; FUNCTIONS.len()],
+    counts: Vec<BTreeMap<u64, u64>>,
 }
 
 impl Tally {
     /// No call yet.
     pub fn none() -> Tally {
         Tally {
-            counts: std::array::from_fn(|_| BTreeMap::new()),
+            counts: vec![BTreeMap::new(); FUNCTIONS.len()],
         }
     }
 

@@ -1,7 +1,9 @@
 //! The small-beacon profile: the checker, and the sender's side.
 
-use super::lists::{corrections_of, row_count, CORRECTION_SIZE};
+use super::lists::row_count;
 use super::{frame_in, numbered, Head};
+use crate::record::correction::Correction;
+use crate::record::list::List;
 use crate::refusal::{refuse_if, Answer, Refusal};
 use crate::{journal, profile};
 
@@ -17,8 +19,8 @@ pub fn cut_corrections(head: Head, rows: &[u8], frames: &mut [u8], length: &mut 
 }
 
 fn corrections_cut(head: Head, rows: &[u8], frames: &mut [u8], length: &mut usize) -> Answer<()> {
-    let entries = corrections_of(head, rows);
-    let count = row_count(rows, CORRECTION_SIZE);
+    let entries = Correction::of_rows(head.kind.into(), rows);
+    let count = row_count(rows, Correction::SIZE);
     let mut records = Vec::new();
     for frame in profile::cut(&head.header()?, &entries, count)? {
         let mut buffer = [0; 102];

@@ -82,6 +82,11 @@ impl Layer {
     }
 }
 
+/// Whether bits are alternating ones and zeros, a one first: the standard fill.
+pub fn alternates(bits: &[bool]) -> bool {
+    bits.iter().enumerate().all(|(i, bit)| *bit == (i % 2 == 0))
+}
+
 /// A satellite's five-bit code: 0 means 32.
 pub fn satellite_of(code: u32) -> u8 {
     if code == 0 {

@@ -1,7 +1,7 @@
 //! Types 41 and 42: general corrections of one system's signal, a head of 13 bits and,
 //! for each satellite, 32 bits or 44 with the delay of the ionosphere.
 
-use super::fields::{data_bits, Fields, Layer};
+use super::fields::{alternates, data_bits, Fields, Layer};
 use super::{begin_making, begin_reading, Layout};
 use crate::frame::{Frame, Header, MOST_WORDS};
 use crate::refusal::{refuse_if, Answer, Refusal};
@@ -161,6 +161,5 @@ fn in_range(entry: &General, ionosphere: u8) -> bool {
 pub fn fill_is_standard(frame: &Frame) -> Answer<bool> {
     let (head, count) = begin(frame)?;
     let used = HEAD_WIDTH + (32 + delay_width(head.ionosphere)) * count;
-    let fill = data_bits(frame).split_off(used);
-    Ok(fill.iter().enumerate().all(|(i, bit)| *bit == (i % 2 == 0)))
+    Ok(alternates(&data_bits(frame)[used..]))
 }

@@ -1,6 +1,6 @@
 //! Type 42 with N 1: the null frame of a system, its number and twenty bits of fill.
 
-use super::fields::{data_bits, Fields, Layer};
+use super::fields::{alternates, data_bits, Fields, Layer};
 use super::general::{FILL, SYSTEMS};
 use super::{begin_making, begin_reading, Layout};
 use crate::frame::{Frame, Header};
@@ -39,6 +39,5 @@ pub fn make(header: &Header, wanted: &GeneralNull) -> Answer<Frame> {
 /// Whether the last twenty bits are standard fill. Refuses as `read`.
 pub fn fill_is_standard(frame: &Frame) -> Answer<bool> {
     read(frame)?;
-    let fill = data_bits(frame).split_off(4);
-    Ok(fill.iter().enumerate().all(|(i, bit)| *bit == (i % 2 == 0)))
+    Ok(alternates(&data_bits(frame)[4..]))
 }

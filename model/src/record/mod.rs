@@ -1,22 +1,27 @@
-//! Records: which layout a frame has, and the refusals that open every reading
-//! and making.
+//! Records: which layout a frame has, the list layouts one after the other, and the
+//! refusals that open every reading and making.
 
 pub mod correction;
 pub mod fields;
 pub mod general;
 pub mod general_null;
 pub mod health;
+pub mod list;
 pub mod null;
 pub mod observation;
 pub mod position;
 pub mod text;
 pub mod values;
 
+use correction::Correction;
+use health::Health;
+use list::List;
+
 use crate::frame::{check_frame, check_header, Frame, Header, MOST_WORDS, Z_COUNTS};
 use crate::refusal::{refuse_if, Answer, Refusal};
 
 /// The layout of a frame's data words.
-#[derive(Clone, Copy, Debug, PartialEq, Eq)]
+#[derive(Clone, Copy, Debug, PartialEq, Eq, PartialOrd, Ord)]
 pub enum Layout {
     /// Types 1, 9 and 31, and type 34 with N from 2.
     Correction,
@@ -58,6 +63,31 @@ pub fn layout(type_number: u16, n: u8) -> Layout {
 /// Whether a type number has this layout, with one N or another.
 pub fn may_have(type_number: u16, wanted: Layout) -> bool {
     (0..=MOST_WORDS as u8).any(|n| layout(type_number, n) == wanted)
+}
+
+/// The type numbers that have a layout, in order; each as often as it has layouts.
+pub fn types() -> Vec<u16> {
+    let of = |type_number| {
+        let layouts = (0..=MOST_WORDS as u8).map(move |n| layout(type_number, n));
+        let mut layouts: Vec<Layout> = layouts.collect();
+        layouts.sort();
+        layouts.dedup();
+        layouts.retain(|layout| *layout != Layout::Plain);
+        vec![type_number; layouts.len()]
+    };
+    (1..=64).flat_map(of).collect()
+}
+
+/// What is done with every list layout.
+pub trait ForEach {
+    /// Does it with one.
+    fn list<L: List>(&mut self);
+}
+
+/// Goes through the list layouts, in the order of the library's header.
+pub fn for_each_list(what: &mut impl ForEach) {
+    what.list::<Correction>();
+    what.list::<Health>();
 }
 
 /// The system whose satellites a frame speaks of.

@@ -1,7 +1,7 @@
 //! Types 6 and 34 with N 0 or 1: the null frame, without data or with one word of
 //! fill.
 
-use super::fields::{data_bits, Layer};
+use super::fields::{alternates, data_bits, Layer};
 use super::{begin_making, begin_reading, Layout};
 use crate::frame::{Frame, Header};
 use crate::refusal::{refuse_if, Answer, Refusal};
@@ -33,6 +33,5 @@ pub fn make(header: &Header, wanted: u8) -> Answer<Frame> {
 /// Whether the word, if there is one, is standard fill. Refuses as `read`.
 pub fn fill_is_standard(frame: &Frame) -> Answer<bool> {
     read(frame)?;
-    let fill = data_bits(frame);
-    Ok(fill.iter().enumerate().all(|(i, bit)| *bit == (i % 2 == 0)))
+    Ok(alternates(&data_bits(frame)))
 }

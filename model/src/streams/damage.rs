@@ -4,6 +4,8 @@
 use super::Entry;
 use crate::bits::Bits;
 use crate::frame::Frame;
+use crate::record::correction::Correction;
+use crate::record::list::List;
 use crate::rng::Rng;
 use crate::samples;
 use crate::word::{test, Pair};
@@ -71,7 +73,7 @@ fn unseen_four(rng: &mut Rng) -> [usize; 4] {
 fn four_turned_unseen(rng: &mut Rng) -> Vec<u8> {
     let mut bits = Bits::opened();
     for _ in 0..15 {
-        let frame = samples::correction_frame(rng, 9, 6);
+        let frame = Correction::sample(rng, 9, 6);
         let first = bits.push_frame(&frame);
         let word = 2 + rng.place(usize::from(frame.n));
         for at in unseen_four(rng) {

@@ -5,6 +5,9 @@ use super::hiding::{push_hiding, Hidden};
 use super::Entry;
 use crate::bits::Bits;
 use crate::frame::{header_words, Frame};
+use crate::record::correction::Correction;
+use crate::record::health::Health;
+use crate::record::list::List;
 use crate::rng::Rng;
 use crate::samples;
 
@@ -39,7 +42,7 @@ fn small_frames(rng: &mut Rng, count: usize) -> Vec<Frame> {
     let small = |rng: &mut Rng| match rng.below(3) {
         0 => samples::any_null_frame(rng, 6),
         1 => samples::text_frame(rng, 16, 5),
-        _ => samples::health_frame(rng, 5, 3),
+        _ => Health::sample(rng, 5, 3),
     };
     (0..count).map(|_| small(rng)).collect()
 }
@@ -48,7 +51,7 @@ fn small_frames(rng: &mut Rng, count: usize) -> Vec<Frame> {
 fn preambles_in_data(rng: &mut Rng) -> Vec<u8> {
     let mut bits = Bits::opened();
     for shift in 0..8 {
-        let mut frame = samples::correction_frame(rng, 1, 18);
+        let mut frame = Correction::sample(rng, 1, 18);
         frame.words[..30].fill((0x6666_6666_u32 >> shift) & 0xFF_FFFF);
         bits.push_frame(&frame);
         bits.push_frames(&small_frames(rng, 2));
@@ -95,7 +98,7 @@ fn false_on_grid(rng: &mut Rng, slip: bool) -> Vec<u8> {
     let mut bits = Bits::opened();
     bits.push_frames(&samples::frames(rng, 3));
     for _ in 0..4 {
-        let mut frame = samples::correction_frame(rng, 1, 18);
+        let mut frame = Correction::sample(rng, 1, 18);
         let at = 24 + rng.place(5);
         frame.words[at..at + 2].copy_from_slice(&lone_header(rng, 31));
         let first = bits.push_frame(&frame);

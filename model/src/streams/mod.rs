@@ -19,6 +19,7 @@ mod vectors;
 use crate::listing;
 use crate::mangle::mangle;
 use crate::rng::Rng;
+use crate::tables::LISTS;
 
 /// Makes the bytes of one stream.
 type Maker = fn(&mut Rng) -> Vec<u8>;
@@ -43,6 +44,10 @@ const GROUPS: [&[Entry]; 13] = [
     failing::STREAMS,
 ];
 
+/// The groups that the file of a list layout adds to.
+const VALID: usize = 1;
+const WORKED: usize = 12;
+
 /// A test stream.
 #[derive(Clone, Debug, PartialEq, Eq)]
 pub struct Stream {
@@ -62,16 +67,30 @@ impl Stream {
 /// All test streams, in the order of their names.
 pub fn all() -> Vec<Stream> {
     let mut streams = Vec::new();
-    for (i, group) in GROUPS.iter().enumerate() {
-        for (name, maker) in *group {
-            streams.push(Stream {
-                name: format!("{:02}-{name}", i + 1),
-                bytes: maker(&mut Rng::named(name)),
-            });
+    for (i, group) in (1..).zip(GROUPS) {
+        for (name, maker) in group {
+            push(&mut streams, i, name, maker(&mut Rng::named(name)));
+        }
+    }
+    for list in LISTS.iter() {
+        for (name, type_number) in list.streams {
+            let bytes = valid::list(list, &mut Rng::named(name), *type_number);
+            push(&mut streams, VALID, name, bytes);
+        }
+        for (name, bytes) in &list.worked {
+            push(&mut streams, WORKED, name, vectors::bytes(bytes));
         }
     }
     streams.sort_by(|a, b| a.name.cmp(&b.name));
     streams
+}
+
+/// Adds a stream of a group.
+fn push(streams: &mut Vec<Stream>, group: usize, name: &str, bytes: Vec<u8>) {
+    streams.push(Stream {
+        name: format!("{group:02}-{name}"),
+        bytes,
+    });
 }
 
 /// A stream of over a million bytes: test streams in any order, some damaged.

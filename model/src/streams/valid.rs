@@ -1,11 +1,16 @@
-//! Correct streams: frames of all types back to back after the lead byte.
+//! Correct streams: frames of all types back to back after the lead byte. Those of one
+//! list layout alone are named in its file.
 
 use super::Entry;
 use crate::bits::Bits;
 use crate::frame::{Frame, State};
+use crate::record::correction::Correction;
 use crate::record::general;
+use crate::record::health::Health;
+use crate::record::list::List;
 use crate::rng::Rng;
 use crate::samples;
+use crate::tables::Table;
 
 pub(super) const STREAMS: &[Entry] = &[
     ("valid-a", any),
@@ -16,14 +21,8 @@ pub(super) const STREAMS: &[Entry] = &[
     ("valid-f", any),
     ("valid-g", any),
     ("valid-h", any),
-    ("corrections-1", |rng| corrections(rng, 1)),
-    ("corrections-9", |rng| corrections(rng, 9)),
-    ("corrections-31", |rng| corrections(rng, 31)),
-    ("corrections-34", |rng| corrections(rng, 34)),
     ("positions", |rng| positions(rng, 3)),
     ("positions-32", |rng| positions(rng, 32)),
-    ("healths", |rng| healths(rng, 5)),
-    ("healths-33", |rng| healths(rng, 33)),
     ("nulls", |rng| nulls(rng, 6)),
     ("nulls-34", |rng| nulls(rng, 34)),
     ("texts", |rng| texts(rng, 16)),
@@ -71,19 +70,15 @@ fn any(rng: &mut Rng) -> Vec<u8> {
     written(&samples::frames(rng, count))
 }
 
-fn corrections(rng: &mut Rng, type_number: u16) -> Vec<u8> {
-    let make = |count| samples::correction_frame(rng, type_number, count);
-    written(&(1..=18).map(make).collect::<Vec<Frame>>())
+/// Frames of a list layout, one of every count.
+pub(super) fn list(list: &Table, rng: &mut Rng, type_number: u16) -> Vec<u8> {
+    let make = |count| (list.sample)(rng, type_number, count);
+    written(&(1..=list.most).map(make).collect::<Vec<Frame>>())
 }
 
 fn positions(rng: &mut Rng, type_number: u16) -> Vec<u8> {
     let make = |_| samples::position_frame(rng, type_number);
     written(&(0..20).map(make).collect::<Vec<Frame>>())
-}
-
-fn healths(rng: &mut Rng, type_number: u16) -> Vec<u8> {
-    let make = |count| samples::health_frame(rng, type_number, count);
-    written(&(1..=31).map(make).collect::<Vec<Frame>>())
 }
 
 /// Null frames: without a word, with fill, with any word.
@@ -211,10 +206,10 @@ fn other_system(rng: &mut Rng) -> Vec<u8> {
     };
     for count in 1..=4 {
         for (of, other) in [(1, 31), (9, 34), (31, 1), (34, 9)] {
-            push(samples::correction_frame(rng, of, count), other);
+            push(Correction::sample(rng, of, count), other);
         }
         for (of, other) in [(5, 33), (33, 5)] {
-            push(samples::health_frame(rng, of, count), other);
+            push(Health::sample(rng, of, count), other);
         }
         for (of, other) in [(16, 36), (36, 16)] {
             push(samples::text_frame(rng, of, count), other);
@@ -254,7 +249,7 @@ fn every_health(rng: &mut Rng) -> Vec<u8> {
     let mut frames = Vec::new();
     for code in 0..8 {
         let mut three = [
-            samples::correction_frame(rng, 1, 2),
+            Correction::sample(rng, 1, 2),
             samples::any_null_frame(rng, 6),
             samples::text_frame(rng, 16, 8),
         ];

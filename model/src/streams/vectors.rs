@@ -1,35 +1,15 @@
 //! One frame each, made from a record of a known type: the streams of the
-//! worked records, V, G, N, O or C and the type number, then a letter.
+//! worked records, V, G, N, O or C and the type number, then a letter. Those of a list
+//! layout are in its file.
 
 use super::Entry;
 
 pub(super) const STREAMS: &[Entry] = &[
-    ("V1a", |_| {
-        bytes("40 66 41 42 68 48 40 53 4C 42 76 7F 7C 43 7A 51 5F 4B 5B 55 54")
-    }),
-    ("V1b", |_| {
-        bytes("40 66 41 42 68 48 40 53 4C 41 5D 44 78 7F 7F 41 7E 43 70 7F 5A 41 40 58 60 47 7F 57 55 55 5D")
-    }),
-    ("V1c", |_| {
-        bytes("40 66 41 42 68 48 40 53 4C 45 47 62 47 40 40 72 7F 7F 67 47 55 40 40 58 40 60 7F 66 47 40 56 7F 7F 5F 55 4D")
-    }),
-    ("V9a", |_| {
-        bytes("40 66 51 42 68 6B 7F 6C 73 78 50 62 47 40 40 57 40 40 58 78 4F 40 40 58 40 45 40 59 78 7F 4C 7F 7F 5F 55 68 72 4F 7F 58 51 42 6B 59 55 5D")
-    }),
-    ("V9b", |_| {
-        bytes("40 66 51 42 68 6B 7F 6C 73 7E 47 40 43 7C 45 6E 60 74 74 4F 7C 7F 60 4E 48 60 4D 69 6A 6A 7D")
-    }),
     ("V3a", |_| {
         bytes("40 66 41 43 68 67 7F 6C 73 7E 47 60 6B 7D 6C 6C 57 71 75 5E 5D 69 4B 6F 7F 51 7F 7F 7F 7F 55")
     }),
     ("V3b", |_| {
         bytes("40 66 41 43 68 67 7F 6C 73 7E 47 41 40 40 40 55 40 42 40 40 49 40 40 70 7F 54 7F 7F 7F 7F 55")
-    }),
-    ("V5a", |_| {
-        bytes("40 66 61 42 68 4F 40 53 4C 44 61 73 6F 6E 7F 76")
-    }),
-    ("V5b", |_| {
-        bytes("40 66 61 42 68 4F 40 53 4C 42 76 7E 40 50 40 62 5F 7D 5F 63 59")
     }),
     ("V6a", |_| bytes("40 66 61 41 68 7F 7F 6C 73 7F 44")),
     ("N6a", |_| {
@@ -56,29 +36,11 @@ pub(super) const STREAMS: &[Entry] = &[
     ("V16c", |_| {
         bytes("40 66 49 40 68 66 7F 6C 73 7B 7B 7F 45 70 7E 72")
     }),
-    ("V31a", |_| {
-        bytes("40 66 79 43 68 72 7F 6C 73 7D 49 40 43 7C 45 6E 60 74 64 6A 6B")
-    }),
-    ("V31b", |_| {
-        bytes("40 66 79 43 68 72 7F 6C 73 7A 78 78 7B 7F 5F 5C 41 7C 4E 47 51 41 40 60 7F 7D 7E 77 77 7F 47 40 42 48 60 42")
-    }),
     ("V32a", |_| {
         bytes("40 66 45 40 68 6F 7F 6C 73 7E 47 48 42 50 50 52 69 40 73 5F 53 59 75 49 7E 42 4C 6B 48 6A 62")
     }),
     ("V32b", |_| {
         bytes("40 66 45 40 68 6F 7F 6C 73 7E 47 7F 7F 7F 7F 70 40 7C 7F 7F 64 7F 7F 67 7F 5F 40 40 40 60 57")
-    }),
-    ("V33a", |_| {
-        bytes("40 66 45 42 68 70 7F 6C 73 7B 5E 46 70 54 40 5A")
-    }),
-    ("V33b", |_| {
-        bytes("40 66 45 42 68 70 7F 6C 73 7D 49 41 7F 6F 7F 5D 68 43 60 44 63")
-    }),
-    ("V34c", |_| {
-        bytes("40 66 45 41 68 40 40 53 4C 41 5D 40 43 7C 45 4B 5F 4B 6B 60 5C 40 40 48 60 4B 40 56 55 55 6A")
-    }),
-    ("V34d", |_| {
-        bytes("40 66 45 41 68 40 40 53 4C 42 76 7F 7C 43 7A 51 5F 4B 5B 55 54")
     }),
     ("V36a", |_| {
         bytes("40 66 65 40 68 68 7F 6C 73 7D 6C 66 5B 6B 63 63 76 7B 7C 7F 49")
@@ -89,20 +51,8 @@ pub(super) const STREAMS: &[Entry] = &[
     ("V36c", |_| {
         bytes("40 66 65 40 68 68 7F 6C 73 7D 6C 55 77 50 7D 59 72 42 40 40 44")
     }),
-    ("G31a", |_| {
-        bytes("40 66 79 43 68 72 7F 6C 73 7D 49 40 42 40 40 6C 7F 7F 6F 6A 56")
-    }),
-    ("G31b", |_| {
-        bytes("40 66 79 43 68 72 7F 6C 73 7E 62 78 47 40 40 60 41 40 41 78 7F 7E 7F 67 5F 5D 43 54 55 55 7D")
-    }),
-    ("G31c", |_| {
-        bytes("40 66 79 43 68 72 7F 6C 73 7A 78 5D 78 7F 7F 4D 60 42 68 44 42 40 40 5A 40 5A 41 50 5E 40 77 7F 7B 5F 44 50")
-    }),
     ("G32a", |_| {
         bytes("40 66 45 40 68 6F 7F 6C 73 7E 47 7E 7F 7F 7F 65 40 78 7F 7F 79 7F 7F 77 7F 63 7F 7F 7F 7F 5A")
-    }),
-    ("G34a", |_| {
-        bytes("40 66 45 41 68 40 40 53 4C 42 76 5D 78 7F 7F 4D 60 42 58 55 47")
     }),
     ("G34b", |_| bytes("40 66 45 41 68 40 40 53 4C 40 7B")),
     ("G34c", |_| {
@@ -201,7 +151,7 @@ pub(super) const STREAMS: &[Entry] = &[
 ];
 
 /// The bytes that a text of two-digit numbers stands for.
-fn bytes(text: &str) -> Vec<u8> {
+pub(super) fn bytes(text: &str) -> Vec<u8> {
     let byte = |part| u8::from_str_radix(part, 16).unwrap_or(0);
     text.split(' ').map(byte).collect()
 }

@@ -1,7 +1,24 @@
 //! Numbers at the ends of their ranges, just past them, and far past them but equal
 //! to one inside modulo a power of two.
 
-use rtcm2_model::rng::Rng;
+use rtcm2_model::rng::{Draw, Rng};
+
+/// Draws the numbers of records that are right, each often at an end of its range.
+pub struct Ends<'a>(pub &'a mut Rng);
+
+impl Draw for Ends<'_> {
+    fn any(&mut self, most: i64) -> i64 {
+        inside(self.0, 0, most)
+    }
+
+    fn pulled(&mut self, least: i64, most: i64) -> i64 {
+        inside(self.0, least, most)
+    }
+
+    fn place(&mut self, bound: usize) -> usize {
+        self.0.place(bound)
+    }
+}
 
 /// One of these.
 pub fn one_of<T: Copy>(rng: &mut Rng, these: &[T]) -> T {

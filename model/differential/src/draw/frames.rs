@@ -1,27 +1,26 @@
 //! Calls that are given a frame: its journal record, right or damaged.
 
 use super::ends::{around, index, inside, longer, one_of};
-use super::{entries, numbers, parts, room, CODES, RECORDS};
+use super::{entries, kind_with_record, numbers, parts, room, CODES};
 use crate::call::{Call, Function};
 use crate::place::Place;
 use rtcm2_model::frame::Frame;
 use rtcm2_model::journal;
 use rtcm2_model::library::generals::GENERAL_SIZE;
-use rtcm2_model::library::lists::{CORRECTION_SIZE, HEALTH_SIZE};
 use rtcm2_model::library::observations::OBSERVATION_SIZE;
-use rtcm2_model::record::{correction, general, observation, text};
+use rtcm2_model::record::correction::Correction;
+use rtcm2_model::record::list::List;
+use rtcm2_model::record::{general, observation, text, Layout};
 use rtcm2_model::rng::Rng;
 use rtcm2_model::samples;
+use rtcm2_model::tables::LISTS;
 
 /// A call of any function that is given a frame, or of `rtcm2_open`.
 pub fn call(rng: &mut Rng) -> Call {
-    let functions = [
-        Function::Write,
-        Function::Recall,
-        Function::CountCorrections,
-        Function::CorrectionAt,
-        Function::CountHealths,
-        Function::HealthAt,
+    let mut functions = vec![Function::Write, Function::Recall];
+    functions
+        .extend((0..LISTS.len()).flat_map(|place| [Function::Count(place), Function::At(place)]));
+    functions.extend([
         Function::ReadPosition,
         Function::ReadNull,
         Function::ReadText,
@@ -33,7 +32,7 @@ pub fn call(rng: &mut Rng) -> Call {
         Function::ReadHead,
         Function::GeneralAt,
         Function::ReadGeneralNull,
-    ];
+    ]);
     match rng.below(40) {
         0 => {
             let line = room(rng, 1);
@@ -55,8 +54,7 @@ fn call_on(function: Function, rng: &mut Rng) -> Call {
             lent.push(room(rng, 5 * (usize::from(frame.n) + 2)));
             lent.extend(numbers(rng, 1));
         }
-        Function::CountCorrections
-        | Function::CountHealths
+        Function::Count(_)
         | Function::ReadNull
         | Function::CountObservations
         | Function::CountGenerals => lent = numbers(rng, 1),
@@ -72,13 +70,9 @@ fn call_on(function: Function, rng: &mut Rng) -> Call {
             given.push(index(rng, observation::count(&frame).unwrap_or(0)));
             lent.push(room(rng, OBSERVATION_SIZE));
         }
-        Function::CorrectionAt => {
-            given.push(index(rng, correction::count(&frame).unwrap_or(0)));
-            lent.push(room(rng, CORRECTION_SIZE));
-        }
-        Function::HealthAt => {
-            given.push(index(rng, frame.n.into()));
-            lent.push(room(rng, HEALTH_SIZE));
+        Function::At(place) => {
+            given.push(index(rng, (LISTS[place].near)(&frame)));
+            lent.push(room(rng, LISTS[place].size));
         }
         Function::ReadPosition => lent = numbers(rng, 3),
         Function::ReadText => {
@@ -104,7 +98,9 @@ fn frame_for(function: Function, rng: &mut Rng) -> Frame {
         _ => entries::frame(rng, kind),
     };
     match function {
-        Function::CorrectionAt if rng.bit() => any_issues(rng, &mut frame),
+        Function::At(place) if LISTS[place].layout == Layout::Correction && rng.bit() => {
+            any_issues(rng, &mut frame);
+        }
         Function::ReadEpoch | Function::ObservationAt if rng.below(4) == 0 => {
             any_time(rng, &mut frame);
         }
@@ -127,7 +123,7 @@ fn frame_for(function: Function, rng: &mut Rng) -> Frame {
 /// allowed.
 fn of_another_type(function: Function, rng: &mut Rng) -> Frame {
     let other = match rng.below(4) {
-        0 => one_of(rng, &RECORDS),
+        0 => kind_with_record(rng),
         _ => kind_of(function, rng),
     };
     let mut frame = entries::frame(rng, other);
@@ -138,7 +134,7 @@ fn of_another_type(function: Function, rng: &mut Rng) -> Frame {
 /// Gives each correction of a frame other last eight bits: tb at an end of its range
 /// or just past, with either change bit.
 fn any_issues(rng: &mut Rng, frame: &mut Frame) {
-    for i in 0..correction::count(frame).unwrap_or(0) {
+    for i in 0..Correction::count(frame).unwrap_or(0) {
         let tb = one_of(rng, &[0, 1, 118, 119, 120, 121, 126, 127]);
         let last = 128 * rng.below(2) as u32 + tb;
         let byte = 5 * i + 4;
@@ -196,8 +192,7 @@ pub fn edition(rng: &mut Rng) -> i64 {
 /// A type number that the function reads; any for a function that reads all.
 fn kind_of(function: Function, rng: &mut Rng) -> u16 {
     match function {
-        Function::CountCorrections | Function::CorrectionAt => one_of(rng, &[1, 9, 31, 34]),
-        Function::CountHealths | Function::HealthAt => one_of(rng, &[5, 33]),
+        Function::Count(place) | Function::At(place) => one_of(rng, LISTS[place].types),
         Function::ReadPosition => one_of(rng, &[3, 32]),
         Function::ReadNull => one_of(rng, &[6, 34]),
         Function::ReadText => one_of(rng, &[16, 36]),
@@ -213,7 +208,7 @@ fn kind_of(function: Function, rng: &mut Rng) -> u16 {
         },
         Function::CheckProfile => match rng.below(10) {
             0 => inside(rng, 1, 64) as u16,
-            1 => one_of(rng, &RECORDS),
+            1 => kind_with_record(rng),
             2..=5 => 9,
             _ => one_of(rng, &[3, 5, 6, 16]),
         },

@@ -1,14 +1,14 @@
 //! Heads and rows of frames that have a head, observations and general corrections,
 //! mostly right ones.
 
-use super::ends::{around, one_of};
-use super::entries;
+use super::ends::{around, one_of, Ends};
 use super::makers::{rows, spoil};
 use rtcm2_model::library::generals::{general_row, GENERAL_SIZE};
 use rtcm2_model::library::observations::observation_row;
 use rtcm2_model::record::general;
 use rtcm2_model::record::observation::{self, Edition};
 use rtcm2_model::rng::Rng;
+use rtcm2_model::samples;
 
 /// An epoch's three numbers, mostly right ones.
 pub fn epoch(rng: &mut Rng) -> [i64; 3] {
@@ -28,7 +28,10 @@ pub fn observations(rng: &mut Rng, kind: u16, edition: i64) -> Vec<u8> {
         (_, 0) => Edition::Gost,
         _ => Edition::Bd,
     };
-    let row = |rng: &mut Rng| observation_row(&entries::observation(rng, edition, kind)).to_vec();
+    let row = |rng: &mut Rng| {
+        let entry = samples::observation(&mut Ends(rng), edition, kind);
+        observation_row(&entry).to_vec()
+    };
     let mut bytes = rows(rng, observation::MOST, row);
     let highest = match kind {
         18 => &[2, 1, 1, 1, 32, 7, 31, 1, 255, 255, 255, 255],
@@ -66,7 +69,7 @@ pub fn generals(rng: &mut Rng, ionosphere: i64) -> Vec<u8> {
         0 => 1,
         _ => ionosphere as u8,
     };
-    let row = |rng: &mut Rng| general_row(&entries::general(rng, ionosphere)).to_vec();
+    let row = |rng: &mut Rng| general_row(&samples::general(&mut Ends(rng), ionosphere)).to_vec();
     let mut bytes = rows(rng, general::most(ionosphere), row);
     if let (0, true) = (rng.below(6), bytes.len() >= GENERAL_SIZE) {
         let at = GENERAL_SIZE * rng.place(bytes.len() / GENERAL_SIZE);

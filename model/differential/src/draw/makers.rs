@@ -1,23 +1,25 @@
 //! Calls that make a frame: headers of any numbers, entries and characters of any
 //! bytes, any count of them.
 
-use super::ends::{around, inside, longer, one_of, z_count};
-use super::{entries, frames, headed, numbers, parts, room, RECORDS};
+use super::ends::{around, inside, longer, one_of, z_count, Ends};
+use super::{entries, frames, headed, kind_with_record, numbers, parts, room};
 use crate::call::{Call, Function};
 use crate::place::Place;
 use rtcm2_model::journal::length_for;
 use rtcm2_model::library::generals::GENERAL_SIZE;
-use rtcm2_model::library::lists::{correction_row, health_row, CORRECTION_SIZE, HEALTH_SIZE};
 use rtcm2_model::library::observations::OBSERVATION_SIZE;
-use rtcm2_model::record::{correction, general, health, system, text, System};
+use rtcm2_model::record::correction::Correction;
+use rtcm2_model::record::list::List;
+use rtcm2_model::record::{general, system, text, System};
 use rtcm2_model::rng::Rng;
+use rtcm2_model::samples;
+use rtcm2_model::tables::LISTS;
 
 /// A call of a maker.
 pub fn call(rng: &mut Rng) -> Call {
-    let functions = [
-        Function::Keep,
-        Function::MakeCorrections,
-        Function::MakeHealths,
+    let mut functions = vec![Function::Keep];
+    functions.extend((0..LISTS.len()).map(Function::Make));
+    functions.extend([
         Function::MakePosition,
         Function::MakeNull,
         Function::MakeText,
@@ -25,7 +27,7 @@ pub fn call(rng: &mut Rng) -> Call {
         Function::CutCorrections,
         Function::MakeGenerals,
         Function::MakeGeneralNull,
-    ];
+    ]);
     let function = one_of(rng, &functions);
     let mut given = head(function, rng);
     let mut read = vec![];
@@ -66,7 +68,7 @@ pub fn call(rng: &mut Rng) -> Call {
         }
     }
     let need = match function {
-        Function::CutCorrections => cut_length(size / CORRECTION_SIZE),
+        Function::CutCorrections => cut_length(size / Correction::SIZE),
         Function::MakeGenerals => {
             let count = (size / GENERAL_SIZE).min(general::MOST);
             length_for(general::n_for(ionosphere, count).min(31))
@@ -81,10 +83,10 @@ pub fn call(rng: &mut Rng) -> Call {
 /// Bytes of the records that so many corrections are cut into.
 fn cut_length(count: usize) -> usize {
     let last = count % 3;
-    let whole = count.min(correction::MOST) / 3 * length_for(5);
+    let whole = count.min(Correction::MOST) / 3 * length_for(5);
     match last {
         0 => whole,
-        _ => whole + length_for(correction::n_for(last)),
+        _ => whole + length_for(Correction::n_for(last)),
     }
 }
 
@@ -92,8 +94,7 @@ fn cut_length(count: usize) -> usize {
 fn words(function: Function, size: usize) -> usize {
     let words = match function {
         Function::Keep => size / 3,
-        Function::MakeCorrections => correction::n_for(size / CORRECTION_SIZE),
-        Function::MakeHealths => size / HEALTH_SIZE,
+        Function::Make(place) => (LISTS[place].n_for)(size / LISTS[place].size),
         Function::MakeObservations => 2 * (size / OBSERVATION_SIZE) + 1,
         Function::MakePosition => 4,
         Function::MakeText => size.div_ceil(3),
@@ -117,8 +118,7 @@ fn head(function: Function, rng: &mut Rng) -> Vec<i64> {
 /// modulo 64, another that has a record, or any.
 fn kind(function: Function, rng: &mut Rng) -> i64 {
     let right = match function {
-        Function::MakeCorrections => one_of(rng, &[1, 9, 31, 34]),
-        Function::MakeHealths => one_of(rng, &[5, 33]),
+        Function::Make(place) => one_of(rng, LISTS[place].types).into(),
         Function::MakePosition => one_of(rng, &[3, 32]),
         Function::MakeNull => one_of(rng, &[6, 34]),
         Function::MakeText => one_of(rng, &[16, 36]),
@@ -137,7 +137,7 @@ fn kind(function: Function, rng: &mut Rng) -> i64 {
     match rng.below(24) {
         0 => one_of(rng, &[right - 1, right + 1]),
         1 => (right + 64 * (1 + rng.below(3) as i64)) % 256,
-        2 => one_of(rng, &RECORDS).into(),
+        2 => kind_with_record(rng).into(),
         3 => around(rng, 1, 64, 8),
         _ => right,
     }
@@ -169,32 +169,23 @@ fn bytes_for(function: Function, kind: u16, rng: &mut Rng) -> Vec<u8> {
             let count = 3 * count(rng, 31);
             (random_then_zeros(rng, count), &[255])
         }
-        Function::MakeCorrections => {
-            let system = drawn_for(kind, rng);
-            let row = |rng: &mut Rng| correction_row(&entries::correction(rng, system)).to_vec();
-            let highest = match system {
-                System::Gps => &HIGHEST_OF_CORRECTION,
-                System::Glonass => &HIGHEST_OF_GLONASS,
-            };
-            (rows(rng, correction::MOST, row), highest)
+        Function::Make(place) => {
+            let (list, system) = (&LISTS[place], drawn_for(kind, rng));
+            let row = |rng: &mut Rng| (list.row_drawn)(&mut Ends(rng), system);
+            (rows(rng, list.most, row), (list.highest)(system))
         }
         Function::CutCorrections => {
-            let count = count(rng, correction::MOST);
+            let count = count(rng, Correction::MOST);
             let system = drawn_for(kind, rng);
             let entries = entries::differing_corrections(rng, system);
-            let rows = entries.iter().flat_map(correction_row);
-            let all = rows.cycle().take(CORRECTION_SIZE * count);
-            (all.collect(), &HIGHEST_OF_CORRECTION)
-        }
-        Function::MakeHealths => {
-            let system = drawn_for(kind, rng);
-            let row = |rng: &mut Rng| health_row(&entries::satellite_health(rng, system)).to_vec();
-            (rows(rng, health::MOST, row), &HIGHEST_OF_HEALTH)
+            let rows: Vec<u8> = entries.iter().flat_map(Correction::row).collect();
+            let all = rows.into_iter().cycle().take(Correction::SIZE * count);
+            (all.collect(), Correction::highest(System::Gps))
         }
         _ => {
             let count = count(rng, text::MOST);
             let highest = if kind == 36 { &[191] } else { &[127] };
-            (entries::characters(rng, kind, count), highest)
+            (samples::characters(&mut Ends(rng), kind, count), highest)
         }
     };
     spoil(rng, &mut bytes, highest);
@@ -220,15 +211,6 @@ fn random_then_zeros(rng: &mut Rng, count: usize) -> Vec<u8> {
     }
     bytes
 }
-
-/// The highest value of each byte of a correction's row.
-const HIGHEST_OF_CORRECTION: [u8; CORRECTION_SIZE] = [1, 3, 32, 255, 255, 255, 255];
-
-/// The same for GLONASS: tb is the low seven bits of the last byte.
-const HIGHEST_OF_GLONASS: [u8; CORRECTION_SIZE] = [1, 3, 32, 255, 255, 255, 119];
-
-/// The highest value of each byte of a row of health.
-const HIGHEST_OF_HEALTH: [u8; HEALTH_SIZE] = [1, 32, 1, 7, 31, 1, 1, 1, 15, 3];
 
 /// Mostly a count from 1 to the most, else none, too many, or one that equals such a
 /// count modulo 2^8 or 2^16.
@@ -262,7 +244,7 @@ pub fn spoil(rng: &mut Rng, bytes: &mut Vec<u8>, highest: &[u8]) {
         }
         4 => return bytes.iter_mut().for_each(|byte| *byte = rng.byte()),
         5 => return bytes.truncate(size.saturating_sub(1 + rng.place(4))),
-        6 => size + rng.place(CORRECTION_SIZE + OBSERVATION_SIZE),
+        6 => size + rng.place(Correction::SIZE + OBSERVATION_SIZE),
         7 => longer(rng, size),
         _ => size,
     };

@@ -16,6 +16,7 @@ use crate::call::{Call, Function};
 use crate::place::Place;
 use ends::{around, inside, one_of};
 use readers::Readers;
+use rtcm2_model::record::types;
 use rtcm2_model::rng::Rng;
 use rtcm2_model::word::{apart, bits_of, encode};
 
@@ -133,8 +134,12 @@ fn window(rng: &mut Rng) -> u32 {
 /// Codes at the ends of what types 16 and 36 allow, and just past them.
 const CODES: [u8; 8] = [0, 1, 2, 127, 128, 191, 192, 255];
 
-/// The type numbers that have a record.
-const RECORDS: [u16; 15] = [1, 3, 5, 6, 9, 16, 18, 19, 31, 32, 33, 34, 36, 41, 42];
+/// A type number that has a record.
+fn kind_with_record(rng: &mut Rng) -> u16 {
+    let mut types = types();
+    types.dedup();
+    one_of(rng, &types)
+}
 
 /// A call of these parts.
 fn parts(function: Function, given: Vec<i64>, read: Vec<Place>, lent: Vec<Place>) -> Call {

@@ -1,14 +1,15 @@
 //! Calls on reports of a season, and journals of both forms for them, with few keys or
 //! very many.
 
-use super::ends::{index, inside, one_of};
+use super::ends::{index, inside, one_of, Ends};
 use super::reports::{family, key, report};
 use super::{entries, numbers, parts, room};
 use crate::call::{Call, Function};
 use crate::place::Place;
 use rtcm2_model::frame::{CarriedBits, Frame};
 use rtcm2_model::library::season::{REPORT_SIZE, ROW_SIZE};
-use rtcm2_model::record::correction::{self, Correction};
+use rtcm2_model::record::correction::Correction;
+use rtcm2_model::record::list::List;
 use rtcm2_model::record::{system, System};
 use rtcm2_model::rng::Rng;
 use rtcm2_model::{journal, samples, word_journal};
@@ -154,14 +155,14 @@ fn corrections(rng: &mut Rng, from: usize, count: usize) -> Frame {
         one_of(rng, &[1, 1, 1, 0])
     };
     let mut satellite = first.satellite - 1;
-    let entries = [(); correction::MOST].map(|()| {
+    let entries = [(); Correction::MOST].map(|()| {
         satellite = (satellite + step) % 32;
         Correction {
             satellite: satellite + 1,
-            ..entries::correction(rng, system(kind))
+            ..Correction::drawn(&mut Ends(rng), system(kind))
         }
     });
     let mut header = samples::header(rng, kind);
     header.station = first.station;
-    correction::make(&header, &entries, count).expect("a right record")
+    Correction::make(&header, &entries, count).expect("a right record")
 }
