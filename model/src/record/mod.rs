@@ -21,7 +21,7 @@ use crate::frame::{check_frame, check_header, Frame, Header, MOST_WORDS, Z_COUNT
 use crate::refusal::{refuse_if, Answer, Refusal};
 
 /// The layout of a frame's data words.
-#[derive(Clone, Copy, Debug, PartialEq, Eq, PartialOrd, Ord)]
+#[derive(Clone, Copy, Debug, PartialEq, Eq)]
 pub enum Layout {
     /// Types 1, 9 and 31, and type 34 with N from 2.
     Correction,
@@ -65,17 +65,11 @@ pub fn may_have(type_number: u16, wanted: Layout) -> bool {
     (0..=MOST_WORDS as u8).any(|n| layout(type_number, n) == wanted)
 }
 
-/// The type numbers that have a layout, in order; each as often as it has layouts.
+/// The type numbers that have a layout, whatever N is.
 pub fn types() -> Vec<u16> {
-    let of = |type_number| {
-        let layouts = (0..=MOST_WORDS as u8).map(move |n| layout(type_number, n));
-        let mut layouts: Vec<Layout> = layouts.collect();
-        layouts.sort();
-        layouts.dedup();
-        layouts.retain(|layout| *layout != Layout::Plain);
-        vec![type_number; layouts.len()]
-    };
-    (1..=64).flat_map(of).collect()
+    let all = 1..=64;
+    all.filter(|number| !may_have(*number, Layout::Plain))
+        .collect()
 }
 
 /// What is done with every list layout.

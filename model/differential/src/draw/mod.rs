@@ -136,9 +136,7 @@ const CODES: [u8; 8] = [0, 1, 2, 127, 128, 191, 192, 255];
 
 /// A type number that has a record.
 fn kind_with_record(rng: &mut Rng) -> u16 {
-    let mut types = types();
-    types.dedup();
-    one_of(rng, &types)
+    one_of(rng, &types())
 }
 
 /// A call of these parts.
