@@ -1,6 +1,6 @@
 -- The three health bits, the only ones in which the systems differ: GPS sends a code, GLONASS the data health in the first bit, then two
 -- reserved ones. Assumes nothing.
-use mathlib.Core.Bool.{_||_, cond}
+use mathlib.Core.Bool.{cond}
 use Prim.Native.Nat.{ℕ, _+_, _*_, _/_, _%_, _^_, _<_}
 use lib.Dec.{ltb}
 use Rattle.frame.specs.declared.System.{System}
@@ -13,9 +13,9 @@ unfoldable pub conditionOf : System → ℕ → Condition
 conditionOf Gps v = Code v
 conditionOf Glonass v = Data (v / 4) (v % 4)
 
--- and back: 8, which three bits can't hold, where a part is over its width or the condition is the other system's
+-- and back: 8 or more, which three bits can't hold, where a part is over its width or the condition is the other system's
 unfoldable pub dataNumber : ℕ → ℕ → ℕ
-dataNumber health reserved = cond (ltb 1 health || ltb 3 reserved) 8 (health * 4 + reserved)
+dataNumber health reserved = cond (ltb 3 reserved) 8 (health * 4 + reserved)
 
 unfoldable pub conditionNumber : System → Condition → ℕ
 conditionNumber Gps (Code v) = v

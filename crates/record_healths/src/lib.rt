@@ -44,13 +44,13 @@ pub enum HealthRead {
 }
 
 // THE LAYOUT: the widths of the ten fields; the least and the most of each; entries end with a word, and nothing is filled.
-const WIDTHS: [u32; 10] = [1, 5, 1, 3, 5, 1, 1, 1, 4, 2];
+pub const WIDTHS: [u32; 10] = [1, 5, 1, 3, 5, 1, 1, 1, 4, 2];
 
-const LEAST: [u32; 10] = [0, 1, 0, 0, 0, 0, 0, 0, 0, 0];
+pub const LEAST: [u32; 10] = [0, 1, 0, 0, 0, 0, 0, 0, 0, 0];
 
-const MOST: [u32; 10] = [1, 32, 1, 7, 31, 1, 1, 1, 15, 3];
+pub const MOST: [u32; 10] = [1, 32, 1, 7, 31, 1, 1, 1, 15, 3];
 
-const FILL: u32 = 0;
+pub const FILL: u32 = 0;
 
 // How many satellites a frame has: 5, 6, 7, 8.
 pub fn count_healths(frame: Frame) -> Count
@@ -69,13 +69,10 @@ pub fn condition_of(system: System, three: u8) -> Condition
     }
 }
 
-// The number of a data health and two reserved bits; 8 where they take more than three bits.
+// The number of a data health and two reserved bits; 8 or more where they take more than three bits.
 fn data_number(health: u8, reserved: u8) -> u32
     ensures { λ r. ⌜ r ≡ dataNumber health reserved ⌝ }
 {
-    if health > 1 {
-        return 8;
-    }
     if reserved > 3 {
         return 8;
     }

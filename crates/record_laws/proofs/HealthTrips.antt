@@ -1,7 +1,7 @@
 -- Types 5 and 33, once over the system: what the layout owes; what can be sent is made, made then read, read then made; what a frame holds is
 -- read. Assumes nothing.
 use mathlib.Core.Path.{_≡_, refl, ap, ap₂, _∙_}
-use mathlib.Core.Bool.{Bool, true, false, _||_, cond}
+use mathlib.Core.Bool.{Bool, true, false, cond}
 use mathlib.Core.List.{List}
 use Prim.Native.Nat.{ℕ, _+_, _*_, _/_, _%_, _^_, _≤_, _<_}
 use native.Mathlib.Omega.{arith}
@@ -16,7 +16,6 @@ use Rattle.frame.specs.declared.Layout.the-variants as layout
 use Rattle.frame.specs.declared.System.{System}
 use Rattle.frame.specs.declared.System.the-variants.{Gps, Glonass}
 use Rattle.frame.specs.Layout.{systemOf}
-use Rattle.frame.proofs.WidthLaws.{both-false}
 use Rattle.record_fields.specs.Coding.{frameWith}
 use Rattle.record_fields.specs.Tables.{row}
 use Rattle.record_fields.proofs.Faithful.{Faithful, Fine}
@@ -39,19 +38,17 @@ use Rattle.record_laws.proofs.SentLaws.{list-made, list-told, list-read
 
 -- ---- the three health bits: all that the systems don't share
 
-data-fine : (d r : ℕ) → d ≤ 1 → r ≤ 3 → dataNumber d r ≡ d * 4 + r
+data-fine : (d r : ℕ) → r ≤ 3 → dataNumber d r ≡ d * 4 + r
 unfolding dataNumber
-data-fine d r h l = rw (le-ltb 1 d h, le-ltb 3 r l)
+data-fine d r l = rw (le-ltb 3 r l)
 
 data-told : (d r : ℕ) → dataNumber d r ≤ 7 → (d < 2 ^ 1) × (r < 2 ^ 2)
 unfolding dataNumber
-data-told d r = go (ltb 1 d || ltb 3 r) refl
+data-told d r = go (ltb 3 r) refl
   where
-    go : (b : Bool) → ltb 1 d || ltb 3 r ≡ b → cond b 8 (d * 4 + r) ≤ 7 → (d < 2 ^ 1) × (r < 2 ^ 2)
+    go : (b : Bool) → ltb 3 r ≡ b → cond b 8 (d * 4 + r) ≤ 7 → (d < 2 ^ 1) × (r < 2 ^ 2)
     go true e h = absurd (omega arith)
-    go false e h =
-        let s = both-false (ltb 1 d) (ltb 3 r) e in
-        (omega (arith, ltb-false 1 d (s .0)), omega (arith, ltb-false 3 r (s .1)))
+    go false e h = (omega arith, omega (arith, ltb-false 3 r e))
 
 -- what is sent of a condition means it, and what is read has the number that was sent
 condition-back : (s : System) (c : Condition) → ConditionInRange s c → conditionOf s (conditionNumber s c) ≡ c
@@ -59,12 +56,12 @@ unfolding conditionOf conditionNumber
 condition-back Gps (Code v) h = refl
 condition-back Gps (Data d r) h = absurd h
 condition-back Glonass (Code v) h = absurd h
-condition-back Glonass (Data d r) h = rw (data-fine d r (omega (arith, h .0)) (omega (arith, h .1))) (ap₂ Data (omega (arith, h .1)) (omega (arith, h .1)))
+condition-back Glonass (Data d r) h = rw (data-fine d r (omega (arith, h .1))) (ap₂ Data (omega (arith, h .1)) (omega (arith, h .1)))
 
-number-back : (s : System) (v : ℕ) → v < 8 → conditionNumber s (conditionOf s v) ≡ v
+pub number-back : (s : System) (v : ℕ) → conditionNumber s (conditionOf s v) ≡ v
 unfolding conditionOf conditionNumber
-number-back Gps v h = refl
-number-back Glonass v h = rw (data-fine (v / 4) (v % 4) (omega arith) (omega arith)) (omega arith)
+number-back Gps v = refl
+number-back Glonass v = rw (data-fine (v / 4) (v % 4) (omega arith)) (omega arith)
 
 -- its range, both ways
 condition-fine : (s : System) (c : Condition) → ConditionInRange s c → conditionNumber s c ≤ 7
@@ -72,7 +69,7 @@ unfolding conditionNumber
 condition-fine Gps (Code v) h = omega (arith, h)
 condition-fine Gps (Data d r) h = absurd h
 condition-fine Glonass (Code v) h = absurd h
-condition-fine Glonass (Data d r) h = omega (arith, data-fine d r (omega (arith, h .0)) (omega (arith, h .1)), h .0, h .1)
+condition-fine Glonass (Data d r) h = omega (arith, data-fine d r (omega (arith, h .1)), h .0, h .1)
 
 condition-told : (s : System) (c : Condition) → conditionNumber s c ≤ 7 → ConditionInRange s c
 unfolding conditionNumber
@@ -146,7 +143,7 @@ module _ (s : System) where
 
   -- the numbers of what is read are those of its codes
   again : (vs : List ℕ) → Below widths vs → numbers s (meant s vs) ≡ row (numbersOf least widths (placesFrom 0 widths vs))
-  again vs at = rw (number-back s (getD vs 3 0) (at 3))
+  again vs at = rw (number-back s (getD vs 3 0))
 
   -- the codes of what can be sent mean it
   faithful : Faithful (coding s) (Fine (λ e. Unit {0}) (outOfRange s))

@@ -1,6 +1,7 @@
 pub mod AnswerLaws
 pub mod HeadLaws
 pub mod HealthLaws
+pub mod HealthRows
 pub mod KeepLaws
 pub mod LineStorable
 pub mod LineLaws

@@ -4,6 +4,7 @@ use mathlib.Core.Path.{_≡_, refl, ap, _∙_}
 use mathlib.Core.Bool.{Bool, true, false, not}
 use mathlib.Core.List.{List, [], _∷_, _++_}
 use Prim.Native.Nat.{ℕ, zero, suc, _+_, _*_, _/_, _%_, _≤_}
+use native.Mathlib.Nat.{mul-le-mul-right}
 use native.Mathlib.Omega.{arith}
 use lib.Dec.{ltb, eqb}
 use lib.IntN.{ℤ}
@@ -18,6 +19,7 @@ use Rattle.frame.specs.declared.Frame.{Frame}
 use Rattle.frame.specs.declared.Header.{Header}
 use Rattle.frame.specs.declared.Layout.{Layout}
 use Rattle.frame.specs.declared.Layout.the-variants as layout
+use Rattle.frame.specs.declared.System.{System}
 use Rattle.frame.specs.Layout.{systemOf}
 use Rattle.frame.proofs.FrameLaws.{framed-inside}
 use Rattle.frame.proofs.WidthLaws.{both-false}
@@ -30,26 +32,21 @@ use Rattle.record_fields.proofs.Round.{made-inside}
 use Rattle.record_stages.specs.Stages.{wrongCount, makeOrder, refusedMade, doneMade, saysMade}
 use Rattle.record_stages.specs.declared.Made.{Made}
 use Rattle.record_stages.proofs.ListCode.{told-some-few}
-use Rattle.record_corrections.specs.Corrections as correction
-use Rattle.record_healths.specs.Healths as health
 use Rattle.record_positions.specs.Positions as position
 use Rattle.record_positions.specs.declared.Position.{Position}
 use Rattle.record_nulls.specs.Nulls as null
 use Rattle.record_texts.specs.Texts as text
 use Rattle.rtcm2_rows.specs.Rows.{rowSize, countOf, entriesFrom}
-use Rattle.rtcm2_rows.specs.Corrections as correction-bytes
-use Rattle.rtcm2_rows.specs.Healths as health-bytes
 use Rattle.rtcm2.specs.Header.{headed, saysHeaded}
 use Rattle.rtcm2.specs.declared.header.Headed.the-variants as of
 use Rattle.rtcm2.specs.Answer.{andThen}
 use Rattle.rtcm2.specs.Frames.{keptTo, wordsSaid, keepSaid}
-use Rattle.rtcm2.specs.Corrections as corrections
-use Rattle.rtcm2.specs.Healths as healths
+use Rattle.rtcm2.specs.Rows.{madeOf}
 use Rattle.rtcm2.specs.Positions as positions
 use Rattle.rtcm2.specs.Nulls as nulls
 use Rattle.rtcm2.specs.Texts as texts
 use Rattle.rtcm2.specs.Orders.{shortFor, headerWith, madeOrder, listChecks, textChecks}
-use Rattle.rtcm2.specs.Orders.{correctionsFrame, correctionsOrder, healthsFrame, healthsOrder, positionFrame, positionMadeOrder}
+use Rattle.rtcm2.specs.Orders.{listFrame, listOrder, positionFrame, positionMadeOrder}
 use Rattle.rtcm2.specs.Orders.{nullFrame, nullMadeOrder, textFrame, textMadeOrder, wordsFrame, keptOrder}
 use Rattle.rtcm2.proofs.Orders.{after-order, pass-five}
 
@@ -112,31 +109,27 @@ module _ (kind station z sequence code : ℕ) (buffer : List ℕ) where
   few : {A : Type 0} (es : List A) (c most : ℕ) → wrongCount most c ≡ false → length (take c es) ≤ most
   few es c most e = omega (arith, told-some-few c most e .1, length-take c es)
 
-  -- ---- the two lists: 5, 6, 7, 12, 10, 13
+  -- ---- a list whose entries come as rows of bytes: 5, 6, 7, 12, 10, 13
 
-  module _ (bs : List ℕ) where
-    pub corrections-made : keptTo (corrections.madeSaid (headed kind station z sequence code) bs) buffer
-        ≡ inOrder (correctionsOrder kind station z sequence code bs buffer) refuses
-        (answers (3 * correctionsFrame kind station z sequence code bs .n + 9))
-    unfolding correction.makeCorrections
-    corrections-made =
-        let s = systemOf kind in
-        let es = entriesFrom (correction-bytes.row s) 18 bs in
-        let c = countOf (rowSize (correction-bytes.row s)) (length bs) in
-        entries-order layout.Correction (correction.coding s) correction.fill (take c es) (listChecks 18 (correction.outOfRange s) es c)
-        (λ h. correction.makeCorrections h (entriesFrom (correction-bytes.row (systemOf (h .kind))) 18 bs) c) refl
-        (λ none. omega (arith, few es c 18 (none .0)))
+  module _ {A : Type 0} (asked : Layout) (row k : System → Coding A) (pattern most : ℕ) (out : System → A → Bool) (make : Header → List A → ℕ → Made)
+      (room : most * span (k (systemOf kind) .widths) ≤ 744) (bs : List ℕ) where
+    abbrev s : System
+    s = systemOf kind
 
-    pub healths-made : keptTo (healths.madeSaid (headed kind station z sequence code) bs) buffer
-        ≡ inOrder (healthsOrder kind station z sequence code bs buffer) refuses (answers (3 * healthsFrame kind station z sequence code bs .n + 9))
-    unfolding health.makeHealths
-    healths-made =
-        let s = systemOf kind in
-        let es = entriesFrom (health-bytes.row s) 31 bs in
-        let c = countOf (rowSize (health-bytes.row s)) (length bs) in
-        entries-order layout.Health (health.coding s) health.fill (take c es) (listChecks 31 (health.outOfRange s) es c)
-        (λ h. health.makeHealths h (entriesFrom (health-bytes.row (systemOf (h .kind))) 31 bs) c) refl
-        (λ none. omega (arith, few es c 31 (none .0)))
+    abbrev es : List A
+    es = entriesFrom (row s) most bs
+
+    abbrev c : ℕ
+    c = countOf (rowSize (row s)) (length bs)
+
+    pub list-made : make H es c ≡ inOrder (makeOrder asked H (listChecks most (out s) es c)) refusedMade (doneMade (frameWith pattern (k s) H (take c es)))
+        → keptTo (madeOf row make most (headed kind station z sequence code) bs) buffer
+        ≡ inOrder (listOrder kind station z sequence code asked (row s) (k s) pattern most (out s) bs buffer) refuses
+        (answers (3 * listFrame kind station z sequence code asked (row s) (k s) pattern most (out s) bs .n + 9))
+    list-made is =
+        entries-order asked (k s) pattern (take c es) (listChecks most (out s) es c)
+        (λ h. make h (entriesFrom (row (systemOf (h .kind))) most bs) (countOf (rowSize (row (systemOf (h .kind)))) (length bs))) is
+        (λ none. omega (arith, room, mul-le-mul-right (span (k s .widths)) (few es c most (none .0))))
 
   -- ---- a position: 5, 6, 7, 10, 13
 

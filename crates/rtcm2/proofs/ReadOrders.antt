@@ -13,35 +13,27 @@ use Rattle.frame.specs.Widths.{anyOf, outside}
 use Rattle.frame.specs.declared.Frame.{Frame}
 use Rattle.frame.specs.declared.Layout.{Layout}
 use Rattle.frame.specs.declared.Layout.the-variants as layout
-use Rattle.frame.specs.declared.System.the-variants.{Gps}
 use Rattle.journal.specs.Forms.{nByte, wordsAfter}
 use Rattle.journal.specs.Journal.{refusedRecall, recalled, recallOrder, saysRecalled}
 use Rattle.journal.proofs.RoundTrip.{reread}
 use Rattle.record_fields.specs.Coding.{Coding}
-use Rattle.record_stages.specs.Stages.{entriesHeld, misfit, wrongSize, readOrder, saysCount}
+use Rattle.record_stages.specs.Stages.{entriesHeld, misfit, wrongSize, readOrder, countIn, saysCount}
+use Rattle.record_stages.specs.declared.Count.{Count}
 use Rattle.record_stages.specs.declared.Count.the-variants as count
-use Rattle.record_corrections.specs.Corrections as correction
-use Rattle.record_healths.specs.Healths as health
 use Rattle.record_positions.specs.Positions as position
 use Rattle.record_nulls.specs.Nulls as null
 use Rattle.record_texts.specs.Texts as text
-use Rattle.record_corrections.specs.declared.CorrectionRead.the-variants as correction-read
-use Rattle.record_healths.specs.declared.HealthRead.the-variants as health-read
 use Rattle.record_positions.specs.declared.PositionRead.the-variants as position-read
 use Rattle.record_nulls.specs.declared.NullRead.the-variants as null-read
 use Rattle.rtcm2_rows.specs.Rows.{rowSize, putOrder, saysPut}
 use Rattle.rtcm2_rows.specs.declared.row.Put.the-variants.{Done, Refused}
-use Rattle.rtcm2_rows.specs.Corrections as correction-bytes
-use Rattle.rtcm2_rows.specs.Healths as health-bytes
 use Rattle.rtcm2.specs.Answer.{andThen}
 use Rattle.rtcm2.specs.Frames.{recallSaid, frameSaid}
 use Rattle.rtcm2.specs.Rows.{rowTo}
-use Rattle.rtcm2.specs.Corrections as corrections
-use Rattle.rtcm2.specs.Healths as healths
 use Rattle.rtcm2.specs.Positions.{positionSaid}
 use Rattle.rtcm2.specs.Nulls.{nullSaid}
 use Rattle.rtcm2.specs.Texts.{textSaid}
-use Rattle.rtcm2.specs.Orders.{frameFrom, systemFrom, recordChecks, countOrder, entryChecks, entryOrder, correctionIn, correctionChecks, healthIn}
+use Rattle.rtcm2.specs.Orders.{frameFrom, systemFrom, recordChecks, countOrder, entryChecks, entryOrder}
 use Rattle.rtcm2.specs.Orders.{positionOrder, nullOrder, textReadOrder}
 use Rattle.rtcm2.proofs.Orders.{pass-five}
 
@@ -100,19 +92,10 @@ module _ (bs : List ℕ) (fits : AreBytes bs) where
   F = frameFrom bs
 
   -- COUNT: 14, 15, 16, 15, 16, 6, 7, 8
-  pub corrections-counted : corrections.countSaid (frameSaid bs)
-      ≡ inOrder (countOrder layout.Correction 40 bs) refuses (answers (entriesHeld 40 (frameFrom bs .n)))
-  unfolding correction.countCorrections
-  corrections-counted =
-      record-order bs fits layout.Correction (misfit 40 (F .n)) [] saysCount count.Refused (λ n. refl) correction.countCorrections
-      (count.Of (entriesHeld 40 (F .n))) refl refl
-
-  pub healths-counted : healths.countSaid (frameSaid bs)
-      ≡ inOrder (countOrder layout.Health 24 bs) refuses (answers (entriesHeld 24 (frameFrom bs .n)))
-  unfolding health.countHealths
-  healths-counted =
-      record-order bs fits layout.Health (misfit 24 (F .n)) [] saysCount count.Refused (λ n. refl) health.countHealths
-      (count.Of (entriesHeld 24 (F .n))) refl refl
+  pub list-counted : (asked : Layout) (width : ℕ) (counts : Frame → Count) → counts F ≡ countIn asked width F
+      → andThen (frameSaid bs) (λ f. saysCount (counts f)) ≡ inOrder (countOrder asked width bs) refuses (answers (entriesHeld width (F .n)))
+  list-counted asked width counts is =
+      record-order bs fits asked (misfit width (F .n)) [] saysCount count.Refused (λ n. refl) counts (count.Of (entriesHeld width (F .n))) refl is
 
   -- POSITION: 14, 15, 16, 15, 16, 6, 7, 8, 10
   pub position-order : positionSaid (frameSaid bs) ≡ inOrder (positionOrder bs) refuses (answers (position.positionIn (frameFrom bs)))
@@ -136,31 +119,13 @@ module _ (bs : List ℕ) (fits : AreBytes bs) where
       ((anyOf (text.forbidden (systemFrom bs)) (text.textIn F), 11) ∷ (ltb (length buffer) (text.lengthIn F), 13) ∷ []) saysCount count.Refused (λ n. refl)
       (λ f. text.readText f buffer) (count.Of (text.lengthIn F)) refl refl
 
-  -- ENTRY: 14, 15, 16, 15, 16, 6, 7, 8, 9, a correction's 10, and 13 for its row
-  module _ (i : ℕ) where
-    pub correction-entry : corrections.entrySaid (frameSaid bs) i
-        ≡ inOrder (recallOrder bs ++ entryChecks layout.Correction 40 (frameFrom bs) i (correctionChecks bs i)) refuses (answers (correctionIn bs i))
-    unfolding correction.correctionAt
-    correction-entry =
-        record-order bs fits layout.Correction (misfit 40 (F .n)) ((leb (entriesHeld 40 (F .n)) i, 9) ∷ correctionChecks bs i)
-        correction.saysCorrectionRead correction-read.Refused (λ n. refl) (λ f. correction.correctionAt f i)
-        (correction-read.Entry (correctionIn bs i)) refl refl
-
-    pub health-entry : healths.entrySaid (frameSaid bs) i
-        ≡ inOrder (recallOrder bs ++ entryChecks layout.Health 24 (frameFrom bs) i []) refuses (answers (healthIn bs i))
-    unfolding health.healthAt
-    health-entry =
-        record-order bs fits layout.Health (misfit 24 (F .n)) ((leb (entriesHeld 24 (F .n)) i, 9) ∷ []) health.saysHealthRead
-        health-read.Refused (λ n. refl) (λ f. health.healthAt f i) (health-read.Entry (healthIn bs i)) refl refl
-
-    pub correction-row-order : (lent : List ℕ) → rowTo (correction-bytes.row Gps) (corrections.entrySaid (frameSaid bs) i) lent
-        ≡ inOrder (entryOrder layout.Correction 40 (correction-bytes.row Gps) bs i (correctionChecks bs i) lent) refuses (answers tt)
-    correction-row-order lent =
-        ap (λ s. rowTo (correction-bytes.row Gps) s lent) correction-entry
-        ∙ row-order (correction-bytes.row Gps) (recallOrder bs ++ entryChecks layout.Correction 40 F i (correctionChecks bs i)) (correctionIn bs i) lent
-
-    pub health-row-order : (lent : List ℕ) → rowTo (health-bytes.row Gps) (healths.entrySaid (frameSaid bs) i) lent
-        ≡ inOrder (entryOrder layout.Health 24 (health-bytes.row Gps) bs i [] lent) refuses (answers tt)
-    health-row-order lent =
-        ap (λ s. rowTo (health-bytes.row Gps) s lent) health-entry
-        ∙ row-order (health-bytes.row Gps) (recallOrder bs ++ entryChecks layout.Health 24 F i []) (healthIn bs i) lent
+  -- ENTRY: 14, 15, 16, 15, 16, 6, 7, 8, 9, its own, and 13 for its row
+  module _ {A B : Type 0} (asked : Layout) (width i : ℕ) (more : List Check) (row : Coding A) (says : B → Says A) (refuse : ℕ → B)
+      (refusal : (n : ℕ) → says (refuse n) ≡ refuses n) (read : Frame → B) (answer : B) {e : A} (ready : says answer ≡ answers e)
+      (is : read F ≡ inOrder (readOrder asked F (misfit width (F .n)) ((leb (entriesHeld width (F .n)) i, 9) ∷ more)) refuse answer) where
+    pub list-entry : (lent : List ℕ)
+        → rowTo row (andThen (frameSaid bs) (λ f. says (read f))) lent ≡ inOrder (entryOrder asked width row bs i more lent) refuses (answers tt)
+    list-entry lent =
+        ap (λ s. rowTo row s lent)
+        (record-order bs fits asked (misfit width (F .n)) ((leb (entriesHeld width (F .n)) i, 9) ∷ more) says refuse refusal read answer ready is)
+        ∙ row-order row (recallOrder bs ++ entryChecks asked width F i more) e lent

@@ -1,15 +1,62 @@
 -- Constellation health, types 5 and 33: what counting, reading and making say of the frame or the header that there was. Assumes nothing.
-use mathlib.Core.List.{List}
-use Prim.Native.Nat.{ℕ}
-use Rattle.answer.specs.Order.{Says}
+use mathlib.Core.List.{List, [], _∷_}
+use Prim.Native.Nat.{ℕ, _+_, _*_, _^_, _<_}
+use lib.ListN.{getD}
+use Rattle.answer.specs.Order.{Says, Check}
 use Rattle.frame.specs.declared.Frame.{Frame}
 use Rattle.frame.specs.declared.Header.{Header}
+use Rattle.frame.specs.declared.System.{System}
+use Rattle.frame.specs.declared.System.the-variants.{Gps, Glonass}
 use Rattle.record_stages.specs.Stages.{saysCount}
+use Rattle.frame.specs.declared.Layout.the-variants as layout
+use Rattle.frame.specs.Layout.{systemOf}
+use Rattle.record_healths.specs.Healths as health
 use Rattle.record_healths.specs.Healths.{countHealths, healthAt, makeHealths, saysHealthRead}
 use Rattle.record_healths.specs.declared.SatelliteHealth.{SatelliteHealth}
-use Rattle.rtcm2_rows.specs.Healths.{row}
+use Rattle.record_healths.specs.declared.Condition.{Condition}
+use Rattle.record_healths.specs.declared.Condition.the-variants.{Code, Data}
+use Rattle.record_healths.specs.Conditions.{conditionOf}
+use Rattle.record_fields.specs.Coding.{Coding}
+use Rattle.record_fields.specs.Tables as fields
+use Rattle.rtcm2_rows.specs.Tables.{rowBy}
 use Rattle.rtcm2.specs.Answer.{andThen}
 use Rattle.rtcm2.specs.Rows.{madeOf}
+use Rattle.rtcm2.specs.Orders.{listOrder}
+
+-- ---- A ROW: ten numbers of a byte each, in the order of the layout, the three health bits as they are sent
+
+abbrev pub sizes : List ℕ
+sizes = fields.row (1 ∷ 1 ∷ 1 ∷ 1 ∷ 1 ∷ 1 ∷ 1 ∷ 1 ∷ 1 ∷ 1 ∷ [])
+
+abbrev pub meant : System → List ℕ → SatelliteHealth
+meant s vs = record {
+  reserved = getD vs 0 0;
+  satellite = getD vs 1 0;
+  link = getD vs 2 0;
+  health = conditionOf s (getD vs 3 0);
+  cn0 = getD vs 4 0;
+  enable = getD vs 5 0;
+  new_data = getD vs 6 0;
+  loss = getD vs 7 0;
+  time = getD vs 8 0;
+  spare = getD vs 9 0;
+}
+
+-- the health bits, as a number
+unfoldable pub healthBits : Condition → ℕ
+healthBits (Code v) = v
+healthBits (Data health reserved) = health * 4 + reserved
+
+abbrev pub numbers : SatelliteHealth → List ℕ
+numbers e =
+    fields.row
+    (e .reserved ∷ e .satellite ∷ e .link ∷ healthBits (e .health) ∷ e .cn0 ∷ e .enable ∷ e .new_data ∷ e .loss ∷ e .time ∷ e .spare ∷ [])
+
+-- what is put does not look at the system: `row Gps` stands for both there
+abbrev pub row : System → Coding SatelliteHealth
+row s = rowBy sizes (meant s) numbers
+
+-- ---- what the calls say
 
 -- COUNT: the refusal that there was, or 6, 7, 8
 abbrev pub countSaid : Says Frame → Says ℕ
@@ -22,3 +69,16 @@ entrySaid said i = andThen said (λ f. saysHealthRead (healthAt f i))
 -- MAKING: the refusal that there was, or 5, 6, 7, 12, 10
 abbrev pub madeSaid : Says Header → List ℕ → Says Frame
 madeSaid = madeOf row makeHealths 31
+
+-- in its order: 5, 6, 7, 12, 10, 13
+abbrev pub healthsOrder : (kind station z sequence code : ℕ) → List ℕ → List ℕ → List Check
+healthsOrder kind station z sequence code =
+    let s = systemOf kind in listOrder kind station z sequence code layout.Health (row s) (health.coding s) health.fill 31 (health.outOfRange s)
+
+-- ---- entries whose rows say them: every number a byte, and a health of the system
+
+abbrev pub Byte : System → Condition → Type 0
+Byte Gps (Code v) = v < 2 ^ 8
+Byte Gps (Data health reserved) = ⊥
+Byte Glonass (Code v) = ⊥
+Byte Glonass (Data health reserved) = (health < 2 ^ 6) × (reserved < 2 ^ 2)

@@ -22,10 +22,8 @@ use Rattle.journal.specs.Forms.{wordsAfter}
 use Rattle.journal.specs.Journal.{recallOrder}
 use Rattle.journal.specs.Words.{pairNumbered, carriedIn, dataIn, recallWordsOrder}
 use Rattle.writer.specs.Sending.{lineLength}
-use Rattle.record_fields.specs.Coding.{Coding, frameBits, entryIn, frameWith, frameAfter}
+use Rattle.record_fields.specs.Coding.{Coding, frameWith, frameAfter}
 use Rattle.record_stages.specs.Stages.{wrongCount, otherLayout, heldAfter, misfitAfter, entriesHeld, misfit, wrongSize, makeOrder}
-use Rattle.record_corrections.specs.Corrections as correction
-use Rattle.record_healths.specs.Healths as health
 use Rattle.record_positions.specs.Positions as position
 use Rattle.record_nulls.specs.Nulls as null
 use Rattle.record_texts.specs.Texts as text
@@ -33,15 +31,12 @@ use Rattle.record_observations.specs.Observations as observation
 use Rattle.record_observations.specs.Editions.{quantityOf}
 use Rattle.record_observations.specs.declared.Epoch.{Epoch}
 use Rattle.record_observations.specs.declared.Observation.{Observation}
-use Rattle.record_corrections.specs.declared.Correction.{Correction}
-use Rattle.record_healths.specs.declared.SatelliteHealth.{SatelliteHealth}
 use Rattle.record_positions.specs.declared.Position.{Position}
 use Rattle.profile.specs.Profile.{typeOrder}
 use Rattle.profile.specs.Cutting.{cutFrames, cutOrder}
 use Rattle.rtcm2_state.specs.State.{stateSize, holdsState, stateIn}
 use Rattle.rtcm2_rows.specs.Rows.{rowSize, countOf, entriesFrom}
 use Rattle.rtcm2_rows.specs.Corrections as correction-bytes
-use Rattle.rtcm2_rows.specs.Healths as health-bytes
 use Rattle.rtcm2.specs.Send.{pairOf}
 use Rattle.rtcm2_rows.specs.Observations as observation-bytes
 use Rattle.rtcm2.specs.Observations.{editionNamed}
@@ -111,17 +106,6 @@ entryChecks asked width f i more = recordChecks asked f (misfit width (f .n)) ((
 abbrev pub entryOrder : {A : Type 0} → Layout → ℕ → Coding A → List ℕ → ℕ → List Check → List ℕ → List Check
 entryOrder asked width row bs i more lent =
     (recallOrder bs ++ entryChecks asked width (frameFrom bs) i more) ++ ((ltb (length lent) (rowSize row), 13) ∷ [])
-
--- the correction at i, and its own: 10
-abbrev pub correctionIn : List ℕ → ℕ → Correction
-correctionIn bs i = entryIn (correction.coding (systemFrom bs)) i (frameBits (frameFrom bs))
-
-abbrev pub correctionChecks : List ℕ → ℕ → List Check
-correctionChecks bs i = (correction.outOfRange (systemFrom bs) (correctionIn bs i), 10) ∷ []
-
--- the health at i, which has none of its own
-abbrev pub healthIn : List ℕ → ℕ → SatelliteHealth
-healthIn bs i = entryIn (health.coding (systemFrom bs)) i (frameBits (frameFrom bs))
 
 -- observations have a head of 24 bits, and 48 a satellite: 6, 7, 8, then their own
 abbrev pub observationChecks : Frame → List Check → List Check
@@ -196,28 +180,13 @@ module _ (kind station z sequence code : ℕ) where
   abbrev pub madeOrder : Layout → List Check → Frame → List ℕ → List Check
   madeOrder asked more f buffer = (ltb 7 code, 5) ∷ makeOrder asked H (more ++ (shortFor f buffer ∷ []))
 
-  -- corrections: 12, 10
-  abbrev pub correctionsFrame : List ℕ → Frame
-  correctionsFrame bs =
-      frameWith correction.fill (correction.coding S) H
-      (take (countOf (rowSize (correction-bytes.row S)) (length bs)) (entriesFrom (correction-bytes.row S) 18 bs))
+  -- a list whose entries come as rows of bytes: 12, 10
+  module _ {A : Type 0} (asked : Layout) (row k : Coding A) (pattern most : ℕ) (out : A → Bool) (bs : List ℕ) where
+    abbrev pub listFrame : Frame
+    listFrame = frameWith pattern k H (take (countOf (rowSize row) (length bs)) (entriesFrom row most bs))
 
-  abbrev pub correctionsOrder : List ℕ → List ℕ → List Check
-  correctionsOrder bs buffer =
-      madeOrder layout.Correction
-      (listChecks 18 (correction.outOfRange S) (entriesFrom (correction-bytes.row S) 18 bs) (countOf (rowSize (correction-bytes.row S)) (length bs)))
-      (correctionsFrame bs) buffer
-
-  -- constellation health: 12, 10
-  abbrev pub healthsFrame : List ℕ → Frame
-  healthsFrame bs =
-      frameWith health.fill (health.coding S) H (take (countOf (rowSize (health-bytes.row S)) (length bs)) (entriesFrom (health-bytes.row S) 31 bs))
-
-  abbrev pub healthsOrder : List ℕ → List ℕ → List Check
-  healthsOrder bs buffer =
-      madeOrder layout.Health
-      (listChecks 31 (health.outOfRange S) (entriesFrom (health-bytes.row S) 31 bs) (countOf (rowSize (health-bytes.row S)) (length bs)))
-      (healthsFrame bs) buffer
+    abbrev pub listOrder : List ℕ → List Check
+    listOrder buffer = madeOrder asked (listChecks most out (entriesFrom row most bs) (countOf (rowSize row) (length bs))) listFrame buffer
 
   -- observations, in an edition: 12, 10
   module _ (e : ℕ) (a : Epoch) (bs : List ℕ) where

@@ -5,17 +5,24 @@ ghost use Rattle.frame.specs.Layout.{systemOf};
 ghost use Rattle.frame.specs.declared.System.the-variants.{Gps};
 ghost use Rattle.record_healths.specs.Healths.{makeHealths, saysHealthRead};
 ghost use Rattle.rtcm2_rows.specs.Rows.{rowSize, countOf, entriesFrom};
-ghost use Rattle.rtcm2_rows.specs.Healths.{row};
 ghost use Rattle.rtcm2.specs.Answer.{numberOf, left};
 ghost use Rattle.rtcm2.specs.Header.{headed};
 ghost use Rattle.rtcm2.specs.Frames.{frameSaid, keptTo, heldTo};
 ghost use Rattle.rtcm2.specs.Rows.{rowTo, rowHeld};
-ghost use Rattle.rtcm2.specs.Healths.{countSaid, entrySaid, madeSaid};
+ghost use Rattle.rtcm2.specs.Healths.{healthBits, numbers, row, countSaid, entrySaid, madeSaid};
 use crate::header::Headed;
 use frame::Header;
+use frame::Layout;
 use journal::Found;
+use record_healths::Condition;
 use record_healths::HealthRead;
+use record_healths::SatelliteHealth;
 use record_stages::Made;
+
+// THE ROW: how many bytes it has, and each of its numbers.
+const SIZE: usize = 10;
+
+const SIZES: [u8; 12] = [1, 1, 1, 1, 1, 1, 1, 1, 1, 1, 0, 0];
 
 // How many satellites a frame has. Order 14, 15, 16, 15, 16, then 6, 7, 8.
 #[no_mangle]
@@ -34,6 +41,38 @@ pub extern "C" fn rtcm2_count_healths(frame: &[u8], count: &mut usize) -> u8
     }
 }
 
+// The health bits, as they are sent.
+fn bits_of(condition: Condition) -> u32
+    ensures { λ r. ⌜ r ≡ healthBits condition ⌝ }
+{
+    match condition {
+        Condition::Code(code) => code as u32,
+        Condition::Data(health, reserved) => health as u32 * 4 + reserved as u32,
+    }
+}
+
+// The numbers of a row.
+fn row_of(e: SatelliteHealth) -> [u32; 12]
+    ensures { λ r. ⌜ r ≡ numbers e ⌝ }
+{
+    let health = e.health;
+    let bits = bits_of(health);
+    [
+        e.reserved as u32,
+        e.satellite as u32,
+        e.link as u32,
+        bits,
+        e.cn0 as u32,
+        e.enable as u32,
+        e.new_data as u32,
+        e.loss as u32,
+        e.time as u32,
+        e.spare as u32,
+        0,
+        0,
+    ]
+}
+
 // A satellite's health as a row at the start of the bytes: the refusal that there was, or 13.
 fn entry_to(read: HealthRead, bytes: &mut [u8]) -> u8
     ensures { λ r. ⌜ r ≡ numberOf (rowTo (row Gps) (saysHealthRead read) (now (bytes .entry))) ⌝ }
@@ -41,7 +80,8 @@ fn entry_to(read: HealthRead, bytes: &mut [u8]) -> u8
 {
     match read {
         HealthRead::Entry(entry) => {
-            crate::rows::number_of(rtcm2_rows::health::put_health(entry, bytes))
+            let numbers = row_of(entry);
+            crate::rows::number_of(rtcm2_rows::table::put_numbers(numbers, SIZES, bytes))
         }
         HealthRead::Refused(number) => number,
     }
@@ -69,10 +109,23 @@ fn made_of(header: Header, healths: &[u8]) -> Made
     ensures { λ r. ⌜ r ≡ makeHealths header (entriesFrom (row (systemOf (header .kind))) 31 (now (healths .entry)))
         (countOf (rowSize (row Gps)) (length (now (healths .entry)))) ⌝ }
 {
-    let count = rtcm2_rows::row::count_of(rtcm2_rows::health::SIZE, healths.len());
-    let system = frame::system_of(header.kind);
-    let entries = rtcm2_rows::health::healths_in(system, healths);
-    record_healths::make_healths(header, entries, count)
+    let count = rtcm2_rows::row::count_of(SIZE, healths.len());
+    let rows = rtcm2_rows::table::rows_in(
+        31,
+        SIZES,
+        &record_healths::WIDTHS,
+        &record_healths::LEAST,
+        &record_healths::MOST,
+        healths,
+    );
+    record_stages::make_frame(
+        Layout::Health,
+        31,
+        record_healths::FILL,
+        header,
+        count,
+        rows,
+    )
 }
 
 // Makes a frame of satellites' health. Order 5, 6, 7, 12, 10, 13.

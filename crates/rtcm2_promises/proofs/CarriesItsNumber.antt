@@ -3,11 +3,15 @@ use mathlib.Core.Path.{_≡_, refl}
 use mathlib.Core.Bool.{not}
 use mathlib.Core.List.{List, [], _∷_, _++_}
 use Prim.Native.Nat.{ℕ}
+use native.Mathlib.Omega.{arith}
 use lib.Dec.{ltb}
 use Rattle.answer.specs.Order.{refuses, answers, inOrder}
 use Rattle.answer.proofs.OrderLaws.{says-order}
 use Rattle.bits.specs.Bits.{isNonzero}
 use Rattle.line.specs.Line.{isData}
+use Rattle.frame.specs.Layout.{systemOf}
+use Rattle.frame.specs.declared.Frame.{Frame}
+use Rattle.frame.specs.declared.Header.{Header}
 use Rattle.frame.specs.declared.Layout.the-variants as layout
 use Rattle.frame.specs.declared.System.the-variants.{Gps}
 use Rattle.reader.specs.Reading.{busy, steppedBy, fedBy}
@@ -22,8 +26,17 @@ use Rattle.record_values.proofs.GeneralLaws.{general-prc-says, delay-says, use-
 use Rattle.reader.specs.declared.Candidate.{Candidate}
 use Rattle.rtcm2_state.specs.State.{stateIn, putChecks, storedBy, saysStored}
 use Rattle.rtcm2_state.specs.declared.Stored.the-variants as stored
-use Rattle.record_fields.specs.Coding.{Coding}
+use Rattle.record_fields.specs.Coding.{Coding, frameBits, entryIn}
+use Rattle.record_stages.specs.Stages.{countIn}
+use Rattle.record_stages.specs.Lists.{listEntry, listRanged, listMade}
+use Rattle.record_corrections.specs.Corrections as correction-list
+use Rattle.record_corrections.specs.declared.Correction.{Correction}
+use Rattle.record_corrections.specs.declared.CorrectionRead.the-variants as correction-read
+use Rattle.record_healths.specs.Healths as health-list
+use Rattle.record_healths.specs.declared.SatelliteHealth.{SatelliteHealth}
+use Rattle.record_healths.specs.declared.HealthRead.the-variants as health-read
 use Rattle.rtcm2_rows.specs.Rows.{putOrder, putBy, saysPut}
+use Rattle.rtcm2_rows.specs.Tables.{tableRow}
 use Rattle.rtcm2_rows.specs.declared.row.Put.the-variants as put
 use Rattle.rtcm2_rows.specs.Corrections as correction
 use Rattle.rtcm2_rows.specs.Observations as observation
@@ -31,7 +44,8 @@ use Rattle.rtcm2_rows.specs.Generals as general
 use Rattle.rtcm2.proofs.ObservationOrders as orders
 use Rattle.rtcm2.proofs.GeneralOrders as generals
 use Rattle.rtcm2.specs.Generals.{headOf}
-use Rattle.rtcm2_rows.specs.Healths as health
+use Rattle.rtcm2.specs.Corrections as corrections
+use Rattle.rtcm2.specs.Healths as healths
 use Rattle.rtcm2.specs.Line.{fedIn}
 use Rattle.rtcm2.specs.Orders as in-order
 use Rattle.rtcm2.specs.GeneralOrders as general-order
@@ -57,6 +71,38 @@ feed-order state byte =
     (λ n. record { answer = Refused n; reader = stateIn state }) (record { answer = Done; reader = steppedBy (stateIn state) byte })
     (λ n. refl) refl refl
 
+-- ---- lists, by their definitions
+
+counts-corrections : (f : Frame) → correction-list.countCorrections f ≡ countIn layout.Correction 40 f
+unfolding correction-list.countCorrections
+counts-corrections f = refl
+
+reads-correction : (f : Frame) (i : ℕ) → let s = systemOf (f .header .kind) in
+    correction-list.correctionAt f i
+    ≡ listRanged layout.Correction (correction-list.coding s) (correction-list.outOfRange s) correction-read.Refused correction-read.Entry f i
+unfolding correction-list.correctionAt
+reads-correction f i = refl
+
+makes-corrections : (h : Header) (es : List Correction) (c : ℕ) → let s = systemOf (h .kind) in
+    correction-list.makeCorrections h es c
+    ≡ listMade layout.Correction (correction-list.coding s) correction-list.fill 18 (correction-list.outOfRange s) h es c
+unfolding correction-list.makeCorrections
+makes-corrections h es c = refl
+
+counts-healths : (f : Frame) → health-list.countHealths f ≡ countIn layout.Health 24 f
+unfolding health-list.countHealths
+counts-healths f = refl
+
+reads-health : (f : Frame) (i : ℕ)
+    → health-list.healthAt f i ≡ listEntry layout.Health (health-list.coding (systemOf (f .header .kind))) health-read.Refused health-read.Entry f i
+unfolding health-list.healthAt
+reads-health f i = refl
+
+makes-healths : (h : Header) (es : List SatelliteHealth) (c : ℕ) → let s = systemOf (h .kind) in
+    health-list.makeHealths h es c ≡ listMade layout.Health (health-list.coding s) health-list.fill 31 (health-list.outOfRange s) h es c
+unfolding health-list.makeHealths
+makes-healths h es c = refl
+
 -- an entry as a row of bytes: 13
 pub put-ordered : {A : Type 0} (row : Coding A) (lent : List ℕ) → Ordered (13 ∷ []) (putOrder row lent) (saysPut (putBy row lent))
 put-ordered row lent = ordered (putOrder row lent) _ (says-order saysPut put.Refused (λ n. refl) put.Done (putOrder row lent) refl) refl refl
@@ -80,17 +126,31 @@ library-numbers = record {
   recall = λ bs. ordered (recallOrder bs) _ (reads.recall-order bs) refl refl;
   keep-words = λ bs fits d29 d30 words. ordered (in-order.keepWordsOrder bs d29 d30 words) _ (keep-words-order bs fits d29 d30 words) refl refl;
   recall-words = λ bs frame. ordered (in-order.restoreOrder bs frame) _ (restore-order bs frame) refl refl;
-  count-corrections = λ bs fits. ordered (in-order.countOrder layout.Correction 40 bs) _ (reads.corrections-counted bs fits) refl refl;
+  count-corrections = λ bs fits.
+      ordered (in-order.countOrder layout.Correction 40 bs) _
+      (reads.list-counted bs fits layout.Correction 40 correction-list.countCorrections (counts-corrections (in-order.frameFrom bs))) refl refl;
   correction-at = λ bs fits i lent.
-      ordered (in-order.entryOrder layout.Correction 40 (correction.row Gps) bs i (in-order.correctionChecks bs i) lent) _
-      (reads.correction-row-order bs fits i lent) refl refl;
+      ordered (in-order.entryOrder layout.Correction 40 (correction.row Gps) bs i (corrections.correctionChecks bs i) lent) _
+      (reads.list-entry bs fits layout.Correction 40 i (corrections.correctionChecks bs i) (correction.row Gps) correction-list.saysCorrectionRead
+      correction-read.Refused (λ n. refl) (λ f. correction-list.correctionAt f i) (correction-read.Entry (corrections.correctionIn bs i)) refl
+      (reads-correction (in-order.frameFrom bs) i) lent) refl refl;
   make-corrections = λ kind station z sequence code bs buffer.
-      ordered (in-order.correctionsOrder kind station z sequence code bs buffer) _ (makes.corrections-made kind station z sequence code buffer bs) refl refl;
-  count-healths = λ bs fits. ordered (in-order.countOrder layout.Health 24 bs) _ (reads.healths-counted bs fits) refl refl;
+      ordered (corrections.correctionsOrder kind station z sequence code bs buffer) _
+      (makes.list-made kind station z sequence code buffer layout.Correction correction.row correction-list.coding correction-list.fill 18
+      correction-list.outOfRange correction-list.makeCorrections (omega arith) bs
+      (makes-corrections (in-order.headerWith kind station z sequence code) _ _)) refl refl;
+  count-healths = λ bs fits.
+      ordered (in-order.countOrder layout.Health 24 bs) _
+      (reads.list-counted bs fits layout.Health 24 health-list.countHealths (counts-healths (in-order.frameFrom bs))) refl refl;
   health-at = λ bs fits i lent.
-      ordered (in-order.entryOrder layout.Health 24 (health.row Gps) bs i [] lent) _ (reads.health-row-order bs fits i lent) refl refl;
+      ordered (in-order.entryOrder layout.Health 24 (healths.row Gps) bs i [] lent) _
+      (reads.list-entry bs fits layout.Health 24 i [] (healths.row Gps) health-list.saysHealthRead health-read.Refused (λ n. refl)
+      (λ f. health-list.healthAt f i) (health-read.Entry (entryIn (health-list.coding (in-order.systemFrom bs)) i (frameBits (in-order.frameFrom bs)))) refl
+      (reads-health (in-order.frameFrom bs) i) lent) refl refl;
   make-healths = λ kind station z sequence code bs buffer.
-      ordered (in-order.healthsOrder kind station z sequence code bs buffer) _ (makes.healths-made kind station z sequence code buffer bs) refl refl;
+      ordered (healths.healthsOrder kind station z sequence code bs buffer) _
+      (makes.list-made kind station z sequence code buffer layout.Health healths.row health-list.coding health-list.fill 31
+      health-list.outOfRange health-list.makeHealths (omega arith) bs (makes-healths (in-order.headerWith kind station z sequence code) _ _)) refl refl;
   count-observations = λ bs fits. ordered (in-order.observationsCounted bs) _ (orders.observations-counted bs fits) refl refl;
   read-epoch = λ bs fits. ordered (in-order.epochOrder bs) _ (orders.epoch-order bs fits) refl refl;
   observation-at = λ e bs fits i lent. ordered (in-order.observationOrder e bs i lent) _ (orders.observation-row-order bs fits e i lent) refl refl;
@@ -138,5 +198,5 @@ library-numbers = record {
   put-observation = put-ordered observation.row;
   put-general = put-ordered general.row;
   put-correction = put-ordered (correction.row Gps);
-  put-health = put-ordered (health.row Gps);
+  put-numbers = λ sizes. put-ordered (tableRow sizes);
 }

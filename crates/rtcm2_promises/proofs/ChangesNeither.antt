@@ -17,7 +17,7 @@ use Rattle.rtcm2_state.specs.State.{storedBy, startPut, statePut, saysStored}
 use Rattle.rtcm2_rows.specs.Corrections as correction
 use Rattle.rtcm2_rows.specs.Observations as observation
 use Rattle.rtcm2_rows.specs.Generals as general
-use Rattle.rtcm2_rows.specs.Healths as health
+use Rattle.rtcm2_rows.specs.Tables.{tableRow}
 use Rattle.rtcm2.specs.Header.{headed}
 use Rattle.rtcm2.specs.Frames.{frameSaid, keepSaid, keptTo, heldTo, sizeTo}
 use Rattle.rtcm2.specs.Answer.{andThen}
@@ -115,7 +115,7 @@ library-keeps = record {
   correction-at = λ frame i. entry-keeps (correction.row Gps) (corrections.entrySaid (frameSaid frame) i);
   make-corrections = λ kind station z sequence code rows. made-keeps (corrections.madeSaid (headed kind station z sequence code) rows);
   count-healths = λ frame count n e. rw e;
-  health-at = λ frame i. entry-keeps (health.row Gps) (healths.entrySaid (frameSaid frame) i);
+  health-at = λ frame i. entry-keeps (healths.row Gps) (healths.entrySaid (frameSaid frame) i);
   make-healths = λ kind station z sequence code rows. made-keeps (healths.madeSaid (headed kind station z sequence code) rows);
   count-observations = λ frame count n e. rw e;
   read-epoch = λ frame f s t. (λ n e. rw e, λ n e. rw e, λ n e. rw e);
@@ -154,7 +154,7 @@ library-keeps = record {
   put-general = λ entry lent. entry-keeps general.row (answers entry) lent;
   put-observation = λ entry lent. entry-keeps observation.row (answers entry) lent;
   put-correction = λ entry lent. entry-keeps (correction.row Gps) (answers entry) lent;
-  put-health = λ entry lent. entry-keeps (health.row Gps) (answers entry) lent;
+  put-numbers = λ numbers sizes lent. entry-keeps (tableRow sizes) (answers numbers) lent;
   put-start = start-keeps;
   put-state = state-keeps;
 }

@@ -21,8 +21,13 @@ library-records = record {
     leaves = λ κs a z e p. p .1;
     ends = rtcm2_rows.correction.put_correction.Met.met;
   };
-  healths-in = record { asks-nothing = λ κs a. tt; settles = λ κs a z e p. p; ends = rtcm2_rows.health.healths_in.Met.met };
-  put-health = record { asks-nothing = λ κs a. tt; settles = λ κs a z e p. p .0; leaves = λ κs a z e p. p .1; ends = rtcm2_rows.health.put_health.Met.met };
+  rows-in = record { asks-nothing = λ κs a. tt; settles = λ κs a z e p. p; ends = rtcm2_rows.table.rows_in.Met.met };
+  put-numbers = record {
+    asks-nothing = λ κs a. tt;
+    settles = λ κs a z e p. p .0;
+    leaves = λ κs a z e p. p .1;
+    ends = rtcm2_rows.table.put_numbers.Met.met;
+  };
   count-corrections = record {
     asks-nothing = λ κs a. tt;
     settles = λ κs a z e p. p .0;

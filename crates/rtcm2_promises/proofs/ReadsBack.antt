@@ -45,11 +45,11 @@ use Rattle.record_nulls.specs.Nulls as null
 use Rattle.record_texts.specs.Texts as text
 use Rattle.rtcm2_rows.specs.Rows.{rowSize, countOf, entryOf, entriesFrom}
 use Rattle.rtcm2_rows.specs.Corrections as correction-bytes
-use Rattle.rtcm2_rows.specs.Healths as health-bytes
+use Rattle.rtcm2.specs.Healths as health-bytes
 use Rattle.rtcm2_rows.proofs.RowLaws.{count-held, length-entries}
 use Rattle.rtcm2_rows.proofs.Trips.{byte-small, each-read}
 use Rattle.rtcm2_rows.proofs.CorrectionRows as correction-rows
-use Rattle.rtcm2_rows.proofs.HealthRows as health-rows
+use Rattle.rtcm2.proofs.HealthRows as health-rows
 use Rattle.rtcm2.specs.Answer.{andThen}
 use Rattle.rtcm2.specs.Header.{headed}
 use Rattle.rtcm2.specs.Frames.{frameSaid, wordsSaid}
@@ -214,7 +214,7 @@ module _ (kind station z sequence code : ℕ) where
         let s = systemOf kind in
         let es = entriesFrom (health-bytes.row s) 31 rows in
         let c = countOf (rowSize (health-bytes.row s)) (length rows) in
-        list-back health-bytes.row (health-bytes.row Gps) health-bytes.Typed health-rows.faithful (λ t. refl)
+        list-back health-bytes.row (health-bytes.row Gps) health-rows.Typed health-rows.faithful (λ t. refl)
         (λ t i l m. omega (arith, count-held (rowSize (health-bytes.row t)) l)) health.makeHealths 31 24 0 _ _ rows b
         kind station z sequence code (λ n e r. record { counts = r .counts; answered = r .answered; each = r .each }) (healths-framed H es c)
         (λ f e. (

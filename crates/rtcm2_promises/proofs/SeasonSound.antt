@@ -27,7 +27,7 @@ use Rattle.season_reports.proofs.RightLaws.{sum-fits}
 use Rattle.season_reports.proofs.TableLaws.{rows-back, SoundRows}
 use Rattle.season_reports.proofs.EndLaws.{Running, RunsTo, run-rows, run-start}
 use Rattle.rtcm2_rows.specs.Rows.{entriesFrom}
-use Rattle.rtcm2_season.specs.Sizes.{sizedIn}
+use Rattle.rtcm2_rows.specs.Sizes.{sizedIn}
 use Rattle.rtcm2_season.specs.Rows.{sizes, extremesWith, rowWith, EndsFit, RowFits, reportRow}
 use Rattle.rtcm2_season.specs.Reports.{usedIn, holdsReport, reportOf, reportIn}
 

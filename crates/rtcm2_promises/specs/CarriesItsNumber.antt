@@ -16,10 +16,10 @@ use Rattle.reader.specs.declared.Candidate.{Candidate}
 use Rattle.reader.specs.declared.Reader.{Reader}
 use Rattle.rtcm2_state.specs.State.{stateIn, putChecks, storedBy, saysStored}
 use Rattle.rtcm2_rows.specs.Rows.{putOrder, putBy, saysPut}
+use Rattle.rtcm2_rows.specs.Tables.{tableRow}
 use Rattle.rtcm2_rows.specs.Corrections as correction
 use Rattle.rtcm2_rows.specs.Observations as observation
 use Rattle.rtcm2_rows.specs.Generals as general
-use Rattle.rtcm2_rows.specs.Healths as health
 use Rattle.rtcm2.specs.Header.{headed}
 use Rattle.rtcm2.specs.Frames.{frameSaid, keptTo, keepSaid, recallSaid}
 use Rattle.rtcm2.specs.Line.{startedIn, countsIn, fedIn, fedAllIn, endedIn, takenIn}
@@ -81,19 +81,19 @@ pub record LibraryNumbers : Type 0 where
       → Ordered (afterRecord (6 ∷ 7 ∷ 8 ∷ [])) (in-order.countOrder layout.Correction 40 bs) (corrections.countSaid (frameSaid bs))
   pub correction-at : (bs : List ℕ) → AreBytes bs → (i : ℕ) (lent : List ℕ)
       → Ordered (afterRecord (6 ∷ 7 ∷ 8 ∷ 9 ∷ 10 ∷ 13 ∷ []))
-      (in-order.entryOrder layout.Correction 40 (correction.row Gps) bs i (in-order.correctionChecks bs i) lent)
+      (in-order.entryOrder layout.Correction 40 (correction.row Gps) bs i (corrections.correctionChecks bs i) lent)
       (rowTo (correction.row Gps) (corrections.entrySaid (frameSaid bs) i) lent)
   pub make-corrections : (kind station z sequence code : ℕ) (bs buffer : List ℕ)
-      → Ordered (afterHeader (12 ∷ 10 ∷ 13 ∷ [])) (in-order.correctionsOrder kind station z sequence code bs buffer)
+      → Ordered (afterHeader (12 ∷ 10 ∷ 13 ∷ [])) (corrections.correctionsOrder kind station z sequence code bs buffer)
       (keptTo (corrections.madeSaid (headed kind station z sequence code) bs) buffer)
   -- constellation health
   pub count-healths : (bs : List ℕ) → AreBytes bs
       → Ordered (afterRecord (6 ∷ 7 ∷ 8 ∷ [])) (in-order.countOrder layout.Health 24 bs) (healths.countSaid (frameSaid bs))
   pub health-at : (bs : List ℕ) → AreBytes bs → (i : ℕ) (lent : List ℕ)
-      → Ordered (afterRecord (6 ∷ 7 ∷ 8 ∷ 9 ∷ 13 ∷ [])) (in-order.entryOrder layout.Health 24 (health.row Gps) bs i [] lent)
-      (rowTo (health.row Gps) (healths.entrySaid (frameSaid bs) i) lent)
+      → Ordered (afterRecord (6 ∷ 7 ∷ 8 ∷ 9 ∷ 13 ∷ [])) (in-order.entryOrder layout.Health 24 (healths.row Gps) bs i [] lent)
+      (rowTo (healths.row Gps) (healths.entrySaid (frameSaid bs) i) lent)
   pub make-healths : (kind station z sequence code : ℕ) (bs buffer : List ℕ)
-      → Ordered (afterHeader (12 ∷ 10 ∷ 13 ∷ [])) (in-order.healthsOrder kind station z sequence code bs buffer)
+      → Ordered (afterHeader (12 ∷ 10 ∷ 13 ∷ [])) (healths.healthsOrder kind station z sequence code bs buffer)
       (keptTo (healths.madeSaid (headed kind station z sequence code) bs) buffer)
   -- the station's position
   pub count-observations : (bs : List ℕ) → AreBytes bs
@@ -168,4 +168,4 @@ pub record LibraryNumbers : Type 0 where
   pub put-observation : (lent : List ℕ) → Ordered (13 ∷ []) (putOrder observation.row lent) (saysPut (putBy observation.row lent))
   pub put-general : (lent : List ℕ) → Ordered (13 ∷ []) (putOrder general.row lent) (saysPut (putBy general.row lent))
   pub put-correction : (lent : List ℕ) → Ordered (13 ∷ []) (putOrder (correction.row Gps) lent) (saysPut (putBy (correction.row Gps) lent))
-  pub put-health : (lent : List ℕ) → Ordered (13 ∷ []) (putOrder (health.row Gps) lent) (saysPut (putBy (health.row Gps) lent))
+  pub put-numbers : (sizes lent : List ℕ) → Ordered (13 ∷ []) (putOrder (tableRow sizes) lent) (saysPut (putBy (tableRow sizes) lent))

@@ -12,15 +12,14 @@ use Rattle.reader.specs.declared.Reader.{Reader}
 use Rattle.record_corrections.specs.declared.Correction.{Correction}
 use Rattle.record_observations.specs.declared.Observation.{Observation}
 use Rattle.record_generals.specs.declared.General.{General}
-use Rattle.record_healths.specs.declared.SatelliteHealth.{SatelliteHealth}
 use Rattle.journal.specs.Journal.{heldBy}
 use Rattle.writer.specs.Answer.{openedTo}
 use Rattle.rtcm2_state.specs.State.{storedBy, startPut, statePut, saysStored}
 use Rattle.rtcm2_rows.specs.Rows.{putBy, rowAfter, saysPut}
+use Rattle.rtcm2_rows.specs.Tables.{tableRow}
 use Rattle.rtcm2_rows.specs.Corrections as entry-corrections
 use Rattle.rtcm2_rows.specs.Observations as entry-observations
 use Rattle.rtcm2_rows.specs.Generals as entry-generals
-use Rattle.rtcm2_rows.specs.Healths as entry-healths
 use Rattle.rtcm2.specs.Answer.{left}
 use Rattle.rtcm2.specs.Line.{startedIn, countsIn, fedIn, fedAllIn, endedIn, takenIn}
 use Rattle.rtcm2.specs.Send.{openSaid, writeSaid, d29After, d30After, lineLent}
@@ -90,7 +89,7 @@ pub record LibraryKeeps : Type 0 where
   -- constellation health
   pub count-healths : (frame : List ℕ) (count : ℕ) → let s = healths.countSaid (frameSaid frame) in Keeps s (left s (λ k. k) count) count
   pub health-at : (frame : List ℕ) (i : ℕ) (lent : List ℕ) → let s = healths.entrySaid (frameSaid frame) i in
-      Keeps (rowTo (entry-healths.row Gps) s lent) (rowHeld (entry-healths.row Gps) s lent) lent
+      Keeps (rowTo (healths.row Gps) s lent) (rowHeld (healths.row Gps) s lent) lent
   pub make-healths : (kind station z sequence code : ℕ) (rows frame : List ℕ) (size : ℕ)
       → let s = healths.madeSaid (headed kind station z sequence code) rows in
       Keeps (keptTo s frame) (heldTo s frame) frame × Keeps (keptTo s frame) (left (keptTo s frame) (λ k. k) size) size
@@ -174,8 +173,7 @@ pub record LibraryKeeps : Type 0 where
       → Keeps (saysPut (putBy entry-observations.row lent)) (rowAfter entry-observations.row entry lent) lent
   pub put-correction : (entry : Correction) (lent : List ℕ)
       → Keeps (saysPut (putBy (entry-corrections.row Gps) lent)) (rowAfter (entry-corrections.row Gps) entry lent) lent
-  pub put-health : (entry : SatelliteHealth) (lent : List ℕ)
-      → Keeps (saysPut (putBy (entry-healths.row Gps) lent)) (rowAfter (entry-healths.row Gps) entry lent) lent
+  pub put-numbers : (numbers sizes lent : List ℕ) → Keeps (saysPut (putBy (tableRow sizes) lent)) (rowAfter (tableRow sizes) numbers lent) lent
   -- a state as bytes
   pub put-start : (c : Candidate) (ended : Bool) (bytes : List ℕ) → Keeps (saysStored (storedBy c bytes)) (startPut c ended bytes) bytes
   pub put-state : (r : Reader) (bytes : List ℕ) → Keeps (saysStored (storedBy (r .candidate) bytes)) (statePut r bytes) bytes

@@ -3,10 +3,12 @@
 use mathlib.Core.List.{List}
 use Prim.Native.Nat.{ℕ}
 use lib.IntN.{ℤ}
-use lib.ListN.{length}
+use lib.ListN.{length, take}
 use denote.Ref.{now}
 use Rattle.frame.specs.declared.System.the-variants.{Gps}
-use Rattle.rtcm2_rows.specs.Rows.{countOf, entriesFrom, putBy, rowAfter}
+use Rattle.record_fields.specs.Tables.{noRows, putRows}
+use Rattle.rtcm2_rows.specs.Rows.{rowSize, countOf, entriesFrom, putBy, rowAfter}
+use Rattle.rtcm2_rows.specs.Tables.{tableRow}
 use Rattle.rtcm2.specs.Answer.{numberOf, left}
 use Rattle.rtcm2.specs.Frames.{frameSaid, keptTo, heldTo, sizeTo}
 use Rattle.rtcm2.specs.Rows.{rowTo, rowHeld}
@@ -16,7 +18,6 @@ use Rattle.rtcm2.specs.Nulls.{nullSaid}
 use Rattle.rtcm2.specs.Texts.{textSaid, textAfter}
 use Rattle.rtcm2_rows.specs.Corrections as entry-corrections
 use Rattle.rtcm2_rows.specs.Observations as entry-observations
-use Rattle.rtcm2_rows.specs.Healths as entry-healths
 use Rattle.rtcm2.specs.Corrections as corrections
 use Rattle.rtcm2.specs.Observations as observations
 use Rattle.rtcm2.specs.Healths as healths
@@ -28,8 +29,8 @@ use Rattle.rtcm2_rows.proofs.correction.corrections_in
 use Rattle.rtcm2_rows.proofs.correction.put_correction
 use Rattle.rtcm2_rows.proofs.observation.observations_in
 use Rattle.rtcm2_rows.proofs.observation.put_observation
-use Rattle.rtcm2_rows.proofs.health.healths_in
-use Rattle.rtcm2_rows.proofs.health.put_health
+use Rattle.rtcm2_rows.proofs.table.rows_in
+use Rattle.rtcm2_rows.proofs.table.put_numbers
 use Rattle.rtcm2.proofs.correction.rtcm2_count_corrections
 use Rattle.rtcm2.proofs.correction.rtcm2_correction_at
 use Rattle.rtcm2.proofs.correction.rtcm2_make_corrections
@@ -64,12 +65,13 @@ pub record LibraryRecords : Type 2 where
   pub put-correction : AnsweredLent put_correction.Reads.Asked put_correction.Reads.Learnt put_correction.Statement.statement
       (λ κs (_, (bytes, _)). putBy (entry-corrections.row Gps) (now bytes))
       (λ κs (_, (bytes, _)). now bytes) (λ κs (entry, (bytes, _)). rowAfter (entry-corrections.row Gps) entry (now bytes))
-  -- rtcm2_rows::health
-  pub healths-in : Answered healths_in.Reads.Asked healths_in.Reads.Learnt healths_in.Statement.statement
-      (λ κs (system, (bytes, _)). entriesFrom (entry-healths.row system) 31 (now bytes))
-  pub put-health : AnsweredLent put_health.Reads.Asked put_health.Reads.Learnt put_health.Statement.statement
-      (λ κs (_, (bytes, _)). putBy (entry-healths.row Gps) (now bytes))
-      (λ κs (_, (bytes, _)). now bytes) (λ κs (entry, (bytes, _)). rowAfter (entry-healths.row Gps) entry (now bytes))
+  -- rtcm2_rows::table
+  pub rows-in : Answered rows_in.Reads.Asked rows_in.Reads.Learnt rows_in.Statement.statement
+      (λ κs (limit, (sizes, (widths, (least, (most, (bytes, _)))))). putRows (now widths) (now least) (now most)
+      (take (countOf (rowSize (tableRow sizes)) (length (now bytes))) (entriesFrom (tableRow sizes) limit (now bytes))) noRows)
+  pub put-numbers : AnsweredLent put_numbers.Reads.Asked put_numbers.Reads.Learnt put_numbers.Statement.statement
+      (λ κs (_, (sizes, (bytes, _))). putBy (tableRow sizes) (now bytes))
+      (λ κs (_, (_, (bytes, _))). now bytes) (λ κs (numbers, (sizes, (bytes, _))). rowAfter (tableRow sizes) numbers (now bytes))
   -- rtcm2::correction
   pub count-corrections : AnsweredLent
       rtcm2_count_corrections.Reads.Asked rtcm2_count_corrections.Reads.Learnt rtcm2_count_corrections.Statement.statement
@@ -94,9 +96,9 @@ pub record LibraryRecords : Type 2 where
       (λ κs (frame, _). numberOf (healths.countSaid (frameSaid (now frame))))
       (λ κs (_, (count, _)). now count) (λ κs (frame, (count, _)). left (healths.countSaid (frameSaid (now frame))) (λ k. k) (now count))
   pub health-at : AnsweredLent rtcm2_health_at.Reads.Asked rtcm2_health_at.Reads.Learnt rtcm2_health_at.Statement.statement
-      (λ κs (frame, (index, (bytes, _))). numberOf (rowTo (entry-healths.row Gps) (healths.entrySaid (frameSaid (now frame)) index) (now bytes)))
+      (λ κs (frame, (index, (bytes, _))). numberOf (rowTo (healths.row Gps) (healths.entrySaid (frameSaid (now frame)) index) (now bytes)))
       (λ κs (_, (_, (bytes, _))). now bytes)
-      (λ κs (frame, (index, (bytes, _))). rowHeld (entry-healths.row Gps) (healths.entrySaid (frameSaid (now frame)) index) (now bytes))
+      (λ κs (frame, (index, (bytes, _))). rowHeld (healths.row Gps) (healths.entrySaid (frameSaid (now frame)) index) (now bytes))
   pub make-healths : AnsweredLent {B = List ℕ × ℕ}
       rtcm2_make_healths.Reads.Asked rtcm2_make_healths.Reads.Learnt rtcm2_make_healths.Statement.statement
       (λ κs (kind, (station, (z, (sequence, (health, (rows, (frame, _))))))).

@@ -15,7 +15,6 @@ use Rattle.rtcm2_rows.specs.Rows.{rowSize, countOf}
 use Rattle.rtcm2_rows.specs.Corrections as entry-corrections
 use Rattle.rtcm2_rows.specs.Observations as entry-observations
 use Rattle.rtcm2_rows.specs.Generals as entry-generals
-use Rattle.rtcm2_rows.specs.Healths as entry-healths
 use Rattle.rtcm2.specs.Answer.{andThen}
 use Rattle.rtcm2.specs.Header.{headed}
 use Rattle.rtcm2.specs.Frames.{frameSaid, keptTo, keepSaid, heldTo, recallSaid, kindSaid, stationSaid, zCountSaid, sequenceSaid, healthSaid, nSaid, lengthSaid}
@@ -58,7 +57,7 @@ module _ (kind station z sequence code : ℕ) where
     pub make-corrections : (rows : List ℕ) → AreBytes rows → GivesBack (corrections.madeSaid (headed kind station z sequence code) rows)
         (λ bytes. RowsBack (entry-corrections.row Gps) rows (corrections.countSaid (frameSaid bytes)) (corrections.entrySaid (frameSaid bytes)))
     pub make-healths : (rows : List ℕ) → AreBytes rows → GivesBack (healths.madeSaid (headed kind station z sequence code) rows)
-        (λ bytes. RowsBack (entry-healths.row Gps) rows (healths.countSaid (frameSaid bytes)) (healths.entrySaid (frameSaid bytes)))
+        (λ bytes. RowsBack (healths.row Gps) rows (healths.countSaid (frameSaid bytes)) (healths.entrySaid (frameSaid bytes)))
     -- in one edition: the head, and the rows
     pub make-observations : (e frequency smoothing time : ℕ) (rows : List ℕ) → AreBytes rows
         → GivesBack (observations.madeSaid e (headed kind station z sequence code) frequency smoothing time rows)

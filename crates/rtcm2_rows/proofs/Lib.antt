@@ -1,6 +1,9 @@
+pub mod SizeLaws
+pub mod NumberLaws
+pub mod TableLaws
+pub mod TableRows
 pub mod RowLaws
 pub mod CorrectionRows
-pub mod HealthRows
 pub mod GeneralRows
 pub mod Trips
 pub mod ObservationRows

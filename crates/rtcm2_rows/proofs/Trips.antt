@@ -14,18 +14,8 @@ use Rattle.bits.specs.Fields.{Fit, octets, AreBytes}
 use Rattle.bits.proofs.FieldLaws.{length-fit, fit-take, fit-drop}
 use Rattle.record_fields.specs.Coding.{Coding, Each}
 use Rattle.record_fields.proofs.Faithful.{Faithful}
-use Rattle.frame.specs.declared.System.{System}
-use Rattle.record_corrections.specs.declared.Correction.{Correction}
-use Rattle.record_healths.specs.declared.SatelliteHealth.{SatelliteHealth}
-use Rattle.record_generals.specs.declared.General.{General}
 use Rattle.rtcm2_rows.specs.Rows.{countOf, rowSize, entryOf, entriesFrom, rowBytes, rowAfter}
-use Rattle.rtcm2_rows.specs.Corrections as correction
-use Rattle.rtcm2_rows.specs.Healths as health
-use Rattle.rtcm2_rows.specs.Generals as general
 use Rattle.rtcm2_rows.proofs.RowLaws.{more, count-whole}
-use Rattle.rtcm2_rows.proofs.CorrectionRows as corrections
-use Rattle.rtcm2_rows.proofs.HealthRows as healths
-use Rattle.rtcm2_rows.proofs.GeneralRows as generals
 
 -- a byte, or 0 past the last
 pub byte-small : (bs : List ℕ) (j : ℕ) → AreBytes bs → getD bs j 0 < 256
@@ -48,7 +38,7 @@ module _ {A : Type 0} (k : Coding A) (Good : A → Type 0) (law : Faithful k Goo
   -- ---- put, then read
 
   -- ROW PUT, ROW READ: the entry
-  row-put-read : (e : A) (bs : List ℕ) → Good e → rowSize k ≤ length bs → entryOf k (rowAfter k e bs) ≡ e
+  pub row-put-read : (e : A) (bs : List ℕ) → Good e → rowSize k ≤ length bs → entryOf k (rowAfter k e bs) ≡ e
   row-put-read e bs g h =
       rw (le-ltb (length bs) (rowSize k) h)
       (ap (k .meant) (take-at (k .codes e) (drop (rowSize k) bs) (rowSize k) (length-codes e g)) ∙ law .meant-codes e g)
@@ -60,13 +50,13 @@ module _ {A : Type 0} (k : Coding A) (Good : A → Type 0) (law : Faithful k Goo
   length-bytes (e ∷ es) g =
       length-append (k .codes e) (rowBytes k es) ∙ ap₂ _+_ (length-codes e (g .0)) (length-bytes es (g .1)) ∙ sym (more k (length es))
 
-  rows-counted : (es : List A) → 0 < rowSize k → Each Good es → countOf (rowSize k) (length (rowBytes k es)) ≡ length es
+  pub rows-counted : (es : List A) → 0 < rowSize k → Each Good es → countOf (rowSize k) (length (rowBytes k es)) ≡ length es
   rows-counted es s g =
       ap (countOf (rowSize k)) (length-bytes es g)
       ∙ count-whole (rowSize k) (length es * rowSize k) (λ z. omega arith) (mul-mod-left (length es) (rowSize k))
       ∙ mul-div-cancel (length es) s
 
-  rows-put-read : (es : List A) (rest : List ℕ) → Each Good es → entriesFrom k (length es) (rowBytes k es ++ rest) ≡ es
+  pub rows-put-read : (es : List A) (rest : List ℕ) → Each Good es → entriesFrom k (length es) (rowBytes k es ++ rest) ≡ es
   unfolding rowBytes entriesFrom
   rows-put-read [] rest g = refl
   rows-put-read (e ∷ es) rest g =
@@ -86,7 +76,7 @@ module _ {A : Type 0} (k : Coding A) (Good : A → Type 0) (law : Faithful k Goo
         fits = subst (λ n. Fit (octets n) (take (rowSize k) bs)) (length-take-le (rowSize k) bs h) (fit-take (rowSize k) bs b)
 
     -- ROW READ, ROW PUT: no byte changes
-    row-read-put : (bs : List ℕ) → AreBytes bs → rowAfter k (entryOf k bs) bs ≡ bs
+    pub row-read-put : (bs : List ℕ) → AreBytes bs → rowAfter k (entryOf k bs) bs ≡ bs
     row-read-put bs b = go (ltb (length bs) (rowSize k)) refl
       where
         go : (t : Bool) → ltb (length bs) (rowSize k) ≡ t → cond t bs (k .codes (entryOf k bs) ++ drop (rowSize k) bs) ≡ bs
@@ -94,7 +84,7 @@ module _ {A : Type 0} (k : Coding A) (Good : A → Type 0) (law : Faithful k Goo
         go false e = ap (λ l. l ++ drop (rowSize k) bs) (row-again bs b (ltb-false (length bs) (rowSize k) e)) ∙ take-append-drop (rowSize k) bs
 
     -- ROWS READ, ROWS PUT: the bytes of the n rows
-    rows-read-put : (n : ℕ) (bs : List ℕ) → AreBytes bs → n * rowSize k ≤ length bs → rowBytes k (entriesFrom k n bs) ≡ take (n * rowSize k) bs
+    pub rows-read-put : (n : ℕ) (bs : List ℕ) → AreBytes bs → n * rowSize k ≤ length bs → rowBytes k (entriesFrom k n bs) ≡ take (n * rowSize k) bs
     unfolding rowBytes entriesFrom
     rows-read-put zero bs b h = rw (zero-mul (rowSize k))
     rows-read-put (suc n) bs b h =
@@ -102,65 +92,3 @@ module _ {A : Type 0} (k : Coding A) (Good : A → Type 0) (law : Faithful k Goo
         (rows-read-put n (drop (rowSize k) bs) (fit-drop (rowSize k) bs b) (omega (arith, more k n, length-drop (rowSize k) bs)))
         ∙ sym (take-add (rowSize k) (n * rowSize k) bs)
         ∙ ap (λ j. take j bs) (sym (more k n))
-
--- ---- corrections
-
-pub correction-put-read : (s : System) (e : Correction) (bs : List ℕ) → (correction.Typed s) e → rowSize (correction.row s) ≤ length bs
-    → entryOf (correction.row s) (rowAfter (correction.row s) e bs) ≡ e
-correction-put-read s = row-put-read (correction.row s) (correction.Typed s) (corrections.faithful s)
-
-pub correction-read-put : (s : System) (bs : List ℕ) → AreBytes bs → rowAfter (correction.row s) (entryOf (correction.row s) bs) bs ≡ bs
-correction-read-put s = row-read-put (correction.row s) (correction.Typed s) (corrections.faithful s) refl
-
-pub corrections-counted : (s : System) (es : List Correction) → Each (correction.Typed s) es
-    → countOf (rowSize (correction.row s)) (length (rowBytes (correction.row s) es)) ≡ length es
-corrections-counted s es = rows-counted (correction.row s) (correction.Typed s) (corrections.faithful s) es (omega arith)
-
-pub corrections-put-read : (s : System) (es : List Correction) (rest : List ℕ) → Each (correction.Typed s) es
-    → entriesFrom (correction.row s) (length es) (rowBytes (correction.row s) es ++ rest) ≡ es
-corrections-put-read s = rows-put-read (correction.row s) (correction.Typed s) (corrections.faithful s)
-
-pub corrections-read-put : (s : System) (n : ℕ) (bs : List ℕ) → AreBytes bs → n * rowSize (correction.row s) ≤ length bs
-    → rowBytes (correction.row s) (entriesFrom (correction.row s) n bs) ≡ take (n * rowSize (correction.row s)) bs
-corrections-read-put s = rows-read-put (correction.row s) (correction.Typed s) (corrections.faithful s) refl
-
--- ---- satellites' health
-
-pub health-put-read : (s : System) (e : SatelliteHealth) (bs : List ℕ) → (health.Typed s) e → rowSize (health.row s) ≤ length bs
-    → entryOf (health.row s) (rowAfter (health.row s) e bs) ≡ e
-health-put-read s = row-put-read (health.row s) (health.Typed s) (healths.faithful s)
-
-pub health-read-put : (s : System) (bs : List ℕ) → AreBytes bs → rowAfter (health.row s) (entryOf (health.row s) bs) bs ≡ bs
-health-read-put s = row-read-put (health.row s) (health.Typed s) (healths.faithful s) refl
-
-pub healths-counted : (s : System) (es : List SatelliteHealth) → Each (health.Typed s) es
-    → countOf (rowSize (health.row s)) (length (rowBytes (health.row s) es)) ≡ length es
-healths-counted s es = rows-counted (health.row s) (health.Typed s) (healths.faithful s) es (omega arith)
-
-pub healths-put-read : (s : System) (es : List SatelliteHealth) (rest : List ℕ) → Each (health.Typed s) es
-    → entriesFrom (health.row s) (length es) (rowBytes (health.row s) es ++ rest) ≡ es
-healths-put-read s = rows-put-read (health.row s) (health.Typed s) (healths.faithful s)
-
-pub healths-read-put : (s : System) (n : ℕ) (bs : List ℕ) → AreBytes bs → n * rowSize (health.row s) ≤ length bs
-    → rowBytes (health.row s) (entriesFrom (health.row s) n bs) ≡ take (n * rowSize (health.row s)) bs
-healths-read-put s = rows-read-put (health.row s) (health.Typed s) (healths.faithful s) refl
-
--- ---- general corrections
-
-pub general-put-read : (e : General) (bs : List ℕ) → general.Typed e → rowSize general.row ≤ length bs
-    → entryOf general.row (rowAfter general.row e bs) ≡ e
-general-put-read = row-put-read general.row general.Typed generals.faithful
-
-pub general-read-put : (bs : List ℕ) → AreBytes bs → rowAfter general.row (entryOf general.row bs) bs ≡ bs
-general-read-put = row-read-put general.row general.Typed generals.faithful refl
-
-pub generals-counted : (es : List General) → Each general.Typed es → countOf (rowSize general.row) (length (rowBytes general.row es)) ≡ length es
-generals-counted es = rows-counted general.row general.Typed generals.faithful es (omega arith)
-
-pub generals-put-read : (es : List General) (rest : List ℕ) → Each general.Typed es
-    → entriesFrom general.row (length es) (rowBytes general.row es ++ rest) ≡ es
-generals-put-read = rows-put-read general.row general.Typed generals.faithful
-
-pub generals-read-put : (n : ℕ) (bs : List ℕ) → AreBytes bs → n * rowSize general.row ≤ length bs
-    → rowBytes general.row (entriesFrom general.row n bs) ≡ take (n * rowSize general.row) bs
-generals-read-put = rows-read-put general.row general.Typed generals.faithful refl

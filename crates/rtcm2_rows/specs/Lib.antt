@@ -1,5 +1,6 @@
+pub mod Sizes
 pub mod Rows
+pub mod Tables
 pub mod Corrections
-pub mod Healths
 pub mod Observations
 pub mod Generals

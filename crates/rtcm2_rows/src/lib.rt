@@ -1,6 +1,6 @@
 // Entries of the list records as lent bytes, a row of bytes for each entry.
 pub mod correction;
 pub mod general;
-pub mod health;
 pub mod observation;
 pub mod row;
+pub mod table;

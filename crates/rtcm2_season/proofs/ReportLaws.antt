@@ -21,10 +21,10 @@ use Rattle.season_reports.specs.Reports.{reportWith}
 use Rattle.season_reports.specs.declared.Row.{Row}
 use Rattle.season_reports.specs.declared.Report.{Report}
 use Rattle.season_reports.specs.declared.Extremes.the-variants.{Absent}
-use Rattle.rtcm2_season.specs.Sizes.{sizedIn}
+use Rattle.rtcm2_rows.specs.Sizes.{sizedIn}
 use Rattle.rtcm2_season.specs.Rows.{sizes, namesRow, rowWith, reportRow}
 use Rattle.rtcm2_season.specs.Reports.{reportSize, usedIn, allName, holdsReport, reportOf, reportIn, reportBytes, reportPutBy, reportPut}
-use Rattle.rtcm2_season.proofs.SizeLaws.{sets-both}
+use Rattle.rtcm2_rows.proofs.SizeLaws.{sets-both}
 use Rattle.rtcm2_season.proofs.RowLaws.{length-row, row-read}
 
 -- what an array's element past its end counts as

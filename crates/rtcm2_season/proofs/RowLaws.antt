@@ -18,10 +18,10 @@ use Rattle.season_reports.specs.Rows.{systemNumber}
 use Rattle.season_reports.specs.declared.Row.{Row}
 use Rattle.season_reports.specs.declared.Extremes.{Extremes}
 use Rattle.season_reports.specs.declared.Extremes.the-variants.{Absent, Present}
-use Rattle.rtcm2_season.specs.Sizes.{sizedIn, sizedBytes}
+use Rattle.rtcm2_rows.specs.Sizes.{sizedIn, sizedBytes}
 use Rattle.rtcm2_season.specs.Rows.{keySizes, endSizes, sizes, extremesNumbers, rowNumbers, namesRow, systemWith, extremesWith, rowWith, reportRow}
 use Rattle.rtcm2_season.specs.Rows.{EndsFit, RowFits}
-use Rattle.rtcm2_season.proofs.SizeLaws.{Within, sets-both, sized-both, length-sized, sized-back, sized-take}
+use Rattle.rtcm2_rows.proofs.SizeLaws.{Within, sets-both, sized-both, length-sized, sized-back, sized-take}
 
 -- ---- what the functions cite
 

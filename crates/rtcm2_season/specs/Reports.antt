@@ -11,7 +11,7 @@ use Rattle.rtcm2_rows.specs.declared.row.Put.{Put}
 use Rattle.rtcm2_rows.specs.declared.row.Put.the-variants.{Done, Refused}
 use Rattle.season_reports.specs.Reports.{mostRows, reportWith}
 use Rattle.season_reports.specs.declared.Report.{Report}
-use Rattle.rtcm2_season.specs.Sizes.{sizedIn}
+use Rattle.rtcm2_rows.specs.Sizes.{sizedIn}
 use Rattle.rtcm2_season.specs.Rows.{sizes, namesRow, reportRow}
 
 -- THE SIZE of a report in bytes

@@ -14,7 +14,7 @@ use Rattle.season_reports.specs.Rows.{systemNumber}
 use Rattle.season_reports.specs.declared.Row.{Row}
 use Rattle.season_reports.specs.declared.Extremes.{Extremes}
 use Rattle.season_reports.specs.declared.Extremes.the-variants.{Absent, Present}
-use Rattle.rtcm2_season.specs.Sizes.{sizedIn, sizedBytes}
+use Rattle.rtcm2_rows.specs.Sizes.{sizedIn, sizedBytes}
 
 -- THE SIZES of a row's numbers, in bytes: key and counts, then least, largest and sum
 abbrev pub keySizes : List ℕ

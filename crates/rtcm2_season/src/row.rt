@@ -5,7 +5,7 @@ ghost use lib.ListN.{length, drop};
 ghost use lib.Seq.{sets};
 ghost use Rattle.rtcm2_rows.specs.Rows.{putBy, rowAfter};
 ghost use Rattle.season_reports.specs.Rows.{systemNumber};
-ghost use Rattle.rtcm2_season.specs.Sizes.{sizedIn, sizedBytes};
+ghost use Rattle.rtcm2_rows.specs.Sizes.{sizedIn, sizedBytes};
 ghost use Rattle.rtcm2_season.specs.Rows.{keySizes, endSizes, sizes, systemWith, extremesWith, rowWith, namesRow, extremesNumbers, rowNumbers, reportRow};
 use crate::number::code64;
 use crate::number::number_at;

@@ -11,13 +11,7 @@ returns c = simp (lt-ltb _ _ (c .if1 .taken))
 
 returns-2 : tie.Need-returns-2
 unfolding dataNumber
-returns-2 c = simp (le-ltb _ _ (c .before .if1 .left), lt-ltb _ _ (c .if2 .taken))
-
-returns-3 : tie.Need-returns-3
-unfolding dataNumber
-returns-3 c = simp (le-ltb _ _ (c .before .if1 .left), le-ltb _ _ (c .if2 .left))
+returns-2 c = simp (le-ltb _ _ (c .if1 .left))
 
 pub data-number-spec : {M : Type 1} → statement M
-data-number-spec =
-    tie.close
-    (tie.spec returns returns-2 (λ c. search needs) (λ c. search needs) returns-3)
+data-number-spec = tie.close (tie.spec returns (λ c. search needs) (λ c. search needs) returns-2)

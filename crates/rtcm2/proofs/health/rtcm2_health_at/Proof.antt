@@ -4,7 +4,7 @@ use denote.Ref.{now}
 use borrow.Author.Needs.{needs}
 use Rattle.frame.specs.declared.System.the-variants.{Gps}
 use Rattle.record_healths.specs.Healths.{saysHealthRead}
-use Rattle.rtcm2_rows.specs.Healths.{row}
+use Rattle.rtcm2.specs.Healths.{row}
 use Rattle.rtcm2.specs.Healths.{entrySaid}
 use Rattle.rtcm2.proofs.RecallLaws.{frame-told, frame-refused}
 use Rattle.rtcm2.proofs.RowLaws.{puts-refused, puts-as}

@@ -7,7 +7,7 @@ use lib.ListN.{take, drop}
 use denote.Ref.{now}
 use borrow.Author.Needs.{needs}
 use Rattle.rtcm2_state.specs.Numbers.{numberIn}
-use Rattle.rtcm2_season.proofs.NumberLaws.{number-none, number-next, number-all, bytes-more, bytes-fit}
+use Rattle.rtcm2_rows.proofs.NumberLaws.{number-none, number-next, number-all, bytes-more, bytes-fit}
 use Rattle.rtcm2_season.proofs.number.number_at.Statement.{statement}
 use Rattle.rtcm2_season.proofs.number.number_at.Tie as tie
 

@@ -7,7 +7,7 @@ use lib.Seq.{sets}
 use denote.Ref.{now}
 use borrow.Author.Needs.{needs}
 use Rattle.rtcm2_state.specs.Numbers.{lowBytes}
-use Rattle.rtcm2_season.proofs.NumberLaws.{put-none, put-next, put-all}
+use Rattle.rtcm2_rows.proofs.NumberLaws.{put-none, put-next, put-all}
 use Rattle.rtcm2_season.proofs.number.put_number.Statement.{statement}
 use Rattle.rtcm2_season.proofs.number.put_number.Tie as tie
 

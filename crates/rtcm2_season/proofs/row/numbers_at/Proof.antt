@@ -5,7 +5,7 @@ use native.Mathlib.Omega.{arith}
 use lib.ListN.{drop}
 use denote.Ref.{now}
 use borrow.Author.Needs.{needs}
-use Rattle.rtcm2_season.proofs.SizeLaws.{sized-none, sized-one}
+use Rattle.rtcm2_rows.proofs.SizeLaws.{sized-none, sized-one}
 use Rattle.rtcm2_season.proofs.row.numbers_at.Statement.{statement}
 use Rattle.rtcm2_season.proofs.row.numbers_at.Tie as tie
 

@@ -9,7 +9,7 @@ use lib.Seq.{getD-drop, drop-drop, take-take, take-nil, drop-nil, take-at, drop-
 use Rattle.bits.specs.Fields.{span}
 use Rattle.rtcm2_state.specs.Numbers.{lowBytes, numberIn}
 use Rattle.rtcm2_state.proofs.NumberLaws.{length-bytes, number-bytes}
-use Rattle.rtcm2_season.specs.Sizes.{sizedIn, sizedBytes}
+use Rattle.rtcm2_rows.specs.Sizes.{sizedIn, sizedBytes}
 
 -- ---- reading
 

@@ -68,6 +68,9 @@ bytes-more size left n b h l s q = omega (arith, shifted, wider)
 pub bytes-fit : (size left n : ℕ) → 0 < left → left ≤ size → size ≤ 8 → n < 2 ^ (8 * (size - left)) → n < 2 ^ 56
 bytes-fit size left n h l e s = omega (arith, pow-mono {i = 8 * (size - left)} {j = 56} (omega arith))
 
+pub few-fit : (size left n : ℕ) → 0 < left → left ≤ size → size ≤ 4 → n < 2 ^ (8 * (size - left)) → n < 2 ^ 24
+few-fit size left n h l e s = omega (arith, pow-mono {i = 8 * (size - left)} {j = 24} (omega arith))
+
 -- ---- putting, from the lowest byte up
 
 module _ (l : List ℕ) (at size n : ℕ) where
