@@ -15,5 +15,6 @@ pub mod Bursts
 pub mod XorMaps
 pub mod Dividing
 pub mod TakeLaws
+pub mod Glancing
 pub mod TakeChecks
 pub mod Tallies

@@ -79,7 +79,7 @@ module _ (cells : List ℕ) (end bit k : ℕ) (fails : List ℕ) (len : length f
 -- ---- what is known of the next candidate
 
 -- words that pass are right, with the preamble in the first
-right-known : (k : ℕ) (w : List Bool) → (k ≡ 0 → preambled (dataOf w) ≡ true) → passes w ≡ true → right k w ≡ true
+pub right-known : (k : ℕ) (w : List Bool) → (k ≡ 0 → preambled (dataOf w) ≡ true) → passes w ≡ true → right k w ≡ true
 right-known zero w h p = right-at-first 0 w refl ∙ ap (λ b. b && passes w) (h refl) ∙ p
 right-known (suc k) w h p = right-later (suc k) w (λ z. omega arith) ∙ p
 

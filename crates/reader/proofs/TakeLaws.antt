@@ -130,7 +130,7 @@ stands-pass d s zero l =
 stands-pass d s (suc j) l = sym (right-later (suc j) (wordAt (suc j) d) (λ z. omega arith)) ∙ s .each (suc j) l
 
 -- nothing is left of two words exactly where both pass
-zero-pass : (x : ℕ) (p q : Bool) → eqb x 0 ≡ p && q → x ≡ 0 → (p ≡ true) × (q ≡ true)
+pub zero-pass : (x : ℕ) (p q : Bool) → eqb x 0 ≡ p && q → x ≡ 0 → (p ≡ true) × (q ≡ true)
 zero-pass x p q e z = and-eq-true-iff p q .0 (sym e ∙ eq-eqb x 0 z)
 
 pass-zero : (x : ℕ) (p q : Bool) → eqb x 0 ≡ p && q → p ≡ true → q ≡ true → x ≡ 0

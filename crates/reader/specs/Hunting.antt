@@ -15,6 +15,8 @@ use Rattle.reader.specs.declared.Tally.{Tally}
 use Rattle.reader.specs.declared.hunt.Halt.{Halt}
 use Rattle.reader.specs.declared.hunt.Looked.{Looked}
 use Rattle.reader.specs.declared.hunt.Looked.the-variants.{Right, Wrong}
+use Rattle.reader.specs.declared.hunt.Glanced.{Glanced}
+use Rattle.reader.specs.declared.hunt.Glanced.the-variants.{Stops, Open}
 
 -- no position counted
 abbrev pub fresh : Tally
@@ -50,6 +52,11 @@ haltOf t h = record { left = length (h .rest); words = h .words; found = h .foun
 
 unfoldable pub huntOf : List ℕ → ℕ → ℕ → ℕ → Bool → Tally → Halt
 huntOf cells end held words ended t = haltOf t (hunt ended words (heldBits cells end held))
+
+-- where a glance says that a hunt which has not ended stops, it does
+abbrev pub GlancedAt : List ℕ → ℕ → ℕ → ℕ → Tally → Glanced → Type 0
+GlancedAt cells end held words t (Stops halt) = (halt ≡ huntOf cells end held words false t) × (halt .left ≤ held)
+GlancedAt cells end held words t Open = Unit {0}
 
 -- the window at bit x of the buffer passes; so do k words from a bit on
 abbrev pub passesAt : List ℕ → ℕ → Bool

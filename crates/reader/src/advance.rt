@@ -8,7 +8,9 @@ ghost use Rattle.reader.specs.Reading.{knownBits, movedTo, stepCells, st
 use crate::Candidate;
 use crate::cells::push;
 use crate::cells::put_five;
+use crate::hunt::Glanced;
 use crate::hunt::Halt;
+use crate::hunt::glance;
 use crate::hunt::hunt;
 use crate::hunt::seek;
 use line::Six;
@@ -151,6 +153,10 @@ fn burst(cells: &mut [u32; 40], c: Candidate, a: u32, b: u32, d: u32, e: u32, f:
             tally,
         };
         return moved(c.at, end, held, undecided);
+    }
+    let near = glance(cells, end, left, words, tally);
+    if let Glanced::Stops(halt) = near {
+        return moved(c.at, end, held, halt);
     }
     let halt = hunt(cells, end, left, words, false, tally);
     moved(c.at, end, held, halt)

@@ -10,7 +10,7 @@ ghost use Rattle.frame.specs.Header.{nOf};
 ghost use Rattle.word.specs.Word.{dataOf};
 ghost use Rattle.stream.specs.Standing.{size};
 ghost use Rattle.reader.specs.Cells.{heldBits};
-ghost use Rattle.reader.specs.Hunting.{huntOf, countedAs, headlessAt, lookedAt, Headless, Passing, Remembered, rememberedBy};
+ghost use Rattle.reader.specs.Hunting.{huntOf, countedAs, headlessAt, lookedAt, Headless, Passing, Remembered, rememberedBy, GlancedAt};
 ghost use Rattle.reader.specs.declared.Tally.{Tally};
 use crate::Tally;
 use word::Tested;
@@ -28,6 +28,12 @@ pub struct Halt {
 pub(crate) enum Looked {
     Right,
     Wrong(Tally),
+}
+
+// Where the hunt stops, or that a glance does not tell.
+pub(crate) enum Glanced {
+    Stops(Halt),
+    Open,
 }
 
 // One position more that a word with this remainder ruled out.
@@ -87,6 +93,44 @@ fn whole(cells: &[u32; 40], end: usize, left: usize, words: usize) -> bool
     }
     let n = n_in(crate::cells::window(cells, end - left + 30));
     n + 2 <= words
+}
+
+// A glance at the next word of a candidate: where it is the last that has come, and right, the hunt stops here. It is tested by division, since a second
+// place that asks the tables would take them out of the hunt's loop.
+pub(crate) fn glance(
+    cells: &[u32; 40],
+    end: usize,
+    left: usize,
+    words: usize,
+    tally: Tally,
+) -> Glanced
+    requires { ⌜ (length (now cells) ≡ 40) × (end ≤ 1280) × (left ≤ end) × (words ≤ 32) × (32 + 30 * words ≤ left) ⌝ }
+    ensures { λ r. ⌜ GlancedAt (now (cells .entry)) end left words tally r ⌝ }
+{
+    if 62 + 30 * words <= left {
+        return Glanced::Open;
+    }
+    let w = crate::cells::window(cells, end - left + 30 * words);
+    if lacks_preamble(words, w) {
+        return Glanced::Open;
+    }
+    if crate::taking::left_over(w, 0) != 0 {
+        return Glanced::Open;
+    }
+    if whole(cells, end, left, words + 1) {
+        return Glanced::Stops(Halt {
+            left,
+            words: 0,
+            found: true,
+            tally,
+        });
+    }
+    Glanced::Stops(Halt {
+        left,
+        words: words + 1,
+        found: false,
+        tally,
+    })
 }
 
 // How many positions from bit `off` of two cells on have nine bits that are not D30* and D1 to D8 of a preamble, as it is or turned over:

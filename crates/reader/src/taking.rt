@@ -51,7 +51,7 @@ fn both_of(one: u32, two: u32) -> u64
 // are a word of a cyclic code, a multiple of 1 + x^2 + x^5 over two elements, and D30 makes the ones even: a factor 1 + x more. `part` and `times`
 // multiply by the quotient of 1 + x^31 and the two factors, of degree 25: bits 25 to 30 are then zero where nothing is left, six ones where the ones
 // alone are odd. The half below reaches bit 55 and no further.
-fn left_over(one: u32, two: u32) -> u64
+pub(crate) fn left_over(one: u32, two: u32) -> u64
     ensures { λ r. ⌜ eqb r 0 ≡ passes (bits 32 one) && passes (bits 32 two) ⌝ }
 {
     let both = both_of(one, two);

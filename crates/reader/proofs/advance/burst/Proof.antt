@@ -1,15 +1,16 @@
 -- `burst` meets its contract: five times six bits put in at once, then the hunt, from where seeking stops. Assumes nothing.
 use borrow.Author.Needs.{needs}
 use denote.Ref.{now}
-use mathlib.Core.Path.{_≡_, sym, ap, _∙_}
+use mathlib.Core.Path.{_≡_, sym, ap, subst, _∙_}
 use mathlib.Core.Bool.{false}
 use mathlib.Core.List.{[], _∷_}
 use Prim.Native.Nat.{_+_}
 use native.Mathlib.Omega.{arith}
 use lib.ListN.{length}
-use Rattle.reader.specs.Hunting.{huntOf}
+use Rattle.reader.specs.Hunting.{huntOf, GlancedAt}
 use Rattle.reader.specs.Reading.{movedTo, manyCells, manyTo}
 use Rattle.reader.specs.declared.hunt.Halt.{Halt}
+use Rattle.reader.specs.declared.hunt.Glanced.the-variants.{Stops}
 use Rattle.reader.proofs.Ahead.{length-five, many-cells, many-to}
 use Rattle.reader.proofs.Steps.{step-wait}
 use Rattle.reader.proofs.advance.burst.Statement.{statement}
@@ -61,21 +62,56 @@ returns c =
     (omega (arith, s .pre .2, sought .seek .ensures .0)) (s .args .c .tally) (s .args .c .words) (s .pre .4) (c .before .if1 .taken) in
     (c .moved .ensures ∙ moved-is put _ (sym (sought .seek .ensures .1 false (s .args .c .tally) ∙ stays)), cells-are put)
 
+glance-requires : tie.Need-glance-requires
+glance-requires c κs =
+    let sought = c .before .before in
+    let put = sought .before .before in
+    let p = start put .pre in
+    (long put, omega (arith, p .1), omega (arith, p .2, sought .seek .ensures .0), p .4, c .before .if1 .left)
+
+-- ---- a glance tells where the hunt stops
+
+module _ (c : tie.After-near) where
+  abbrev sought : tie.After-seek
+  sought = c .before .before .before .before .before
+
+  abbrev put : tie.After-put-five
+  put = sought .before .before
+
+  stops : GlancedAt (put .put-five .last .0) (start put .args .c .end + 30) (sought .seek .result) (start put .args .c .words) (start put .args .c .tally)
+      (Stops (c .near .given .0 .0))
+  stops = subst (GlancedAt _ _ _ _ _) (c .near .given .1) (c .before .before .glance .ensures)
+
+moved-requires-2 : tie.Need-moved-requires-2
+moved-requires-2 c κs =
+    let told = c .before in
+    (omega (arith, stops told .1, sought told .seek .ensures .0), omega (arith, start (put told) .pre .3))
+
+returns-2 : tie.Need-returns-2
+returns-2 c =
+    let told = c .before .before in (
+      c .moved2 .ensures ∙ moved-is (put told) _ (stops told .0 ∙ sym (sought told .seek .ensures .1 false (start (put told) .args .c .tally))),
+      cells-are (put told),
+    )
+
+-- ---- the hunt goes on
+
 hunt-requires : tie.Need-hunt-requires
 hunt-requires c κs =
-    let sought = c .before .before in
+    let sought = c .before .before .before .before .before .before in
     let put = sought .before .before in
     let p = start put .pre in
     (long put, omega (arith, p .1), omega (arith, p .2, sought .seek .ensures .0), p .4)
 
-returns-2 : tie.Need-returns-2
-returns-2 c =
-    let sought = c .before .before .before .before in
+returns-3 : tie.Need-returns-3
+returns-3 c =
+    let sought = c .before .before .before .before .before .before .before .before in
     let put = sought .before .before in
-    (c .moved2 .ensures ∙ moved-is put _ (c .before .hunt .ensures .0 ∙ sym (sought .seek .ensures .1 false (start put .args .c .tally))), cells-are put)
+    (c .moved3 .ensures ∙ moved-is put _ (c .before .hunt .ensures .0 ∙ sym (sought .seek .ensures .1 false (start put .args .c .tally))), cells-are put)
 
 pub burst-spec : {M : Type 1} → statement M
 burst-spec =
     tie.close
     (tie.spec (λ c. search needs) (λ c. search needs) (λ c κs. search needs) seek-requires (λ c. search needs) (λ c. search needs)
-    (λ c κs. search needs) returns hunt-requires (λ c κs. search needs) returns-2)
+    (λ c κs. search needs) returns glance-requires (λ c. search needs) moved-requires-2 returns-2 (λ c. search needs) hunt-requires
+    (λ c κs. search needs) returns-3)
