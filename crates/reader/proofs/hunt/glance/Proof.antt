@@ -32,9 +32,15 @@ module _ (c : tie.After-whole) where
       (read .window .ensures) (sym (asked .lacks-preamble .ensures) ∙ divided .before .if2 .left) (divided .left-over .result) _
       (divided .left-over .ensures) (c .before .if3 .left) (read .before .if1 .left) all (sym (c .whole .ensures) ∙ e)
 
+returns-4 : tie.Need-returns-4
+returns-4 c = stops (c .before) true (c .if4 .taken)
+
+returns-5 : tie.Need-returns-5
+returns-5 c = stops (c .before) false (c .if4 .left)
+
 pub glance-spec : {M : Type 1} → statement M
 glance-spec =
     tie.close
     (tie.spec (λ c. search needs) (λ c. search needs) (λ c. search needs) (λ c. search needs) (λ c. search needs) (λ c. search needs)
     (λ c κs. search needs) (λ c κs. search needs) (λ c. search needs) (λ c κs. search needs) (λ c. search needs) (λ c. search needs)
-    (λ c κs. search needs) (λ c. stops (c .before) true (c .if4 .taken)) (λ c. search needs) (λ c. stops (c .before) false (c .if4 .left)))
+    (λ c κs. search needs) returns-4 (λ c. search needs) returns-5)
