@@ -12,7 +12,7 @@
  * Frames. A frame passes as its journal record: the mark 0x52 0x32, one byte N, then the header's two words and the N data
  * words, three bytes each with the highest bits first; 3N + 9 bytes, at most RTCM2_FRAME_MAX. Where a frame is read, bytes
  * that follow the record are ignored. A record has no place for the two bits before word 1, and no call on a frame depends on
- * them; rtcm2_take gives them beside it. "14, 15, 16, 15, 16" below is the order in which such a record is looked at:
+ * them; rtcm2_take and rtcm2_read give them beside it. "14, 15, 16, 15, 16" below is the order in which such a record is looked at:
  * no mark; the N byte missing; N over 31; cut short; N unequal to N of word 2, or a wrong preamble.
  *
  * Headers. Where a frame is made, its header comes as five numbers: type 1 to 64 (`kind`), station 0 to 1023, Z count 0 to 8191
@@ -75,6 +75,7 @@ enum {
 enum {
     RTCM2_STATE_SIZE = 196,     /* a reader's state; rtcm2_state_size answers the same */
     RTCM2_FRAME_MAX = 102,      /* the longest frame, 31 data words */
+    RTCM2_READ_ROW = 108,       /* one row of rtcm2_read: position, D29*, D30* and a frame */
     RTCM2_LINE_MAX = 165,       /* the longest frame on the line */
     RTCM2_WORDS_MAX = 135,      /* the longest record that keeps the words */
     RTCM2_CORRECTION_SIZE = 7,  /* one correction */
@@ -114,6 +115,18 @@ uint8_t rtcm2_end(uint8_t *state, size_t state_size);
  * held is handed out: where a state says that one waits and none stands, the refusal is 4. Refusals: 5, 4, 13. */
 uint8_t rtcm2_take(uint8_t *state, size_t state_size, uint8_t *frame, size_t frame_size, size_t *length, uint32_t *at,
                    uint8_t *d29, uint8_t *d30);
+
+/* Feeds and takes in turns: one call for what a read of the line brought. Where no frame waits, the bytes left are fed as
+ * rtcm2_feed_all feeds them; the frame that then waits is taken as rtcm2_take takes it and put into the next row. One that waits
+ * before the call goes out first. It ends when no frame is left to take, or after the last row that there is room for, and then
+ * no more is fed: rows_size / RTCM2_READ_ROW rows. `used` bytes were consumed, `passed` of them carry no bit, `count` rows were
+ * put. Row i stands at RTCM2_READ_ROW * i: the position of the frame's first bit, modulo 2^32, in four bytes, low byte first;
+ * D29* and D30*, a byte each, 0 or 1; the frame's record. What stands behind a record in its row, and all behind the last row
+ * put, is left as it was. Where every row was put, bytes may be left and a frame may wait: call again. Frames that the end
+ * releases are for rtcm2_take. 5 also where a damaged state says that a frame waits and none stands in the bits held; a call
+ * that comes to such a state ends there. Refusals: 5, 3, 13. */
+uint8_t rtcm2_read(uint8_t *state, size_t state_size, const uint8_t *bytes, size_t bytes_size, uint8_t *rows, size_t rows_size,
+                   size_t *used, size_t *passed, size_t *count);
 
 /* How many positions of the line a word has ruled out so far: the first word of a position to fail its parity has a remainder,
  * received parity xor computed parity, with an odd number of ones, `odd`, or an even one, `even`; each modulo 2^32. A position

@@ -12,9 +12,13 @@
 #include <inttypes.h>
 #include <stdio.h>
 #include <stdlib.h>
+#include <string.h>
 #include <unistd.h>
 
 #include <rtcm2.h>
+
+/* How many frames are read in one call at most. */
+enum { ROWS = 64 };
 
 /* What was printed so far. */
 struct totals {
@@ -129,6 +133,20 @@ static void print_frame(const struct frame *frame, struct totals *totals)
     totals->frames++;
 }
 
+/* Prints the frame of a row of rtcm2_read. */
+static void print_row(const uint8_t *row, struct totals *totals)
+{
+    struct frame frame;
+
+    frame.at = (uint32_t)row[0] | (uint32_t)row[1] << 8 | (uint32_t)row[2] << 16 | (uint32_t)row[3] << 24;
+    frame.d29 = row[4];
+    frame.d30 = row[5];
+    /* N, the record's third byte, says how long it is */
+    frame.length = 9 + 3 * (size_t)row[8];
+    memcpy(frame.record, row + 6, frame.length);
+    print_frame(&frame, totals);
+}
+
 /* Takes every frame that waits. */
 static void take_all(uint8_t *state, struct totals *totals)
 {
@@ -144,17 +162,20 @@ static void take_all(uint8_t *state, struct totals *totals)
     }
 }
 
-/* Feeds bytes of the line, taking every frame as soon as it waits. What was printed can be read before more of the line is. */
+/* Feeds bytes of the line and takes their frames: one call, and another where every row has a frame. What was printed can be read
+ * before more of the line is. */
 static void feed(uint8_t *state, const uint8_t *bytes, size_t size, struct totals *totals)
 {
-    while (size > 0) {
-        size_t used, passed;
+    uint8_t rows[ROWS * RTCM2_READ_ROW];
+    size_t used, passed, count;
 
-        check(rtcm2_feed_all(state, RTCM2_STATE_SIZE, bytes, size, &used, &passed), "rtcm2_feed_all");
-        take_all(state, totals);
+    do {
+        check(rtcm2_read(state, RTCM2_STATE_SIZE, bytes, size, rows, sizeof rows, &used, &passed, &count), "rtcm2_read");
+        for (size_t i = 0; i < count; i++)
+            print_row(rows + i * RTCM2_READ_ROW, totals);
         bytes += used;
         size -= used;
-    }
+    } while (count == ROWS);
     fflush(stdout);
 }
 

@@ -10,6 +10,9 @@ from .refusals import Number, Refusal
 
 STATE_SIZE = CONSTANTS["STATE_SIZE"]
 LINE_MAX = CONSTANTS["LINE_MAX"]
+READ_ROW = CONSTANTS["READ_ROW"]
+ROWS = 512
+"""How many frames one call of the library gives at most: more than a read of a live line brings."""
 
 
 class Source(Protocol):
@@ -45,18 +48,24 @@ class Counts(NamedTuple):
     even: int
 
 
+def frame_of(row: bytes) -> Frame:
+    """The frame of a row that rtcm2_read has put."""
+    return Frame(row[6:], Carried(row[4], row[5]), int.from_bytes(row[:4], "little"))
+
+
 class Reader:
     """Finds the frames of a line.
 
     Over a source it is an iterator: `for frame in Reader(file)` gives each frame as soon as it stands, on a live line too,
     and after the source's end those that the end releases. Without one, bytes are pushed: `feed` gives the frames that they
-    bring, `end` the last ones. Every waiting frame is taken at once, so that no frame that stands is lost. One reader is
-    for one thread at a time."""
+    bring, `end` the last ones. Every waiting frame is taken at once, so that no frame that stands is lost. What a read of the
+    source brings is one call of the library. One reader is for one thread at a time."""
 
     def __init__(self, source: Source | None = None) -> None:
         self._source = source
         self._state = lent(STATE_SIZE)
         ask("rtcm2_start", self._state, STATE_SIZE)
+        self._rows = lent(ROWS * READ_ROW)
         self.bytes_read = 0
         """How many bytes were fed."""
         self.passed = 0
@@ -88,23 +97,18 @@ class Reader:
         """Feeds all of the bytes, and gives the frames that they bring. Refusals: 5, and 3 after the end."""
         data = bytes(data)
         start, place = address(data), 0
-        used, passed = ctypes.c_size_t(), ctypes.c_size_t()
+        used, passed, count = ctypes.c_size_t(), ctypes.c_size_t(), ctypes.c_size_t()
+        places = [ctypes.byref(number) for number in (used, passed, count)]
         frames: list[Frame] = []
         while True:
-            ask(
-                "rtcm2_feed_all",
-                self._state,
-                STATE_SIZE,
-                start + place,
-                len(data) - place,
-                ctypes.byref(used),
-                ctypes.byref(passed),
-            )
+            rest = (start + place, len(data) - place)
+            ask("rtcm2_read", self._state, STATE_SIZE, *rest, self._rows, len(self._rows), *places)
             place += used.value
             self.bytes_read += used.value
             self.passed += passed.value
-            frames.extend(self._waiting())
-            if place == len(data):
+            rows = first(self._rows, READ_ROW * count.value)
+            frames.extend(frame_of(rows[i : i + READ_ROW]) for i in range(0, len(rows), READ_ROW))
+            if place == len(data) and count.value < ROWS:
                 return frames
 
     def end(self) -> list[Frame]:

@@ -1,11 +1,14 @@
-"""Lines: bytes in pieces of any size, a live pipe, a reader's state kept, and what is refused."""
+"""Lines: bytes in pieces of any size, more frames than a call gives, a live pipe, a reader's state kept, and what is refused."""
 
+import ctypes
 import io
 import os
 import threading
 import unittest
 
 import rtcm2
+from rtcm2._library import ask
+from rtcm2.lines import ROWS, STATE_SIZE
 
 from . import material
 
@@ -64,6 +67,34 @@ class Lines(unittest.TestCase):
         for wrong in (b"", bytes(196), reader.state[:-1]):
             with self.assertRaisesRegex(rtcm2.Refusal, "^refusal 5: "):
                 rtcm2.Reader.resumed(wrong)
+
+    def test_more_frames_than_rows(self) -> None:
+        """A frame that ends with two zeros stands again behind itself; fed at once there are more than one call gives."""
+        for count in (ROWS - 1, ROWS, ROWS + 1, 3 * ROWS, 3 * ROWS + 5):
+            reader = rtcm2.Reader()
+            frames = reader.feed(STREAM[:1] + count * STREAM[1:] + b"\0\xff")
+            self.assertEqual([frame.at for frame in frames], [6 + 60 * i for i in range(count)])
+            self.assertEqual((reader.bytes_read, reader.passed), (3 + 10 * count, 2))
+            self.assertEqual(reader.end(), [])
+
+    def test_waiting_frame_first(self) -> None:
+        """A state may be kept while a frame waits, by a program that feeds and takes by itself."""
+        kept = rtcm2.Reader()
+        used, passed = ctypes.c_size_t(), ctypes.c_size_t()
+        fed = (STREAM, len(STREAM), ctypes.byref(used), ctypes.byref(passed))
+        ask("rtcm2_feed_all", kept._state, STATE_SIZE, *fed)
+        reader = rtcm2.Reader.resumed(kept.state)
+        self.assertEqual([frame.at for frame in reader.feed(STREAM[1:])], [6, 66])
+        self.assertEqual([frame.at for frame in rtcm2.Reader.resumed(kept.state).feed(b"")], [6])
+
+    def test_damaged_state(self) -> None:
+        """A state that says a frame waits, and holds none."""
+        state = bytearray(rtcm2.Reader().state)
+        state[20] = 1
+        reader = rtcm2.Reader.resumed(bytes(state))
+        with self.assertRaises(rtcm2.Refusal) as refused:
+            reader.feed(STREAM)
+        self.assertEqual((refused.exception.number, reader.state), (rtcm2.Number.OUTSIDE, bytes(state)))
 
     def test_refused_after_the_end(self) -> None:
         reader = rtcm2.Reader()

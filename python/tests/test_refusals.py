@@ -35,7 +35,7 @@ class Refused(unittest.TestCase):
 
     def test_header(self) -> None:
         """The header beside the library is the repository's; the package has its refusals, its version, and its functions,
-        which are those that the library exports; and calls each of them but two, which others stand for."""
+        which are those that the library exports; and calls each of them but three, which others stand for."""
         header = (material.ROOT / "include" / "rtcm2.h").read_text(encoding="utf-8")
         self.assertEqual(header, (_header.HERE / "rtcm2.h").read_text(encoding="utf-8"))
         self.assertEqual(_header.NUMBERS, {number.name: number.value for number in rtcm2.Number})
@@ -47,7 +47,7 @@ class Refused(unittest.TestCase):
         self.assertEqual(set(_header.CALLS), set(re.findall(r"^\w+ T (rtcm2_\w+)$", symbols, re.MULTILINE)))
         sources = "".join(path.read_text(encoding="utf-8") for path in _header.HERE.glob("*.py"))
         uncalled = {name for name in _header.CALLS if f'"{name}"' not in sources}
-        self.assertEqual(uncalled, {"rtcm2_state_size", "rtcm2_feed"})
+        self.assertEqual(uncalled, {"rtcm2_state_size", "rtcm2_feed", "rtcm2_feed_all"})
 
     def test_exception(self) -> None:
         refusal = rtcm2.Refusal(8, "rtcm2_read_position", 12)

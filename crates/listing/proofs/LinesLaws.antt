@@ -1,6 +1,6 @@
 -- Lines one after the other: what a turn of the loop of `put_lines` leaves. Assumes nothing.
 use mathlib.Core.Path.{_≡_, refl, sym, ap, ap₂, subst, _∙_}
-use mathlib.Core.Bool.{Bool, true, false, cond, not}
+use mathlib.Core.Bool.{Bool, true, false, not}
 use mathlib.Core.List.{List, [], _∷_, _++_}
 use Prim.Native.Nat.{ℕ, zero, suc, _+_, _-_, _≤_, _<_}
 use native.Mathlib.Nat.{add-zero, zero-add, add-assoc}
@@ -8,9 +8,7 @@ use native.Mathlib.Omega.{arith}
 use lib.ListN.{length, take, drop, length-append, length-drop}
 use lib.Seq.{sets, take-all, drop-drop}
 use Rattle.answer.specs.Order.{inOrder}
-use Rattle.bits.specs.Bits.{number}
 use Rattle.bits.proofs.Stores.{sets-append}
-use Rattle.line.specs.Line.{isData, six}
 use Rattle.frame.specs.Header.{factors}
 use Rattle.frame.specs.Frames.{blank}
 use Rattle.frame.specs.Widths.{stateOutside, pairOutside}
@@ -19,11 +17,11 @@ use Rattle.frame.proofs.WidthLaws.{to-inside}
 use Rattle.frame.proofs.FrameLaws.{header-within, pair-within}
 use Rattle.stream.specs.Standing.{frameAt}
 use Rattle.stream.proofs.Data.{frame-within}
-use Rattle.reader.specs.Reading.{Run, bitsOf, past, frameWaits, stepCells, stepTo, spent, runTo, ranBy, fedAllBy, takeTo, takenBy}
-use Rattle.reader.specs.declared.Candidate.{Candidate}
+use Rattle.reader.specs.Reading.{bitsOf, past, frameWaits, runTo, ranBy, fedAllBy, takeTo, takenBy}
 use Rattle.reader.specs.declared.Reader.{Reader}
 use Rattle.reader.specs.declared.Answer.the-variants.{Done, Refused}
 use Rattle.reader.specs.declared.Taken.{Taken}
+use Rattle.reader.proofs.Running.{run-counts}
 use Rattle.listing.specs.Text.{frameLine}
 use Rattle.listing.specs.Listing.{fedOn, handedOn, Lines, lineThen, linesOf, linedBy}
 use Rattle.listing.specs.declared.Listing.{Listing}
@@ -32,21 +30,6 @@ use Rattle.listing.specs.declared.Fed.{Fed}
 -- ---- the reader's answers
 
 -- no more bytes are used than there are
-run-used : (bs cells : List ℕ) (c : Candidate) → runTo cells c bs .used ≤ length bs
-unfolding runTo
-run-used [] cells c = omega arith
-run-used (b ∷ bs) cells c = go (c .waits) (isData b) (run-used bs (stepCells cells c (number (six b))) (stepTo cells c (number (six b)))) (run-used bs cells c)
-  where
-    on-run : Run
-    on-run = runTo (stepCells cells c (number (six b))) (stepTo cells c (number (six b))) bs
-
-    go : (w z : Bool) → on-run .used ≤ length bs → runTo cells c bs .used ≤ length bs
-        → cond w (record { cells = cells; candidate = c; used = 0; passed = 0 })
-        (cond z (spent 1 0 on-run) (spent 1 1 (runTo cells c bs))) .used ≤ suc (length bs)
-    go true z on over = omega arith
-    go false true on over = omega arith
-    go false false on over = omega arith
-
 pub fed-used : (l : Listing) (bs : List ℕ) → fedOn l bs .used ≤ length bs
 unfolding fedOn fedAllBy
 fed-used l bs = go (past (l .reader)) (l .reader .ended) (l .reader .candidate .waits)
@@ -57,7 +40,7 @@ fed-used l bs = go (past (l .reader)) (l .reader .ended) (l .reader .candidate .
     go true x w = omega arith
     go false true w = omega arith
     go false false true = omega arith
-    go false false false = run-used bs (l .reader .cells) (l .reader .candidate)
+    go false false false = run-counts bs (l .reader .cells) (l .reader .candidate) .0
 
 pub used-le : (l : Listing) (bs : List ℕ) (fed : Fed) → fed ≡ fedOn l bs → fed .used ≤ length bs
 used-le l bs fed e = subst (λ (x : Fed). x .used ≤ length bs) (sym e) (fed-used l bs)

@@ -23,10 +23,12 @@ use Rattle.frame.specs.declared.HeaderWords.the-variants as words
 use Rattle.frame.specs.declared.Widths.the-variants.{Within, Outside}
 use Rattle.frame.specs.declared.Clock.the-variants.{Hour, Late}
 use Rattle.reader.specs.Reading.{fedBy, fedAllBy, endedBy, takenBy, saysAnswer}
+use Rattle.reader.specs.Rows.{noRows, rowsBy}
 use Rattle.reader.specs.declared.Answer.the-variants.{Refused}
 use Rattle.reader.specs.declared.Next.{Next}
 use Rattle.reader.specs.declared.FedAll.{FedAll}
 use Rattle.reader.specs.declared.Taken.{Taken}
+use Rattle.reader.specs.declared.rows.RowsRead.{RowsRead}
 use Rattle.writer.specs.Answer.{saysOpened, saysWritten}
 use Rattle.writer.specs.declared.Opened.the-variants as opened
 use Rattle.writer.specs.declared.Written.the-variants as written
@@ -120,7 +122,7 @@ entry-numbered l = go (eqb (layoutNumber l) (layoutNumber layout.Text))
     go false = refl
 
 pub carries-its-number : CarriesItsNumber
-unfolding fedBy fedAllBy endedBy takenBy countCorrections correctionAt makeCorrections countHealths healthAt makeHealths readPosition makePosition
+unfolding fedBy fedAllBy endedBy takenBy rowsBy countCorrections correctionAt makeCorrections countHealths healthAt makeHealths readPosition makePosition
     countObservations readEpoch observationAt makeObservations countGenerals readHead generalAt makeGenerals readGeneralNull makeGeneralNull
     readNull makeNull readText makeText checkProfile refusedMade doneMade printedBy pieceBy
     finishBy linePut addedBy journalAdded rowNumbered
@@ -129,6 +131,7 @@ carries-its-number = record {
   feed-all = λ r bs. told (λ (x : FedAll). saysAnswer (x .answer)) (λ n. record { answer = Refused n; used = 0; passed = 0; reader = r }) _ tt refl refl refl;
   reader-end = λ r. told (λ (x : Next). saysAnswer (x .answer)) (λ n. record { answer = Refused n; reader = r }) _ tt refl refl refl;
   reader-take = λ r. told (λ (x : Taken). saysAnswer (x .answer)) (λ n. record { answer = Refused n; at = 0; frame = blank; reader = r }) _ tt refl refl refl;
+  read-rows = λ r bytes rows. told (λ (x : RowsRead). saysAnswer (x .answer)) (noRows r) _ tt refl refl refl;
   count-corrections = λ f. told saysCount count.Refused _ _ refl refl refl;
   correction-at = λ f i. told saysCorrectionRead correction.Refused _ _ refl refl refl;
   count-observations = λ f. told saysCount count.Refused _ _ refl refl refl;

@@ -11,11 +11,13 @@ use Rattle.answer.proofs.OrderLaws.{order-refuses}
 use Rattle.frame.specs.Frames.{blank}
 use Rattle.frame.specs.Widths.{numbersOutside, headerOutside, outside}
 use Rattle.reader.specs.Reading.{fedBy, fedAllBy, endedBy, takenBy}
+use Rattle.reader.specs.Rows.{noRows, rowsBy, rowsTo}
 use Rattle.reader.specs.declared.Reader.{Reader}
 use Rattle.reader.specs.declared.Answer.the-variants.{Refused}
 use Rattle.reader.specs.declared.Next.{Next}
 use Rattle.reader.specs.declared.FedAll.{FedAll}
 use Rattle.reader.specs.declared.Taken.{Taken}
+use Rattle.reader.specs.declared.rows.RowsRead.{RowsRead}
 use Rattle.writer.specs.Sending.{bitsAfter, carriedOn, bytesFor, lineLength}
 use Rattle.writer.specs.Answer.{over, lead, saysOpened, saysWritten}
 use Rattle.writer.proofs.Bytes.{length-bytes}
@@ -91,13 +93,15 @@ moved-done (moved.Done read written) v e = cc
 moved-done (moved.Refused k) v e = let z : _≡_ {A = ℕ} 0 1 = cc in absurd (omega arith)
 
 pub changes-neither : ChangesNeither
-unfolding fedBy fedAllBy endedBy takenBy readText bufferAfter printedBy printedTo pieceBy pieceText finishBy finishText linePut lineTo addedBy
+unfolding fedBy fedAllBy endedBy takenBy rowsBy rowsTo readText bufferAfter printedBy printedTo pieceBy pieceText finishBy finishText linePut lineTo addedBy
     journalAdded
 changes-neither = record {
   feed = λ r b. keeps (carries-its-number .feed r b) (λ (x : Next). x .reader) (λ n. record { answer = Refused n; reader = r }) _ _ (λ n. refl);
   feed-all = λ r bs. keeps (carries-its-number .feed-all r bs) (λ (x : FedAll). x .reader) (fed-none r) _ _ (λ n. refl);
   reader-end = λ r. keeps (carries-its-number .reader-end r) (λ (x : Next). x .reader) (λ n. record { answer = Refused n; reader = r }) _ _ (λ n. refl);
   reader-take = λ r. keeps (carries-its-number .reader-take r) (λ (x : Taken). x .reader) (taken-none r) _ _ (λ n. refl);
+  read-rows = λ r bytes rows. keeps (carries-its-number .read-rows r bytes rows) (λ (x : RowsRead). x .reader) (noRows r) _ _ (λ n. refl);
+  read-rows-output = λ r bytes rows. keeps (carries-its-number .read-rows r bytes rows) (λ b. b) (λ n. rows) _ _ (λ n. refl);
   writer-open = λ buffer. keeps (carries-its-number .writer-open buffer) (λ b. b) (λ n. buffer) _ _ (λ n. refl);
   write = λ f c buffer. keeps (carries-its-number .write f c buffer) (λ b. b) (λ n. buffer) _ _ (λ n. refl);
   put-frame = λ f buffer. keeps (carries-its-number .put-frame f buffer) (λ b. b) (λ n. buffer) _ _ (λ n. refl);
@@ -124,13 +128,15 @@ either-alone bs true = keeps (carries-its-number .recall-words bs) (λ (x : Reca
 either-alone bs false = keeps (carries-its-number .recall bs) (λ (x : Recalled). x .frame) unrecalled _ _ (λ n. refl)
 
 pub number-alone : NumberAlone
-unfolding fedAllBy takenBy makeCorrections makeHealths makeObservations makeGenerals makeGeneralNull makePosition makeNull makeText cutCorrections refusedMade
+unfolding fedAllBy takenBy rowsBy makeCorrections makeHealths makeObservations makeGenerals makeGeneralNull makePosition makeNull makeText cutCorrections refusedMade
     refusedCut pieceBy finishBy
     journalAdded
 number-alone = record {
   blank-outside = unfold blank outside headerOutside numbersOutside in refl;
   feed-all = λ r bs. keeps (carries-its-number .feed-all r bs) (λ (x : FedAll). (x .used, x .passed)) (fed-none r) _ _ (λ n. refl);
   reader-take = λ r. keeps (carries-its-number .reader-take r) (λ (x : Taken). (x .at, x .frame)) (taken-none r) _ _ (λ n. refl);
+  read-rows = λ r bytes rows.
+      keeps (carries-its-number .read-rows r bytes rows) (λ (x : RowsRead). (x .used, (x .passed, x .count))) (noRows r) _ _ (λ n. refl);
   recall = λ bs. keeps (carries-its-number .recall bs) (λ (x : Recalled). x .frame) unrecalled _ _ (λ n. refl);
   recall-words = λ bs. keeps (carries-its-number .recall-words bs) (λ (x : Recalled). x .frame) unrecalled _ _ (λ n. refl);
   recall-either = λ bs. either-alone bs (keepsWords bs);

@@ -5,6 +5,9 @@ use Rattle.promises.proofs.Demand1.{demand-1}
 use Rattle.promises.proofs.Demand2.{demand-2}
 use Rattle.promises.proofs.Demand3.{handed-out, one-by-one, damage-begins-nothing, only-frames, nothing-lost, as-soon-as, never-five}
 use Rattle.promises.proofs.Slices.{in-slices}
+use Rattle.promises.proofs.Turns.{turns-are-calls}
+use Rattle.promises.proofs.FreshRows.{rows-among-calls}
+use Rattle.promises.proofs.RowLaws.{rows-hold}
 use Rattle.promises.proofs.LateJoiners.{late-joiners}
 use Rattle.promises.proofs.WordsKept.{words-kept}
 use Rattle.promises.proofs.SmallBeacon.{small-beacon}
@@ -37,6 +40,7 @@ demands = record {
   first = demand-1;
   second = demand-2;
   third = demand-3;
+  rows = record { turns = turns-are-calls; rows = rows-hold; among = rows-among-calls };
   counters = counters;
   late = late-joiners;
   words = words-kept;

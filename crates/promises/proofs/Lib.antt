@@ -35,6 +35,9 @@ pub mod ReadsBack
 pub mod Demand2
 pub mod Telling
 pub mod Slices
+pub mod Turns
+pub mod FreshRows
+pub mod RowLaws
 pub mod LateJoiners
 pub mod SmallBeacon
 pub mod SeasonRuns

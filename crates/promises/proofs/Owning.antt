@@ -51,7 +51,7 @@ first-stored out text h = record {
     fits = omega arith
 
 -- bytes stored one by one from a place on
-between-stored : (text : List ℕ) (place : ℕ) (buffer : List ℕ) → place + length text ≤ length buffer
+pub between-stored : (text : List ℕ) (place : ℕ) (buffer : List ℕ) → place + length text ≤ length buffer
     → OnlyBetween place (place + length text) (sets buffer place text) buffer
 between-stored text place buffer fits = record {
   long = length-sets buffer place text;

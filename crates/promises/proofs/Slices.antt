@@ -26,7 +26,7 @@ use Rattle.promises.proofs.Telling.{bits-after}
 
 -- ---- one slice
 
-used-le : (r : Reader) (bs : List ℕ) → fedAllBy r bs .used ≤ length bs
+pub used-le : (r : Reader) (bs : List ℕ) → fedAllBy r bs .used ≤ length bs
 unfolding fedOn
 used-le r bs = fed-used (record { reader = r; frames = 0; bytes = 0; passed = 0 }) bs
 

@@ -14,6 +14,8 @@ stream-calls = record {
   reader-end = record { asks-nothing = λ κs a. tt; settles = λ κs a z e p. p; ends = reader.end.Met.met };
   reader-take = record { asks-nothing = λ κs a. tt; settles = λ κs a z e p. p; ends = reader.take.Met.met };
   past = record { asks-nothing = λ κs a. tt; settles = λ κs a z e p. p; ends = reader.checks.past.Met.met };
+  word-passes = record { asks-nothing = λ κs a. tt; settles = λ κs a z e p. p; ends = reader.division.passes.Met.met };
+  read-rows = record { asks-nothing = λ κs a. tt; settles = λ κs a z e p. p .0; leaves = λ κs a z e p. p .1; ends = reader.rows.read_rows.Met.met };
   writer-open = record { asks-nothing = λ κs a. tt; settles = λ κs a z e p. p .0; leaves = λ κs a z e p. p .1; ends = writer.open.Met.met };
   write = record { asks-nothing = λ κs a. tt; settles = λ κs a z e p. p .0; leaves = λ κs a z e p. p .1; ends = writer.write.Met.met };
   put-frame = record { asks-nothing = λ κs a. tt; settles = λ κs a z e p. p .0; leaves = λ κs a z e p. p .1; ends = journal.put_frame.Met.met };

@@ -22,6 +22,7 @@ use Rattle.frame.specs.declared.Layout.the-variants as layout
 use Rattle.frame.specs.Layout.{systemOf}
 use Rattle.record_fields.specs.Coding.{frameBits, entryIn}
 use Rattle.reader.specs.Reading.{past, frameWaits, busy, fedBy, fedAllBy, endedBy, takenBy, saysAnswer}
+use Rattle.reader.specs.Rows.{rowsOrder, rowsBy}
 use Rattle.reader.specs.declared.Reader.{Reader}
 use Rattle.writer.specs.Answer.{openChecks, openedBy, writeChecks, writtenBy, saysOpened, saysWritten}
 use Rattle.frame.specs.declared.Carried.{Carried}
@@ -91,6 +92,8 @@ pub record CarriesItsNumber : Type 0 where
   pub feed-all : (r : Reader) (bs : List ℕ) → Ordered (5 ∷ 3 ∷ 2 ∷ []) (busy r) (saysAnswer (fedAllBy r bs .answer))
   pub reader-end : (r : Reader) → Ordered (5 ∷ 3 ∷ 2 ∷ []) (busy r) (saysAnswer (endedBy r .answer))
   pub reader-take : (r : Reader) → Ordered (5 ∷ 4 ∷ []) ((past r, 5) ∷ (not (frameWaits r), 4) ∷ []) (saysAnswer (takenBy r .answer))
+  -- reading rows: 5, 5 where a frame is said to wait and none stands, 3, 13
+  pub read-rows : (r : Reader) (bytes rows : List ℕ) → Ordered (5 ∷ 5 ∷ 3 ∷ 13 ∷ []) (rowsOrder r rows) (saysAnswer (rowsBy r bytes rows .answer))
   -- reading a record: 5, 6, 7, 8; 9 of an entry; 10 of a field; 11, then 13 of a text
   pub count-corrections : (f : Frame)
       → Ordered (5 ∷ 6 ∷ 7 ∷ 8 ∷ []) (readOrder layout.Correction f (misfit 40 (f .n)) []) (saysCount (corrections.countCorrections f))

@@ -11,6 +11,7 @@ use Rattle.frame.specs.Widths.{outside}
 use Rattle.frame.specs.declared.Header.{Header}
 use Rattle.frame.specs.declared.Frame.{Frame}
 use Rattle.reader.specs.Reading.{fedBy, fedAllBy, endedBy, takenBy, saysAnswer}
+use Rattle.reader.specs.Rows.{rowsBy, rowsTo}
 use Rattle.reader.specs.declared.Reader.{Reader}
 use Rattle.writer.specs.Answer.{openedBy, openedTo, writtenBy, writtenTo, saysOpened, saysWritten}
 use Rattle.frame.specs.declared.Carried.{Carried}
@@ -54,6 +55,8 @@ pub record ChangesNeither : Type 0 where
   pub feed-all : (r : Reader) (bs : List ℕ) → Keeps (saysAnswer (fedAllBy r bs .answer)) (fedAllBy r bs .reader) r
   pub reader-end : (r : Reader) → Keeps (saysAnswer (endedBy r .answer)) (endedBy r .reader) r
   pub reader-take : (r : Reader) → Keeps (saysAnswer (takenBy r .answer)) (takenBy r .reader) r
+  pub read-rows : (r : Reader) (bytes rows : List ℕ) → Keeps (saysAnswer (rowsBy r bytes rows .answer)) (rowsBy r bytes rows .reader) r
+  pub read-rows-output : (r : Reader) (bytes rows : List ℕ) → Keeps (saysAnswer (rowsBy r bytes rows .answer)) (rowsTo r bytes rows) rows
   pub writer-open : (buffer : List ℕ) → Keeps (saysOpened (openedBy buffer)) (openedTo buffer) buffer
   pub write : (f : Frame) (c : Carried) (buffer : List ℕ) → Keeps (saysWritten (writtenBy f c buffer)) (writtenTo f c buffer) buffer
   pub put-frame : (f : Frame) (buffer : List ℕ) → Keeps (saysKept (recordedBy f buffer)) (recordedTo f buffer) buffer
@@ -78,6 +81,8 @@ pub record NumberAlone : Type 0 where
   pub blank-outside : outside blank ≡ true
   pub feed-all : (r : Reader) (bs : List ℕ) → Keeps {B = ℕ × ℕ} (saysAnswer (fedAllBy r bs .answer)) (fedAllBy r bs .used, fedAllBy r bs .passed) (0, 0)
   pub reader-take : (r : Reader) → Keeps {B = ℕ × Frame} (saysAnswer (takenBy r .answer)) (takenBy r .at, takenBy r .frame) (0, blank)
+  pub read-rows : (r : Reader) (bytes rows : List ℕ)
+      → let x = rowsBy r bytes rows in Keeps {B = ℕ × (ℕ × ℕ)} (saysAnswer (x .answer)) (x .used, (x .passed, x .count)) (0, (0, 0))
   pub recall : (bs : List ℕ) → Keeps (saysRecalled (recalledBy bs)) (recalledBy bs .frame) blank
   pub recall-words : (bs : List ℕ) → Keeps (saysRecalled (recalledWords bs)) (recalledWords bs .frame) blank
   pub recall-either : (bs : List ℕ) → Keeps (saysRecalled (recalledEither bs)) (recalledEither bs .frame) blank

@@ -5,6 +5,7 @@ use Prim.Native.Nat.{ℕ}
 use Rattle.promises.specs.Demand1.{Demand1}
 use Rattle.promises.specs.Demand2.{Demand2}
 use Rattle.promises.specs.Demand3.{Demand3}
+use Rattle.promises.specs.Turns.{ReadRows}
 use Rattle.promises.specs.Counters.{Counters}
 use Rattle.promises.specs.LateJoiners.{LateJoiners}
 use Rattle.promises.specs.WordsKept.{WordsKept}
@@ -19,6 +20,8 @@ pub record Demands : Type 2 where
   pub first : Demand1
   pub second : Demand2
   pub third : Demand3
+  -- reading rows is feeding and taking in turns
+  pub rows : ReadRows
   -- how a word failed: told by the word test, and counted by the reader
   pub counters : Counters
   -- two readers of one line agree behind a common frame

@@ -15,6 +15,7 @@ pub mod GeneralsBack
 pub mod ReadsBack
 pub mod Demand2
 pub mod Demand3
+pub mod Turns
 pub mod Counters
 pub mod LateJoiners
 pub mod WordsKept

@@ -2,7 +2,10 @@
 use mathlib.Core.List.{_++_}
 use lib.ListN.{length}
 use denote.Ref.{now}
+use Rattle.bits.specs.Bits.{bits}
+use Rattle.word.specs.Word.{passes}
 use Rattle.reader.specs.Reading.{started, pastOf, fedBy, fedAllBy, endedBy, takenBy}
+use Rattle.reader.specs.Rows.{rowsBy, rowsTo}
 use Rattle.writer.specs.Answer.{openedBy, openedTo, writtenBy, writtenTo}
 use Rattle.journal.specs.Journal.{recordedBy, recordedTo, keptBy, heldBy, recalledBy}
 use Rattle.printing.specs.Printing.{magnitudeOf, decimal, printedBy, printedTo}
@@ -13,6 +16,8 @@ use Rattle.reader.proofs.feed_all
 use Rattle.reader.proofs.end as reader-end
 use Rattle.reader.proofs.take as reader-take
 use Rattle.reader.proofs.checks.past
+use Rattle.reader.proofs.division.passes as word-passes
+use Rattle.reader.proofs.rows.read_rows
 use Rattle.writer.proofs.open as writer-open
 use Rattle.writer.proofs.write
 use Rattle.journal.proofs.put_frame
@@ -41,6 +46,11 @@ pub record StreamCalls : Type 2 where
       (λ κs (reader, _). takenBy reader)
   pub past : Answered past.Reads.Asked past.Reads.Learnt past.Statement.statement
       (λ κs (c, _). pastOf c)
+  pub word-passes : Answered word-passes.Reads.Asked word-passes.Reads.Learnt word-passes.Statement.statement
+      (λ κs (window, _). passes (bits 32 window))
+  pub read-rows : AnsweredLent read_rows.Reads.Asked read_rows.Reads.Learnt read_rows.Statement.statement
+      (λ κs (reader, (bytes, (rows, _))). rowsBy reader (now bytes) (now rows))
+      (λ κs (_, (_, (rows, _))). now rows) (λ κs (reader, (bytes, (rows, _))). rowsTo reader (now bytes) (now rows))
   -- writer
   pub writer-open : AnsweredLent writer-open.Reads.Asked writer-open.Reads.Learnt writer-open.Statement.statement
       (λ κs (buffer, _). openedBy (now buffer))

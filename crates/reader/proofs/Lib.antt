@@ -14,7 +14,11 @@ pub mod Ahead
 pub mod Bursts
 pub mod XorMaps
 pub mod Dividing
+pub mod Gathering
 pub mod TakeLaws
 pub mod Glancing
 pub mod TakeChecks
+pub mod RowLaws
+pub mod Turning
+pub mod RowChecks
 pub mod Tallies

@@ -1,10 +1,11 @@
 -- Bytes fed one after the other: what the loop of `run` goes by. Assumes nothing.
 use mathlib.Core.Path.{_≡_, refl, sym, ap, ap₂, _∙_}
-use mathlib.Core.Bool.{true, false, cond}
+use mathlib.Core.Bool.{Bool, true, false, cond}
 use mathlib.Core.List.{List, [], _∷_}
-use Prim.Native.Nat.{ℕ, _+_, _≤_, _<_}
+use Prim.Native.Nat.{ℕ, suc, _+_, _≤_, _<_}
 use native.Mathlib.Nat.{add-assoc, add-zero, zero-add}
 use native.Mathlib.Numerals.{add-one}
+use native.Mathlib.Omega.{arith}
 use lib.ListN.{length, drop, getD, drop-of-length-le}
 use lib.Seq.{drop-cons}
 use Rattle.bits.specs.Bits.{number}
@@ -50,6 +51,28 @@ module _ (cells : List ℕ) (c : Candidate) (b : ℕ) (bs : List ℕ) (w : c .wa
   pub run-over : isData b ≡ false → runTo cells c (b ∷ bs) ≡ spent 1 1 (runTo cells c bs)
   run-over d =
       by-byte ∙ ap (λ t. cond t (spent 1 0 (runTo (stepCells cells c (number (six b))) (stepTo cells c (number (six b))) bs)) (spent 1 1 (runTo cells c bs))) d
+
+-- ---- its counts
+
+-- no more bytes are used than there are, nor passed over than used
+pub run-counts : (bs cells : List ℕ) (c : Candidate) → (runTo cells c bs .used ≤ length bs) × (runTo cells c bs .passed ≤ runTo cells c bs .used)
+unfolding runTo
+run-counts [] cells c = (omega arith, omega arith)
+run-counts (b ∷ bs) cells c =
+    go (c .waits) (isData b) (run-counts bs (stepCells cells c (number (six b))) (stepTo cells c (number (six b)))) (run-counts bs cells c)
+  where
+    on : Run
+    on = runTo (stepCells cells c (number (six b))) (stepTo cells c (number (six b))) bs
+
+    next : Bool → Bool → Run
+    next w d = cond w (stopped cells c) (cond d (spent 1 0 on) (spent 1 1 (runTo cells c bs)))
+
+    go : (w d : Bool) → (on .used ≤ length bs) × (on .passed ≤ on .used)
+        → (runTo cells c bs .used ≤ length bs) × (runTo cells c bs .passed ≤ runTo cells c bs .used)
+        → (next w d .used ≤ suc (length bs)) × (next w d .passed ≤ next w d .used)
+    go true d h k = (omega arith, omega arith)
+    go false true h k = (omega (arith, h .0), omega (arith, h .1))
+    go false false h k = (omega (arith, k .0), omega (arith, k .1))
 
 -- ---- the loop: the run from the start is what was used, and the run from here
 

@@ -19,7 +19,7 @@ use Rattle.reader.specs.declared.Answer.the-variants.{Done}
 use Rattle.reader.specs.declared.taking.There.{There}
 
 module _ (r : Reader) where
-  given : Taken
+  unfoldable pub given : Taken
   given = record {
     answer = Done;
     at = r .candidate .at;
@@ -28,7 +28,7 @@ module _ (r : Reader) where
   }
 
   -- by its two checks
-  by-checks : (p w : Bool) → past r ≡ p → frameWaits r ≡ w → takenBy r ≡ cond p (refusedTaking r 5) (cond (not w) (refusedTaking r 4) given)
+  pub by-checks : (p w : Bool) → past r ≡ p → frameWaits r ≡ w → takenBy r ≡ cond p (refusedTaking r 5) (cond (not w) (refusedTaking r 4) given)
   unfolding takenBy given
   by-checks p w ep ew =
       ap (λ x. cond x (refusedTaking r 5) (cond (not (frameWaits r)) (refusedTaking r 4) given)) ep

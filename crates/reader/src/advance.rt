@@ -4,7 +4,7 @@ ghost use mathlib.Core.Bool.{false};
 ghost use mathlib.Core.List.{[], _∷_};
 ghost use Prim.Native.Nat.{_+_, _*_, _≤_, _<_};
 ghost use lib.ListN.{length};
-ghost use Rattle.reader.specs.Reading.{knownBits, movedTo, stepCells, stepTo, manyCells, manyTo, later as laterThan, FiveIn, runTo};
+ghost use Rattle.reader.specs.Reading.{pastOf, movedTo, stepCells, stepTo, manyCells, manyTo, later as laterThan, FiveIn, runTo};
 use crate::Candidate;
 use crate::cells::push;
 use crate::cells::put_five;
@@ -164,8 +164,7 @@ fn burst(cells: &mut [u32; 40], c: Candidate, a: u32, b: u32, d: u32, e: u32, f:
 
 // Bytes fed until a frame waits or none is left.
 pub(crate) fn run(cells: &mut [u32; 40], from: Candidate, bytes: &[u8]) -> Ran
-    requires { ⌜ (length (now cells) ≡ 40) × (from .end ≤ 1280) × (from .held ≤ from .end) × (from .held ≤ 991) × (from .words ≤ 32)
-        × (from .waits ≡ false) × (knownBits (from .words) ≤ from .held) ⌝ }
+    requires { ⌜ (length (now cells) ≡ 40) × (pastOf from ≡ false) ⌝ }
     ensures { λ r. ⌜ record { cells = now (cells .exit); candidate = r .candidate; used = r .used; passed = r .passed }
         ≡ runTo (now (cells .entry)) from (now (bytes .entry)) ⌝ }
 {

@@ -77,7 +77,7 @@ fn look(k: usize, window: u32, tally: Tally) -> Looked
 }
 
 // N, in the window of a second word.
-fn n_in(window: u32) -> usize
+pub(crate) fn n_in(window: u32) -> usize
     ensures { λ r. ⌜ r ≡ nOf (dataOf (bits 32 window)) ⌝ }
 {
     frame::n_of(word::data_of(window))

@@ -5,7 +5,9 @@ ghost use Rattle.reader.specs.Reading.{started, fedBy, fedAllBy, endedBy
 mod advance;
 mod cells;
 pub mod checks;
+pub mod division;
 mod hunt;
+pub mod rows;
 mod taking;
 
 use advance::moved;

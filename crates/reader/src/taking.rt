@@ -1,16 +1,18 @@
-// The frame that waits: each of its words is tested as it is taken out, so that nothing but a frame that stands is handed out.
+// The frame that waits: its words are tested as they are taken out, or before its row is put, so that nothing but a frame that stands is handed out.
 ghost use mathlib.Core.Path.{_≡_};
-ghost use mathlib.Core.Bool.{_&&_};
+ghost use mathlib.Core.Bool.{true, _&&_};
 ghost use Prim.Native.Nat.{_+_, _*_, _^_, _≤_, _<_};
 ghost use lib.ListN.{length};
 ghost use lib.Dec.{eqb};
 ghost use Rattle.bits.specs.Bits.{bits};
-ghost use Rattle.word.specs.Word.{passes};
-ghost use Rattle.stream.specs.Standing.{pairBefore};
+ghost use Rattle.word.specs.Word.{dataOf, passes};
+ghost use Rattle.frame.specs.Header.{preambled};
+ghost use Rattle.stream.specs.Standing.{wordAt, pairBefore, allRight, stands};
 ghost use Rattle.reader.specs.Cells.{heldBits};
-ghost use Rattle.reader.specs.Taking.{noneThere, thereIn, PassTo, HeaderIn};
+ghost use Rattle.reader.specs.Taking.{noneThere, thereIn, HeaderIn};
 use crate::cells::as_u64;
 use crate::cells::window;
+use crate::hunt::n_in;
 use frame::Carried;
 use frame::Frame;
 use frame::Header;
@@ -32,7 +34,7 @@ fn nothing() -> There
 }
 
 // The two bits before a word, which are the first of its window.
-fn pair_of(window: u32) -> Carried
+pub(crate) fn pair_of(window: u32) -> Carried
     ensures { λ r. ⌜ r ≡ pairBefore (bits 32 window) ⌝ }
 {
     let one = (window / 2147483648 % 2) as u8;
@@ -63,15 +65,53 @@ pub(crate) fn left_over(one: u32, two: u32) -> u64
     (times ^ even) & 9079256850892849152
 }
 
-// The data word that is tested beside word k: the next, or for the last of an odd number itself.
+// The word that is tested beside word k: the next, or for the last of an odd number itself.
 fn beside(k: usize, n: usize) -> usize
-    requires { ⌜ (k < n) × (n < 32) ⌝ }
+    requires { ⌜ k < n ⌝ }
     ensures { λ r. ⌜ (k ≤ r) × (r ≤ k + 1) × (r < n) ⌝ }
 {
     if k + 1 < n {
         return k + 1;
     }
     k
+}
+
+// The first `count` words of the bits held, which begin with the preamble, pass: tested two by two.
+fn pass_all(cells: &[u32; 40], end: usize, held: usize, count: usize) -> bool
+    requires { ⌜ (length (now cells) ≡ 40) × (end ≤ 1280) × (held ≤ end) × (2 + 30 * count ≤ held)
+        × (preambled (dataOf (wordAt 0 (heldBits (now cells) end held))) ≡ true) ⌝ }
+    ensures { λ r. ⌜ r ≡ allRight count 0 (heldBits (now (cells .entry)) end held) ⌝ }
+{
+    let first = end - held;
+    let mut k: usize = 0;
+    while k < count {
+        let j = beside(k, count);
+        let w = window(cells, first + 30 * k);
+        let v = window(cells, first + 30 * j);
+        if left_over(w, v) != 0 {
+            return false;
+        }
+        k = j + 1;
+    }
+    true
+}
+
+// Whether a frame stands in the bits held.
+pub(crate) fn stands_in(cells: &[u32; 40], end: usize, held: usize) -> bool
+    requires { ⌜ (length (now cells) ≡ 40) × (end ≤ 1280) × (held ≤ end) ⌝ }
+    ensures { λ r. ⌜ r ≡ stands (heldBits (now (cells .entry)) end held) ⌝ }
+{
+    if held < 62 {
+        return false;
+    }
+    let n = n_in(window(cells, end - held + 30));
+    if held < 62 + 30 * n {
+        return false;
+    }
+    if !frame::has_preamble(word::data_of(window(cells, end - held))) {
+        return false;
+    }
+    pass_all(cells, end, held, n + 2)
 }
 
 // All words of a header whose two words pass have come: the data words are put in, two by two, while both of the two pass.
@@ -83,8 +123,8 @@ fn filled(
     carried: Carried,
     n: usize,
 ) -> There
-    requires { ⌜ (length (now cells) ≡ 40) × (end ≤ 1280) × (held ≤ end) × HeaderIn (heldBits (now cells) end held) header carried n × (62 + 30 * n ≤ held)
-        × PassTo 2 (heldBits (now cells) end held) ⌝ }
+    requires { ⌜ (length (now cells) ≡ 40) × (end ≤ 1280) × (held ≤ end) × HeaderIn (heldBits (now cells) end held) header carried n
+        × (62 + 30 * n ≤ held) ⌝ }
     ensures { λ r. ⌜ r ≡ thereIn (heldBits (now (cells .entry)) end held) ⌝ }
 {
     let first = end - held + 60;

@@ -1,15 +1,16 @@
 -- What the calls that read the line say, by what the reader's call and keeping the frame answer. Assumes nothing.
-use mathlib.Core.Path.{_≡_, sym, ap, subst, _∙_}
+use mathlib.Core.Path.{_≡_, refl, sym, ap, subst, _∙_}
 use mathlib.Core.Bool.{Bool, true, false, cond, not}
 use mathlib.Core.List.{List, [], _∷_}
 use Prim.Native.Nat.{ℕ, _≤_, _<_}
 use native.Mathlib.Omega.{arith}
 use lib.ListN.{length}
 use borrow.Author.Tests.{lt-ltb, le-ltb}
-use Rattle.answer.specs.Order.{Says, refuses, answers, inOrder}
+use Rattle.answer.specs.Order.{Says, refuses, answers, Check, inOrder}
 use Rattle.stream.specs.Standing.{frameAt}
 use Rattle.stream.proofs.Data.{frame-within}
 use Rattle.reader.specs.Reading.{bitsOf, started, pastOf, past, frameWaits, takeTo, refusedTaking, takenBy}
+use Rattle.reader.specs.Rows.{rowsPut, Turns, rowsOrder, rowsTurns, noRows, someRows, rowsBy, rowsTo}
 use Rattle.reader.specs.declared.Tally.{Tally}
 use Rattle.reader.specs.declared.Reader.{Reader}
 use Rattle.reader.specs.declared.Answer.{Answer}
@@ -83,6 +84,26 @@ module _ {A : Type 0} (answer : A → Answer) (call : Reader → A) (state : Lis
 
     pub read-done : answer x ≡ reads.Done → readBy answer call state ≡ answers x
     read-done a = read-by ∙ ap (λ y. doneBy y x) a
+
+-- ---- READ
+
+-- where reading rows is refused, they are as they were
+pub unread-alone : (r : Reader) (bytes rows : List ℕ) {n : ℕ} → rowsBy r bytes rows .answer ≡ reads.Refused n → rowsTo r bytes rows ≡ rows
+unfolding rowsBy rowsTo
+unread-alone r bytes rows {n} = by (rowsOrder r rows)
+  where
+    t : Turns
+    t = rowsTurns r bytes rows
+
+    by : (cs : List Check) → inOrder cs (noRows r) (someRows t) .answer ≡ reads.Refused n → inOrder cs (λ m. rows) (rowsPut 0 (t .frames) rows) ≡ rows
+    by [] e = absurd (let z : _≡_ {A = ℕ} 0 1 = cc in omega arith)
+    by (c ∷ cs) e = pick (c .0) (by cs) e
+      where
+        pick : (b : Bool) → (inOrder cs (noRows r) (someRows t) .answer ≡ reads.Refused n → inOrder cs (λ m. rows) (rowsPut 0 (t .frames) rows) ≡ rows)
+            → inOrder ((b, c .1) ∷ cs) (noRows r) (someRows t) .answer ≡ reads.Refused n
+            → inOrder ((b, c .1) ∷ cs) (λ m. rows) (rowsPut 0 (t .frames) rows) ≡ rows
+        pick true later h = refl
+        pick false later h = later h
 
 -- ---- TAKE
 

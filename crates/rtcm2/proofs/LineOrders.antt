@@ -6,14 +6,16 @@ use Prim.Native.Nat.{ℕ}
 use Rattle.answer.specs.Order.{Says, refuses, answers, Check, inOrder}
 use Rattle.answer.proofs.OrderLaws.{says-order}
 use Rattle.reader.specs.Reading.{started, busy, ranBy, runTo, fedAllBy, endTo, endedBy}
+use Rattle.reader.specs.Rows.{rowsOrder, rowsTurns, noRows, someRows, rowsBy}
 use Rattle.reader.specs.declared.Reader.{Reader}
 use Rattle.reader.specs.declared.Answer.{Answer}
 use Rattle.reader.specs.declared.Answer.the-variants.{Done, Refused}
 use Rattle.reader.specs.declared.Next.{Next}
 use Rattle.reader.specs.declared.FedAll.{FedAll}
+use Rattle.reader.specs.declared.rows.RowsRead.{RowsRead}
 use Rattle.rtcm2_state.specs.State.{holdsState, stateIn}
 use Rattle.rtcm2.specs.Answer.{andThen}
-use Rattle.rtcm2.specs.Line.{doneBy, readBy, startedIn, countsIn, fedAllIn, endedIn}
+use Rattle.rtcm2.specs.Line.{doneBy, readBy, startedIn, countsIn, fedAllIn, rowsIn, endedIn}
 use Rattle.rtcm2.specs.Orders.{startedOrder, heldOrder}
 
 -- a call of the reader in its order, on the bytes that hold the reader
@@ -58,6 +60,14 @@ module _ (state : List ℕ) where
   feed-all-order bs =
       held-order (λ (x : FedAll). x .answer) (λ r. fedAllBy r bs) state (busy R)
       (λ n. record { answer = Refused n; used = 0; passed = 0; reader = R }) (ranBy R (runTo (R .cells) (R .candidate) bs)) (λ n. refl) refl refl
+
+  -- READ: 5, then 5, 3, 13
+  pub read-order : (bytes rows : List ℕ) → rowsIn state bytes rows
+      ≡ inOrder (heldOrder state (rowsOrder (stateIn state) rows)) refuses (answers (someRows (rowsTurns (stateIn state) bytes rows)))
+  unfolding rowsIn rowsBy
+  read-order bytes rows =
+      held-order (λ (x : RowsRead). x .answer) (λ r. rowsBy r bytes rows) state (rowsOrder R rows) (noRows R) (someRows (rowsTurns R bytes rows))
+      (λ n. refl) refl refl
 
   -- END: 5, 3, 2
   pub end-order : endedIn state

@@ -6,6 +6,7 @@ use lib.Dec.{ltb}
 use lib.ListN.{length}
 use Rattle.answer.specs.Order.{Says, refuses, answers}
 use Rattle.reader.specs.Reading.{started, fedBy, fedAllBy, endedBy, takenBy}
+use Rattle.reader.specs.Rows.{rowsBy}
 use Rattle.reader.specs.declared.Tally.{Tally}
 use Rattle.reader.specs.declared.Reader.{Reader}
 use Rattle.reader.specs.declared.Answer.{Answer}
@@ -13,6 +14,7 @@ use Rattle.reader.specs.declared.Answer.the-variants.{Done, Refused}
 use Rattle.reader.specs.declared.Next.{Next}
 use Rattle.reader.specs.declared.FedAll.{FedAll}
 use Rattle.reader.specs.declared.Taken.{Taken}
+use Rattle.reader.specs.declared.rows.RowsRead.{RowsRead}
 use Rattle.journal.specs.Journal.{keptBy, saysKept}
 use Rattle.rtcm2_state.specs.State.{stateSize, holdsState, stateIn}
 use Rattle.rtcm2.specs.Answer.{andThen}
@@ -45,6 +47,10 @@ fedIn state byte = readBy (λ (n : Next). n .answer) (λ r. fedBy r byte) state
 -- FEED ALL: 5, 3, 2
 unfoldable pub fedAllIn : List ℕ → List ℕ → Says FedAll
 fedAllIn state bytes = readBy (λ (f : FedAll). f .answer) (λ r. fedAllBy r bytes) state
+
+-- READ: 5, then 5, 3, 13
+unfoldable pub rowsIn : List ℕ → List ℕ → List ℕ → Says RowsRead
+rowsIn state bytes rows = readBy (λ (x : RowsRead). x .answer) (λ r. rowsBy r bytes rows) state
 
 -- END: 5, 3, 2
 unfoldable pub endedIn : List ℕ → Says Next

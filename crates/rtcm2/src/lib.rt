@@ -14,6 +14,7 @@ mod rows;
 pub mod season;
 pub mod send;
 pub mod text;
+pub mod turns;
 pub mod values;
 pub mod window;
 pub mod words;

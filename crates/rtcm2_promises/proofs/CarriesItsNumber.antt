@@ -15,6 +15,7 @@ use Rattle.frame.specs.declared.Header.{Header}
 use Rattle.frame.specs.declared.Layout.the-variants as layout
 use Rattle.frame.specs.declared.System.the-variants.{Gps}
 use Rattle.reader.specs.Reading.{busy, steppedBy, fedBy}
+use Rattle.reader.specs.Rows.{rowsOrder}
 use Rattle.reader.specs.declared.Answer.the-variants.{Done, Refused}
 use Rattle.reader.specs.declared.Next.{Next}
 use Rattle.journal.specs.Journal.{recallOrder}
@@ -49,7 +50,7 @@ use Rattle.rtcm2.specs.Healths as healths
 use Rattle.rtcm2.specs.Line.{fedIn}
 use Rattle.rtcm2.specs.Orders as in-order
 use Rattle.rtcm2.specs.GeneralOrders as general-order
-use Rattle.rtcm2.proofs.LineOrders.{held-order, start-order, counts-order, feed-all-order, end-order}
+use Rattle.rtcm2.proofs.LineOrders.{held-order, start-order, counts-order, feed-all-order, read-order, end-order}
 use Rattle.rtcm2.proofs.LineTaking.{take-order}
 use Rattle.rtcm2.proofs.SendOrders.{open-order, write-order}
 use Rattle.rtcm2.proofs.WordsOrders.{keep-words-order, restore-order}
@@ -117,6 +118,7 @@ library-numbers = record {
   counts = λ state. ordered (in-order.heldOrder state []) _ (counts-order state) refl refl;
   feed = λ state byte. ordered (in-order.heldOrder state (busy (stateIn state) ++ ((not (isData byte), 1) ∷ []))) _ (feed-order state byte) refl refl;
   feed-all = λ state bs. ordered (in-order.heldOrder state (busy (stateIn state))) _ (feed-all-order state bs) refl refl;
+  line-read = λ state bytes rows. ordered (in-order.heldOrder state (rowsOrder (stateIn state) rows)) _ (read-order state bytes rows) refl refl;
   line-end = λ state. ordered (in-order.heldOrder state (busy (stateIn state))) _ (end-order state) refl refl;
   line-take = λ state frame. ordered (in-order.takeOrder state frame) _ (take-order state frame) refl refl;
   line-open = λ line. ordered (openChecks line) _ (open-order line) refl refl;

@@ -101,6 +101,7 @@ library-keeps = record {
   counts = λ state odd even. (λ n e. rw e, λ n e. rw e);
   feed = λ state byte n e. rw e;
   feed-all = λ state bytes used passed. (λ n e. rw e, λ n e. rw e, λ n e. rw e);
+  line-read = λ state bytes rows used passed count. (λ n e. rw e, λ n e. rw e, λ n e. rw e, λ n e. rw e, λ n e. rw e);
   line-end = λ state n e. rw e;
   line-take = λ state frame size at d29 d30. (λ n e. rw e, λ n e. rw e, λ n e. rw e, λ n e. rw e, λ n e. rw e, λ n e. rw e);
   line-open = changes-neither .writer-open;

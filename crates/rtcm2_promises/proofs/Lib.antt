@@ -8,6 +8,7 @@ pub mod Called
 pub mod OneCall
 pub mod LineCalls
 pub mod Slices
+pub mod LineRows
 pub mod Demand3
 pub mod Counters
 pub mod KeptBack

@@ -8,6 +8,7 @@ use Rattle.rtcm2_promises.proofs.ChangesNeither.{library-keeps}
 use Rattle.rtcm2_promises.proofs.ReadsBack.{library-reads-back}
 use Rattle.rtcm2_promises.proofs.KeptAgain.{kept-again}
 use Rattle.rtcm2_promises.proofs.Demand3.{takes-its-record, library-demand-3}
+use Rattle.rtcm2_promises.proofs.LineRows.{library-rows}
 use Rattle.rtcm2_promises.proofs.Counters.{library-counters}
 use Rattle.rtcm2_promises.proofs.LineBack.{line-gives-back}
 use Rattle.rtcm2_promises.proofs.CutsBack.{library-cuts-back}
@@ -31,6 +32,7 @@ library = record {
   season = library-season;
   third = library-demand-3;
   takes-record = takes-its-record;
+  rows = library-rows;
   counters = library-counters;
   late = library-late-joiners;
   line-back = line-gives-back;

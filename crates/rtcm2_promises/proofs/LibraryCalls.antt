@@ -22,6 +22,12 @@ library-calls = record {
     leaves = λ κs a z e p. three-places (p .1);
     ends = rtcm2.line.rtcm2_feed_all.Met.met;
   };
+  line-read = record {
+    asks-nothing = λ κs a. tt;
+    settles = λ κs a z e p. p .0;
+    leaves = λ κs a z e p. place-and (p .1 .0) (four-places (p .1 .1));
+    ends = rtcm2.turns.rtcm2_read.Met.met;
+  };
   line-end = record { asks-nothing = λ κs a. tt; settles = λ κs a z e p. p .0; leaves = λ κs a z e p. p .1; ends = rtcm2.line.rtcm2_end.Met.met };
   line-take = record {
     asks-nothing = λ κs a. tt;

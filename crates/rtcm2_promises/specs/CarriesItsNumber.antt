@@ -10,6 +10,7 @@ use Rattle.line.specs.Line.{isData}
 use Rattle.frame.specs.declared.Layout.the-variants as layout
 use Rattle.frame.specs.declared.System.the-variants.{Gps}
 use Rattle.reader.specs.Reading.{busy}
+use Rattle.reader.specs.Rows.{rowsOrder}
 use Rattle.journal.specs.Journal.{recallOrder}
 use Rattle.writer.specs.Answer.{openChecks}
 use Rattle.reader.specs.declared.Candidate.{Candidate}
@@ -22,7 +23,7 @@ use Rattle.rtcm2_rows.specs.Observations as observation
 use Rattle.rtcm2_rows.specs.Generals as general
 use Rattle.rtcm2.specs.Header.{headed}
 use Rattle.rtcm2.specs.Frames.{frameSaid, keptTo, keepSaid, recallSaid}
-use Rattle.rtcm2.specs.Line.{startedIn, countsIn, fedIn, fedAllIn, endedIn, takenIn}
+use Rattle.rtcm2.specs.Line.{startedIn, countsIn, fedIn, fedAllIn, rowsIn, endedIn, takenIn}
 use Rattle.rtcm2.specs.Send.{openSaid, writeSaid}
 use Rattle.rtcm2.specs.Words.{wordsKept, liveSaid, backSaid}
 use Rattle.rtcm2.specs.Rows.{rowTo}
@@ -62,6 +63,8 @@ pub record LibraryNumbers : Type 0 where
   pub feed : (state : List ℕ) (byte : ℕ)
       → Ordered (5 ∷ 5 ∷ 3 ∷ 2 ∷ 1 ∷ []) (in-order.heldOrder state (busy (stateIn state) ++ ((not (isData byte), 1) ∷ []))) (fedIn state byte)
   pub feed-all : (state bs : List ℕ) → Ordered (5 ∷ 5 ∷ 3 ∷ 2 ∷ []) (in-order.heldOrder state (busy (stateIn state))) (fedAllIn state bs)
+  pub line-read : (state bytes rows : List ℕ)
+      → Ordered (5 ∷ 5 ∷ 5 ∷ 3 ∷ 13 ∷ []) (in-order.heldOrder state (rowsOrder (stateIn state) rows)) (rowsIn state bytes rows)
   pub line-end : (state : List ℕ) → Ordered (5 ∷ 5 ∷ 3 ∷ 2 ∷ []) (in-order.heldOrder state (busy (stateIn state))) (endedIn state)
   pub line-take : (state frame : List ℕ) → Ordered (5 ∷ 5 ∷ 4 ∷ 13 ∷ []) (in-order.takeOrder state frame) (takenIn state frame)
   -- writing the line

@@ -7,6 +7,7 @@ use lib.IntN.{ℤ}
 use lib.ListN.{length}
 use Rattle.bits.specs.Bits.{val}
 use Rattle.frame.specs.declared.System.the-variants.{Gps}
+use Rattle.reader.specs.Rows.{rowsTo}
 use Rattle.reader.specs.declared.Candidate.{Candidate}
 use Rattle.reader.specs.declared.Reader.{Reader}
 use Rattle.record_corrections.specs.declared.Correction.{Correction}
@@ -14,14 +15,14 @@ use Rattle.record_observations.specs.declared.Observation.{Observation}
 use Rattle.record_generals.specs.declared.General.{General}
 use Rattle.journal.specs.Journal.{heldBy}
 use Rattle.writer.specs.Answer.{openedTo}
-use Rattle.rtcm2_state.specs.State.{storedBy, startPut, statePut, saysStored}
+use Rattle.rtcm2_state.specs.State.{stateIn, storedBy, startPut, statePut, saysStored}
 use Rattle.rtcm2_rows.specs.Rows.{putBy, rowAfter, saysPut}
 use Rattle.rtcm2_rows.specs.Tables.{tableRow}
 use Rattle.rtcm2_rows.specs.Corrections as entry-corrections
 use Rattle.rtcm2_rows.specs.Observations as entry-observations
 use Rattle.rtcm2_rows.specs.Generals as entry-generals
 use Rattle.rtcm2.specs.Answer.{left}
-use Rattle.rtcm2.specs.Line.{startedIn, countsIn, fedIn, fedAllIn, endedIn, takenIn}
+use Rattle.rtcm2.specs.Line.{startedIn, countsIn, fedIn, fedAllIn, rowsIn, endedIn, takenIn}
 use Rattle.rtcm2.specs.Send.{openSaid, writeSaid, d29After, d30After, lineLent}
 use Rattle.rtcm2.specs.Words.{wordsKept, wordsHeld, wordsSize, liveSaid, backSaid, backHeld, d29Back, d30Back, readBack, lengthBack}
 use Rattle.rtcm2.specs.Send as send
@@ -55,6 +56,9 @@ pub record LibraryKeeps : Type 0 where
   pub feed-all : (state bytes : List ℕ) (used passed : ℕ) → let s = fedAllIn state bytes in
       Keeps s (left s (λ f. statePut (f .reader) state) state) state
       × Keeps s (left s (λ f. f .used) used) used × Keeps s (left s (λ f. f .passed) passed) passed
+  pub line-read : (state bytes rows : List ℕ) (used passed count : ℕ) → let s = rowsIn state bytes rows in
+      Keeps s (left s (λ x. statePut (x .reader) state) state) state × Keeps s (left s (λ x. rowsTo (stateIn state) bytes rows) rows) rows
+      × Keeps s (left s (λ x. x .used) used) used × Keeps s (left s (λ x. x .passed) passed) passed × Keeps s (left s (λ x. x .count) count) count
   pub line-end : (state : List ℕ)
       → Keeps (endedIn state) (left (endedIn state) (λ n. startPut (n .reader .candidate) (n .reader .ended) state) state) state
   pub line-take : (state frame : List ℕ) (size at d29 d30 : ℕ) → let s = takenIn state frame in

@@ -5,6 +5,7 @@ pub mod CarriesItsNumber
 pub mod ChangesNeither
 pub mod LineCalls
 pub mod Demand3
+pub mod LineRows
 pub mod Counters
 pub mod ReadsBack
 pub mod LineBack

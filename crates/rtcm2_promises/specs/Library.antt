@@ -9,6 +9,7 @@ use Rattle.rtcm2_promises.specs.LibraryGenerals.{LibraryGenerals}
 use Rattle.rtcm2_promises.specs.CarriesItsNumber.{LibraryNumbers}
 use Rattle.rtcm2_promises.specs.ChangesNeither.{LibraryKeeps}
 use Rattle.rtcm2_promises.specs.Demand3.{TakesItsRecord, LibraryDemand3}
+use Rattle.rtcm2_promises.specs.LineRows.{LibraryRows}
 use Rattle.rtcm2_promises.specs.Counters.{LibraryCounters}
 use Rattle.rtcm2_promises.specs.LateJoiners.{LibraryLateJoiners}
 use Rattle.rtcm2_promises.specs.ReadsBack.{LibraryReadsBack, KeptAgain}
@@ -39,6 +40,8 @@ pub record Library : Type 2 where
   -- demand 3, of every state's bytes with room; a frame that is taken is the one whose record comes
   pub third : (state : List ℕ) → stateSize ≤ length state → LibraryDemand3 state
   pub takes-record : TakesItsRecord
+  -- and rtcm2_read is feeding and taking in turns
+  pub rows : (state : List ℕ) → stateSize ≤ length state → LibraryRows state
   -- how words failed, told after any calls
   pub counters : (state : List ℕ) → stateSize ≤ length state → LibraryCounters state
   -- two readers of one line, each in a state's bytes with room, agree behind a common frame

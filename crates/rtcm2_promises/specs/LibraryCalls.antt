@@ -7,10 +7,11 @@ use lib.ListN.{length}
 use denote.Ref.{now}
 use Rattle.bits.specs.Bits.{val}
 use Rattle.reader.specs.Reading.{fedBy}
+use Rattle.reader.specs.Rows.{rowsTo}
 use Rattle.rtcm2_state.specs.Holding.{quietIn}
 use Rattle.rtcm2_state.specs.State.{stateSize, holdsState, stateIn, storedBy, startPut, statePut}
 use Rattle.rtcm2.specs.Answer.{numberOf, left}
-use Rattle.rtcm2.specs.Line.{startedIn, countsIn, fedIn, fedAllIn, endedIn, takenIn}
+use Rattle.rtcm2.specs.Line.{startedIn, countsIn, fedIn, fedAllIn, rowsIn, endedIn, takenIn}
 use Rattle.journal.specs.Journal.{heldBy}
 use Rattle.rtcm2.specs.Send.{openSaid, writeSaid, d29After, d30After, lineLent}
 use Rattle.writer.specs.Answer.{openedTo}
@@ -40,6 +41,7 @@ use Rattle.rtcm2.proofs.line.rtcm2_feed_all
 use Rattle.rtcm2.proofs.line.rtcm2_counts
 use Rattle.rtcm2.proofs.line.rtcm2_end
 use Rattle.rtcm2.proofs.line.rtcm2_take
+use Rattle.rtcm2.proofs.turns.rtcm2_read
 use Rattle.rtcm2.proofs.send.rtcm2_open as rtcm2-open
 use Rattle.rtcm2.proofs.send.rtcm2_write
 use Rattle.rtcm2.proofs.frames.rtcm2_keep
@@ -95,6 +97,16 @@ pub record LibraryCalls : Type 2 where
       (λ κs (state, (_, (used, (passed, _)))). (now state, (now used, now passed)))
       (λ κs (state, (bytes, (used, (passed, _)))). let s = fedAllIn (now state) (now bytes) in
       (left s (λ f. statePut (f .reader) (now state)) (now state), (left s (λ f. f .used) (now used), left s (λ f. f .passed) (now passed))))
+  pub line-read : AnsweredLent {B = List ℕ × (List ℕ × (ℕ × (ℕ × ℕ)))} rtcm2_read.Reads.Asked rtcm2_read.Reads.Learnt rtcm2_read.Statement.statement
+      (λ κs (state, (bytes, (rows, _))). numberOf (rowsIn (now state) (now bytes) (now rows)))
+      (λ κs (state, (_, (rows, (used, (passed, (count, _)))))). (now state, (now rows, (now used, (now passed, now count)))))
+      (λ κs (state, (bytes, (rows, (used, (passed, (count, _)))))). let s = rowsIn (now state) (now bytes) (now rows) in (
+        left s (λ x. statePut (x .reader) (now state)) (now state),
+        (
+          left s (λ x. rowsTo (stateIn (now state)) (now bytes) (now rows)) (now rows),
+          (left s (λ x. x .used) (now used), (left s (λ x. x .passed) (now passed), left s (λ x. x .count) (now count))),
+        ),
+      ))
   pub line-end : AnsweredLent rtcm2_end.Reads.Asked rtcm2_end.Reads.Learnt rtcm2_end.Statement.statement
       (λ κs (state, _). numberOf (endedIn (now state)))
       (λ κs (state, _). now state)

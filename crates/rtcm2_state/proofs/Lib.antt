@@ -3,5 +3,7 @@ pub mod StoreLaws
 pub mod StateLaws
 pub mod RoundTrip
 pub mod Storable
+pub mod CellsAfter
+pub mod Telling
 pub mod Holding
 pub mod Quiet

@@ -1,11 +1,11 @@
--- When a byte ends no word, and that holding it is feeding it to the reader. Assumes nothing.
-use mathlib.Core.Path.{_≡_, refl, sym, ap, _∙_}
+-- When a byte needs no hunt, and that holding it is feeding it to the reader. Assumes nothing.
+use mathlib.Core.Path.{_≡_, refl, sym, ap, subst, _∙_}
 use mathlib.Core.Bool.{Bool, true, false, cond, _&&_, and-eq-true-iff}
 use mathlib.Core.List.{List, [], _∷_}
-use Prim.Native.Nat.{ℕ, _+_, _*_, _≤_, _<_}
+use Prim.Native.Nat.{ℕ, _≤_}
 use native.Mathlib.Omega.{arith}
-use lib.Dec.{ltb, leb}
-use borrow.Author.Tests.{le-leb, leb-true, ltb-true}
+use lib.Dec.{leb}
+use borrow.Author.Tests.{leb-true}
 use Rattle.answer.specs.Order.{inOrder}
 use Rattle.bits.specs.Bits.{number, val}
 use Rattle.bits.specs.Fields.{AreBytes}
@@ -13,101 +13,121 @@ use Rattle.line.specs.Line.{isData, six}
 use Rattle.reader.specs.Reading.{pastOf, steppedBy, fedBy}
 use Rattle.reader.specs.declared.Candidate.{Candidate}
 use Rattle.reader.specs.declared.Answer.the-variants.{Done}
-use Rattle.reader.proofs.Accepted.{to-accepted}
+use Rattle.reader.proofs.Accepted.{Accepted, to-accepted}
 use Rattle.rtcm2_state.specs.State.{holdsState, stateIn, statePut}
-use Rattle.rtcm2_state.specs.Holding.{quietOf, quietIn, sixPut}
-use Rattle.rtcm2_state.proofs.Holding.{quiet-put}
+use Rattle.rtcm2_state.specs.Holding.{takesSix, afterSix, told, quietIn, sixPut}
+use Rattle.rtcm2_state.specs.declared.hold.After.{After}
+use Rattle.rtcm2_state.specs.declared.hold.After.the-variants.{Known, Whole, Untold}
+use Rattle.rtcm2_state.proofs.Telling.{Right, is-told}
+use Rattle.rtcm2_state.proofs.Holding.{cells-full, place-small, quiet-put}
 
 no : false ≡ true → ⊥
 no e = let z : _≡_ {A = ℕ} 0 1 = ap val e in omega arith
 
-pub record Quiet (c : Candidate) (ended : Bool) : Type 0 where
+pub record Takes (c : Candidate) (ended : Bool) : Type 0 where
   pub fine : pastOf c ≡ false
   pub goes : ended ≡ false
   pub free : c .waits ≡ false
   pub room : c .end ≤ 1216
-  pub within : c .held + 6 < 32 + 30 * c .words
 
-pub quiet-told : (c : Candidate) (ended : Bool) → quietOf c ended ≡ true → Quiet c ended
-unfolding quietOf
-quiet-told c ended e = go (pastOf c) refl ended refl (c .waits) refl e
+pub takes-told : (c : Candidate) (ended : Bool) → takesSix c ended ≡ true → Takes c ended
+unfolding takesSix
+takes-told c ended e = go (pastOf c) refl ended refl (c .waits) refl e
   where
-    last : Bool
-    last = leb (c .end) 1216 && ltb (c .held + 6) (32 + 30 * c .words)
-
     go : (p : Bool) → pastOf c ≡ p → (x : Bool) → ended ≡ x → (w : Bool) → c .waits ≡ w
-        → inOrder ((p, 5) ∷ (x, 3) ∷ (w, 2) ∷ []) (λ n. false) last ≡ true → Quiet c ended
+        → inOrder ((p, 5) ∷ (x, 3) ∷ (w, 2) ∷ []) (λ n. false) (leb (c .end) 1216) ≡ true → Takes c ended
     go true ep x ex w ew h = absurd (no h)
     go false ep true ex w ew h = absurd (no h)
     go false ep false ex true ew h = absurd (no h)
-    go false ep false ex false ew h =
-        let both = and-eq-true-iff (leb (c .end) 1216) (ltb (c .held + 6) (32 + 30 * c .words)) .0 h in record {
-          fine = ep;
-          goes = ex;
-          free = ew;
-          room = leb-true (c .end) 1216 (both .0);
-          within = ltb-true (c .held + 6) (32 + 30 * c .words) (both .1);
-        }
+    go false ep false ex false ew h = record { fine = ep; goes = ex; free = ew; room = leb-true (c .end) 1216 h }
 
--- past the other tests it is by the word's end
-pub quiet-by : (c : Candidate) (ended : Bool) → pastOf c ≡ false → ended ≡ false → c .waits ≡ false → c .end ≤ 1216
-    → ltb (c .held + 6) (32 + 30 * c .words) ≡ quietOf c ended
-unfolding quietOf
-quiet-by c ended p x w e = rw (p, x, w, le-leb (c .end) 1216 e)
+-- past the other tests it is by the room
+pub takes-by : (c : Candidate) (ended : Bool) → pastOf c ≡ false → ended ≡ false → c .waits ≡ false → leb (c .end) 1216 ≡ takesSix c ended
+unfolding takesSix
+takes-by c ended p x w = rw (p, x, w)
 
 module _ (bs : List ℕ) (b : ℕ) where
+  abbrev c : Candidate
+  c = stateIn bs .candidate
+
+  abbrev tells : After
+  tells = afterSix (stateIn bs .cells) c (number (six b))
+
   abbrev loudIn : Type 0
   loudIn = (false ≡ quietIn bs b) × (bs ≡ cond (quietIn bs b) (statePut (fedBy (stateIn bs) b .reader) bs) bs)
 
   loud : quietIn bs b ≡ false → loudIn
   loud e = (sym e, ap (λ t. cond t (statePut (fedBy (stateIn bs) b .reader) bs) bs) (sym e))
 
-  -- no state is held, the reader is not quiet, or the byte carries no bits
+  neither : (t : Bool) → t && false ≡ false
+  neither true = refl
+  neither false = refl
+
+  -- no state is held, the reader takes no bits, the byte carries none, or nothing is told without a hunt
   pub none-held : holdsState bs ≡ false → loudIn
   none-held e = loud (unfold quietIn in rw e)
 
-  pub not-quiet : holdsState bs ≡ true → quietOf (stateIn bs .candidate) (stateIn bs .ended) ≡ false → loudIn
-  not-quiet h e = loud (unfold quietIn in rw (h, e))
+  pub takes-none : holdsState bs ≡ true → takesSix c (stateIn bs .ended) ≡ false → loudIn
+  takes-none h e = loud (unfold quietIn in rw (h, e))
 
   pub no-bits : isData b ≡ false → loudIn
   unfolding quietIn
-  no-bits e = loud (ap (λ t. others && t) e ∙ neither others)
+  no-bits e = loud (ap (λ t. (others && t) && told tells) e ∙ ap (λ t. t && told tells) (neither others))
     where
       others : Bool
-      others = holdsState bs && quietOf (stateIn bs .candidate) (stateIn bs .ended)
+      others = holdsState bs && takesSix c (stateIn bs .ended)
 
-      neither : (t : Bool) → t && false ≡ false
-      neither true = refl
-      neither false = refl
+  pub not-told : tells ≡ Untold → loudIn
+  unfolding quietIn
+  not-told e = loud (ap (λ (o : After). others && told o) e ∙ neither others)
+    where
+      others : Bool
+      others = holdsState bs && takesSix c (stateIn bs .ended) && isData b
 
-  -- a quiet byte
-  module _ (f : AreBytes bs) (h : holdsState bs ≡ true) (q : quietOf (stateIn bs .candidate) (stateIn bs .ended) ≡ true) (d : isData b ≡ true) where
-    abbrev told : Quiet (stateIn bs .candidate) (stateIn bs .ended)
-    told = quiet-told (stateIn bs .candidate) (stateIn bs .ended) q
+  -- a byte that needs no hunt
+  module _ (f : AreBytes bs) (h : holdsState bs ≡ true) (q : takesSix c (stateIn bs .ended) ≡ true) (d : isData b ≡ true) where
+    abbrev takes : Takes c (stateIn bs .ended)
+    takes = takes-told c (stateIn bs .ended) q
+
+    abbrev accepted : Accepted c
+    accepted = to-accepted c (takes .fine)
 
     fed : fedBy (stateIn bs) b .reader ≡ steppedBy (stateIn bs) b
     unfolding fedBy
-    fed = rw (told .fine, told .goes, told .free, d)
+    fed = rw (takes .fine, takes .goes, takes .free, d)
 
-    all-quiet : quietIn bs b ≡ true
-    unfolding quietIn
-    all-quiet = rw (h, q, d)
+    right : Right (stateIn bs .cells) c (number (six b)) tells
+    right = is-told (stateIn bs .cells) (cells-full bs f h) c accepted (place-small bs f h) (takes .room) (number (six b))
 
-    pub held-on : {l : List ℕ} → l ≡ sixPut bs (stateIn bs .candidate .end) (stateIn bs .candidate .held) (number (six b))
+    put-on : told tells ≡ true → {l : List ℕ} → l ≡ statePut (steppedBy (stateIn bs) b) bs
         → (true ≡ quietIn bs b) × (l ≡ cond (quietIn bs b) (statePut (fedBy (stateIn bs) b .reader) bs) bs)
-    held-on e = (
-      sym all-quiet,
-      e ∙ quiet-put bs f h (to-accepted (stateIn bs .candidate) (told .fine)) (told .free) (told .room) (told .within) b
-          ∙ ap (λ r. statePut r bs) (sym fed)
-          ∙ ap (λ t. cond t (statePut (fedBy (stateIn bs) b .reader) bs) bs) (sym all-quiet),
+    unfolding quietIn
+    put-on t e = (
+      sym quiet,
+      e ∙ ap (λ r. statePut r bs) (sym fed) ∙ ap (λ t. cond t (statePut (fedBy (stateIn bs) b .reader) bs) bs) (sym quiet),
     )
+      where
+        quiet : holdsState bs && takesSix c (stateIn bs .ended) && isData b && told tells ≡ true
+        quiet = rw (h, q, d, t)
+
+    pub known-on : (words : ℕ) → tells ≡ Known words → {l : List ℕ} → l ≡ sixPut bs (c .end) (c .held) words 0 (number (six b))
+        → (true ≡ quietIn bs b) × (l ≡ cond (quietIn bs b) (statePut (fedBy (stateIn bs) b .reader) bs) bs)
+    known-on words t e =
+        let r = subst (Right (stateIn bs .cells) c (number (six b))) t right in
+        put-on (ap told t) (e ∙ quiet-put bs f h accepted (takes .room) b words false (r .0) (r .1))
+
+    pub whole-on : tells ≡ Whole → {l : List ℕ} → l ≡ sixPut bs (c .end) (c .held) 0 1 (number (six b))
+        → (true ≡ quietIn bs b) × (l ≡ cond (quietIn bs b) (statePut (fedBy (stateIn bs) b .reader) bs) bs)
+    whole-on t e =
+        put-on (ap told t)
+        (e ∙ quiet-put bs f h accepted (takes .room) b 0 true (omega arith) (subst (Right (stateIn bs .cells) c (number (six b))) t right))
 
   -- where it is quiet a state is held, and the reader takes the byte
   pub quiet-taken : quietIn bs b ≡ true → (holdsState bs ≡ true) × (fedBy (stateIn bs) b .answer ≡ Done)
   unfolding quietIn fedBy
   quiet-taken e =
-      let c = stateIn bs .candidate in
-      let p = and-eq-true-iff (holdsState bs && quietOf c (stateIn bs .ended)) (isData b) .0 e in
-      let q = and-eq-true-iff (holdsState bs) (quietOf c (stateIn bs .ended)) .0 (p .0) in
-      let told = quiet-told c (stateIn bs .ended) (q .1) in
-      (q .0, rw (told .fine, told .goes, told .free, p .1))
+      let o = and-eq-true-iff (holdsState bs && takesSix c (stateIn bs .ended) && isData b) (told tells) .0 e in
+      let p = and-eq-true-iff (holdsState bs && takesSix c (stateIn bs .ended)) (isData b) .0 (o .0) in
+      let q = and-eq-true-iff (holdsState bs) (takesSix c (stateIn bs .ended)) .0 (p .0) in
+      let takes = takes-told c (stateIn bs .ended) (q .1) in
+      (q .0, rw (takes .fine, takes .goes, takes .free, p .1))

@@ -23,6 +23,17 @@ unsafe extern "C" {
         d29: *mut u8,
         d30: *mut u8,
     ) -> u8;
+    pub fn rtcm2_read(
+        state: *mut u8,
+        state_size: usize,
+        bytes: *const u8,
+        bytes_size: usize,
+        rows: *mut u8,
+        rows_size: usize,
+        used: *mut usize,
+        passed: *mut usize,
+        count: *mut usize,
+    ) -> u8;
     pub fn rtcm2_counts(state: *const u8, state_size: usize, odd: *mut u32, even: *mut u32) -> u8;
     pub fn rtcm2_open(line: *mut u8, line_size: usize) -> u8;
     pub fn rtcm2_write(

@@ -5,6 +5,7 @@ use crate::header::*;
 use rtcm2_model::frame::Frame;
 use rtcm2_model::joining::{from_byte, from_meeting, worked};
 use rtcm2_model::journal;
+use rtcm2_model::library::turns::ROW;
 use rtcm2_model::line::bits_of_bytes;
 use rtcm2_model::rng::Rng;
 use rtcm2_model::streams;
@@ -104,16 +105,25 @@ fn expected(bytes: &[u8], from: usize) -> [Vec<Record>; 2] {
     })
 }
 
-/// What the library hands out from a byte on, fed in random pieces and every
-/// frame taken at once, before the end and in all.
+/// What the library hands out from a byte on, fed in random pieces and every frame
+/// taken at once or, as a draw says, read into rows; before the end and in all.
 fn read(bytes: &[u8], from: usize, rng: &mut Rng) -> [Vec<Record>; 2] {
     let before = bits_of_bytes(&bytes[..from]).len();
     let (mut reader, mut left) = (Reader::started(), &bytes[from..]);
     let mut records = Vec::new();
+    let by_rows = rng.bit();
     while !left.is_empty() {
-        let piece = left.len().min(1 + rng.place(200));
-        left = &left[reader.feed_all(&left[..piece])..];
-        records.extend(reader.take_all(before));
+        let piece = &left[..left.len().min(1 + rng.place(200))];
+        let used = if by_rows {
+            let room = ROW * (1 + rng.place(3)) + rng.place(ROW);
+            reader.read(piece, &mut vec![0; room], before, &mut records)
+        } else {
+            reader.feed_all(piece)
+        };
+        left = &left[used..];
+        if !by_rows || left.is_empty() {
+            records.extend(reader.take_all(before));
+        }
     }
     let going_on = records.clone();
     reader.end();
@@ -149,6 +159,39 @@ impl Reader {
             )
         };
         assert_eq!(answer, 0);
+        used
+    }
+
+    /// Feeds bytes and takes frames in turns, of a reader that started after so many
+    /// bits, and says how many bytes were used.
+    fn read(
+        &mut self,
+        bytes: &[u8],
+        rows: &mut [u8],
+        before: usize,
+        to: &mut Vec<Record>,
+    ) -> usize {
+        let (state, size) = (self.0.as_mut_ptr(), self.0.len());
+        let (mut used, mut passed, mut count) = (0, 0, 0);
+        let answer = unsafe {
+            rtcm2_read(
+                state,
+                size,
+                bytes.as_ptr(),
+                bytes.len(),
+                rows.as_mut_ptr(),
+                rows.len(),
+                &mut used,
+                &mut passed,
+                &mut count,
+            )
+        };
+        assert_eq!(answer, 0);
+        to.extend(rows.chunks_exact(ROW).take(count).map(|row| {
+            let (at, record) = (&row[..4], &row[6..15 + 3 * usize::from(row[8])]);
+            let at = u32::from_le_bytes(at.try_into().expect("four bytes"));
+            (before + at as usize, ([row[4], row[5]], record.to_vec()))
+        }));
         used
     }
 

@@ -13,9 +13,12 @@ use crate::place::Place;
 pub fn answer(call: &mut Call) -> u64 {
     match call.function {
         Function::StateSize => rtcm2_state_size() as u64,
-        Function::Start | Function::Feed | Function::FeedAll | Function::End | Function::Take => {
-            u64::from(reader(call))
-        }
+        Function::Start
+        | Function::Feed
+        | Function::FeedAll
+        | Function::End
+        | Function::Take
+        | Function::Read => u64::from(reader(call)),
         Function::Counts => u64::from(counts(call)),
         Function::Open | Function::Write => u64::from(writer(call)),
         Function::Recall | Function::ReadPosition | Function::ReadNull | Function::ReadText => {
@@ -90,6 +93,13 @@ fn reader(call: &mut Call) -> u8 {
             let (length, position) = (at(length), at(position));
             let (d29, d30) = (at(d29), at(d30));
             unsafe { rtcm2_take(state, size, frame, room, length, position, d29, d30) }
+        }
+        Function::Read => {
+            let ([rows, used, passed, count], [bytes]) = (of(rest), of(&mut call.read));
+            let (length, bytes) = (bytes.size(), at(bytes));
+            let (room, rows) = (rows.size(), at(rows));
+            let (used, passed, count) = (at(used), at(passed), at(count));
+            unsafe { rtcm2_read(state, size, bytes, length, rows, room, used, passed, count) }
         }
         other => unreachable!("{other:?}"),
     }

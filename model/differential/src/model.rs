@@ -9,6 +9,7 @@ use crate::call::{Call, Function};
 use crate::place::Place;
 use rtcm2_model::library::frames::{self, Recalled};
 use rtcm2_model::library::line::{self, Taking};
+use rtcm2_model::library::turns::{self, Reading};
 use rtcm2_model::library::{numbers, profile, records, words as windows};
 use rtcm2_model::record::position::Position;
 use rtcm2_model::tables::LISTS;
@@ -17,9 +18,12 @@ use rtcm2_model::tables::LISTS;
 pub fn answer(call: &mut Call) -> u64 {
     match call.function {
         Function::StateSize => line::state_size() as u64,
-        Function::Start | Function::Feed | Function::FeedAll | Function::End | Function::Take => {
-            u64::from(reader(call))
-        }
+        Function::Start
+        | Function::Feed
+        | Function::FeedAll
+        | Function::End
+        | Function::Take
+        | Function::Read => u64::from(reader(call)),
         Function::Counts => u64::from(counts(call)),
         Function::Open | Function::Write => u64::from(writer(call)),
         Function::Recall | Function::ReadPosition | Function::ReadNull | Function::ReadText => {
@@ -87,6 +91,15 @@ fn reader(call: &mut Call) -> u8 {
                 d30: d30.number(),
             };
             line::take(state, frame.bytes(), into)
+        }
+        Function::Read => {
+            let ([rows, used, passed, count], [bytes]) = (of(rest), of(&mut call.read));
+            let into = Reading {
+                used: used.number(),
+                passed: passed.number(),
+                count: count.number(),
+            };
+            turns::read(state, bytes.bytes(), rows.bytes(), into)
         }
         other => unreachable!("{other:?}"),
     }

@@ -72,7 +72,7 @@ pub fn counts(state: &[u8], odd: &mut u32, even: &mut u32) -> u8 {
 }
 
 /// Puts the changed state back, unless the call is refused.
-fn changed(state: &mut [u8], call: impl FnOnce(&mut State) -> Answer<()>) -> Answer<()> {
+pub(super) fn changed(state: &mut [u8], call: impl FnOnce(&mut State) -> Answer<()>) -> Answer<()> {
     let mut reader = State::read(state)?;
     call(&mut reader)?;
     reader.put(state);

@@ -14,6 +14,7 @@ pub mod profile;
 pub mod records;
 pub mod season;
 pub mod state;
+pub mod turns;
 pub mod words;
 
 use crate::frame::{Frame, Header, State};

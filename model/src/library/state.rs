@@ -157,7 +157,7 @@ impl State {
     }
 
     /// Refuses counts that go past what a reader can hold.
-    fn check_counts(&self) -> Answer<()> {
+    pub(super) fn check_counts(&self) -> Answer<()> {
         let past = self.end > ROOM
             || self.end < self.held
             || self.held > MOST_HELD[usize::from(self.waits)]

@@ -5,7 +5,8 @@ use crate::fault::{Fault, Outcome, Verdict};
 use crate::input::Lines;
 use crate::monitor::{Event, Heard, Monitor};
 use crate::output::Printer;
-use rtcm2::PushReader;
+use crate::stream::Hearer;
+use rtcm2::Taken;
 use serde_json::{json, Value};
 use std::io::{self, ErrorKind, Read};
 use std::sync::mpsc::{channel, Receiver, Sender, TryRecvError};
@@ -72,9 +73,9 @@ impl Watch {
     }
 
     /// The frames of a call of the reader have come.
-    fn heard(&mut self, now: Duration, frames: Vec<Heard>) -> Result<(), Fault> {
-        for frame in frames {
-            let events = self.monitor.frame(now, frame);
+    fn heard(&mut self, now: Duration, frames: impl Iterator<Item = Taken>) -> Result<(), Fault> {
+        for taken in frames {
+            let events = self.monitor.frame(now, Heard::of(&taken));
             self.tell(events)?;
         }
         Ok(())
@@ -96,25 +97,14 @@ impl Watch {
     }
 }
 
-/// Pushes bytes, or ends the line where there are none; what was heard.
-fn push(reader: &mut PushReader, bytes: Option<&[u8]>) -> Vec<Heard> {
-    let mut frames = Vec::new();
-    match bytes {
-        Some(bytes) => {
-            reader.push(bytes, |taken| frames.push(Heard::of(&taken)));
-        }
-        None => reader.finish(|taken| frames.push(Heard::of(&taken))),
-    }
-    frames
-}
-
 /// Watches a recorded line, on which each byte takes the time of six bits at so many bits a second.
 pub fn recorded(mut lines: Lines, quiet: Duration, bits: u32, json: bool) -> Outcome {
     let mut watch = Watch::new(quiet, Clock::Line, json);
     let time = |bytes: u64| Duration::from_nanos((u128::from(bytes) * 6_000_000_000 / u128::from(bits)) as u64);
     let mut bytes = 0;
     while let Some(mut line) = lines.next_line()? {
-        let (mut reader, mut buffer) = (PushReader::new(), vec![0; 65536]);
+        // The time of a frame is that of the byte that brings it, so each byte is a read of its own.
+        let (mut hearer, mut buffer) = (Hearer::new(1), vec![0; 65536]);
         let read = loop {
             let size = match line.read(&mut buffer) {
                 Ok(0) => break Ok(()),
@@ -124,15 +114,18 @@ pub fn recorded(mut lines: Lines, quiet: Duration, bits: u32, json: bool) -> Out
             };
             for byte in &buffer[..size] {
                 bytes += 1;
-                watch.heard(time(bytes), push(&mut reader, Some(&[*byte])))?;
+                watch.heard(time(bytes), hearer.read(&[*byte]).frames)?;
             }
         };
-        watch.heard(time(bytes), push(&mut reader, None))?;
+        watch.heard(time(bytes), hearer.end())?;
         watch.tick(time(bytes))?;
         lines.after(&line.name, bytes, read)?;
     }
     Ok(watch.verdict())
 }
+
+/// Bytes of a read at most.
+const MOST: usize = 4096;
 
 /// What the thread that reads has to say, and when it came to know it.
 enum Message {
@@ -166,7 +159,7 @@ fn read_all(mut lines: Lines, start: Instant, sender: &Sender<Message>) -> Resul
 
 /// How many bytes a line had, and whether reading failed.
 fn read_line(line: &mut impl Read, start: Instant, sender: &Sender<Message>) -> (u64, io::Result<()>) {
-    let (mut buffer, mut bytes) = (vec![0; 4096], 0);
+    let (mut buffer, mut bytes) = (vec![0; MOST], 0);
     loop {
         match line.read(&mut buffer) {
             Ok(0) => return (bytes, Ok(())),
@@ -186,7 +179,7 @@ fn read_line(line: &mut impl Read, start: Instant, sender: &Sender<Message>) -> 
 /// Hears frames as they come. Whether the quiet time has passed is asked only when all bytes that have
 /// come were looked at, so that a monitor that was held up tells no silence that was none.
 fn watch(receiver: Receiver<Message>, mut watch: Watch, start: Instant) -> Outcome {
-    let mut reader = PushReader::new();
+    let mut hearer = Hearer::new(MOST);
     loop {
         let message = match receiver.try_recv() {
             Ok(message) => message,
@@ -200,10 +193,10 @@ fn watch(receiver: Receiver<Message>, mut watch: Watch, start: Instant) -> Outco
             }
         };
         match message {
-            Message::Bytes(at, bytes) => watch.heard(at, push(&mut reader, Some(&bytes)))?,
+            Message::Bytes(at, bytes) => watch.heard(at, hearer.read(&bytes).frames)?,
             Message::End(at) => {
-                watch.heard(at, push(&mut reader, None))?;
-                reader = PushReader::new();
+                watch.heard(at, hearer.end())?;
+                hearer = Hearer::new(MOST);
             }
             Message::Over(over) => return over.map(|()| watch.verdict()),
         }

@@ -46,6 +46,7 @@ library! {
     fn rtcm2_feed_all(state: &mut [u8], bytes: &[u8], used: &mut usize, passed: &mut usize);
     fn rtcm2_end(state: &mut [u8]);
     fn rtcm2_take(state: &mut [u8], frame: &mut [u8], length: &mut usize, at: &mut u32, d29: &mut u8, d30: &mut u8);
+    fn rtcm2_read(state: &mut [u8], bytes: &[u8], rows: &mut [u8], used: &mut usize, passed: &mut usize, count: &mut usize);
     fn rtcm2_counts(state: &[u8], odd: &mut u32, even: &mut u32);
     fn rtcm2_open(line: &mut [u8]);
     fn rtcm2_write(frame: &[u8], d29: &mut u8, d30: &mut u8, line: &mut [u8], length: &mut usize);

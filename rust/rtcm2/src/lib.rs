@@ -84,7 +84,7 @@ pub use list::{Bytes, List};
 pub use observations::{Edition, Epoch, Mark, Measured, Observation, Observations};
 #[cfg(feature = "std")]
 pub use reader::Reader;
-pub use reader::{Counts, PushReader, Taken};
+pub use reader::{room_for, Counts, Frames, PushReader, Taken, Turns, READ_ROW};
 pub use record::{Null, Position, Record};
 pub use refusal::Refusal;
 pub use texts::Text;

@@ -7,7 +7,7 @@ use rtcm2::profile::Cut;
 use rtcm2::season::{Report, Row};
 use rtcm2::{
     Condition, Correction, Frame, General, GeneralHead, GeneralNull, GeneralSystem, Header, Issue, Null, Pair,
-    Position, PushReader, Reader, Record, Refusal, SatelliteHealth, State, System,
+    Position, PushReader, Reader, Record, Refusal, SatelliteHealth, State, System, READ_ROW,
 };
 use std::io::{self, Read};
 
@@ -46,6 +46,40 @@ fn a_push_reader_refuses_in_order_and_stays_as_it_is() {
     assert_eq!(reader.end(), Ok(()));
     assert_eq!(reader.feed(0x40), Err(Refusal::Ended));
     assert_eq!(reader.push(&LINE, |_| panic!("the line has ended")), 0);
+}
+
+#[test]
+fn a_call_that_reads_feeds_and_takes_in_turns() {
+    let twice = [&LINE[..], &LINE[1..], &[0]].concat();
+    let (mut reader, mut rows) = (PushReader::new(), [0xA5; 3 * READ_ROW]);
+    for room in [0, READ_ROW - 1] {
+        assert_eq!(reader.read(&twice, &mut rows[..room]).err(), Some(Refusal::TooShort));
+    }
+    let turns = reader.read(&twice, &mut rows[..2 * READ_ROW - 1]).expect("there is room for a row");
+    assert_eq!((turns.used, turns.passed, turns.frames.len()), (11, 0, 1));
+    let turns = reader.read(&twice[11..], &mut rows).expect("the line goes on");
+    assert_eq!((turns.used, turns.passed), (11, 1));
+    let frames: Vec<_> = turns.frames.map(|taken| (taken.at, taken.frame.header(), taken.pair)).collect();
+    assert_eq!(frames, [(66, of(6), Pair::default())]);
+    assert!(rows[READ_ROW..].iter().all(|&byte| byte == 0xA5), "no more rows are written than put");
+    assert_eq!(reader.end(), Ok(()));
+    assert_eq!(reader.read(&LINE, &mut rows[..0]).err(), Some(Refusal::Ended));
+}
+
+#[test]
+fn a_waiting_frame_is_read_first() {
+    let (mut reader, mut rows) = (PushReader::new(), [0; 2 * READ_ROW]);
+    assert_eq!(reader.feed_all(&LINE), Ok((11, 0)));
+    let mut one = reader.clone();
+    let turns = one.read(&LINE[1..], &mut rows[..READ_ROW]).expect("a frame waits");
+    assert_eq!((turns.used, turns.frames.map(|taken| taken.at).collect::<Vec<_>>()), (0, vec![6]));
+    let turns = reader.read(&LINE[1..], &mut rows).expect("a frame waits");
+    assert_eq!((turns.used, turns.frames.map(|taken| taken.at).collect::<Vec<_>>()), (10, vec![6, 66]));
+    let mut reader = PushReader::new();
+    assert_eq!(reader.feed_all(&LINE), Ok((11, 0)));
+    let mut pushed = Vec::new();
+    assert_eq!(reader.push(&LINE[1..], |taken| pushed.push(taken.at)), 0);
+    assert_eq!(pushed, [6, 66]);
 }
 
 /// Some bytes, and then an error.

@@ -1,7 +1,10 @@
 //! The streams of the model (crates/test_streams): what the crate reads, keeps, makes again and
 //! writes of each is what the model says, to the sums of all bytes and fields.
 
-use rtcm2::{Condition, Edition, Frame, Issue, Mark, Measured, PushReader, Reader, Record, Refusal, Taken, Writer};
+use rtcm2::{
+    room_for, Condition, Edition, Frame, Issue, Mark, Measured, PushReader, Reader, Record, Refusal, Taken, Turns,
+    Writer, READ_ROW,
+};
 use std::fs;
 use std::path::PathBuf;
 
@@ -212,5 +215,51 @@ fn pushed_in_pieces_of_any_size_the_frames_are_the_same() {
             reader.finish(|taken| frames.push(taken));
             assert_eq!(frames, whole, "{name} in pieces of {size}");
         }
+    }
+}
+
+/// The frames of a line, read in pieces of a size into room for so many rows, called again while these
+/// are all put; and how many bytes carry no line bits.
+fn read_in_turns(line: &[u8], size: usize, rows: usize) -> (Vec<Taken>, usize) {
+    let (mut reader, mut room) = (PushReader::new(), vec![0; READ_ROW * (rows + 1) - 1]);
+    let (mut frames, mut all_passed) = (Vec::new(), 0);
+    for mut piece in line.chunks(size) {
+        let mut is_full = true;
+        while is_full {
+            let Turns { used, passed, frames: read } = reader.read(piece, &mut room).expect("the line goes on");
+            piece = &piece[used..];
+            is_full = read.len() == rows;
+            all_passed += passed;
+            frames.extend(read);
+        }
+        assert!(piece.is_empty(), "without a frame for every row all bytes are used");
+    }
+    reader.finish(|taken| frames.push(taken));
+    (frames, all_passed)
+}
+
+#[test]
+fn read_into_any_number_of_rows_the_frames_are_the_same() {
+    for (name, bytes, _) in streams() {
+        let mut reader = Reader::new(&bytes[..]);
+        let whole: Vec<_> = (&mut reader).map(|taken| taken.expect("bytes can be read")).collect();
+        for (size, rows) in [(1, 1), (7, 2), (61, 1), (512, 3), (4096, 16)] {
+            let (frames, passed) = read_in_turns(&bytes, size, rows);
+            assert_eq!(frames, whole, "{name} in pieces of {size} and {rows} rows");
+            assert_eq!(passed as u64, reader.passed(), "{name}");
+        }
+    }
+}
+
+#[test]
+fn one_call_reads_a_whole_stream_where_there_is_room() {
+    for (name, bytes, _) in streams() {
+        let whole: Vec<_> = Reader::new(&bytes[..]).map(|taken| taken.expect("bytes can be read")).collect();
+        let (mut reader, mut rows) = (PushReader::new(), vec![0; room_for(bytes.len())]);
+        let turns = reader.read(&bytes, &mut rows).expect("a line begins");
+        assert_eq!(turns.used, bytes.len(), "{name}");
+        let mut frames: Vec<_> = turns.frames.collect();
+        reader.finish(|taken| frames.push(taken));
+        assert_eq!(frames, whole, "{name}");
     }
 }

@@ -3,7 +3,6 @@ use borrow.Author.Needs.{needs}
 use denote.Ref.{now}
 use mathlib.Core.Path.{_≡_}
 use lib.ListN.{length}
-use Rattle.reader.proofs.Accepted.{to-accepted, room-free}
 use Rattle.reader.proofs.Stepping.{free, all-refused, all-done}
 use Rattle.reader.proofs.feed_all.Statement.{statement}
 use Rattle.reader.proofs.feed_all.Tie as tie
@@ -29,9 +28,7 @@ run-requires c κs =
     let told = c .before in
     let asked = told .before .before in
     let r = start asked .args .reader in
-    let f = free r (asked .readiness .result) (asked .readiness .ensures) (told .enum-told .given .1) in
-    let a = to-accepted (r .candidate) (f .fine) in
-    (len (start asked), a .top, a .low, room-free (r .candidate) a (f .none), a .few, f .none, a .known)
+    (len (start asked), free r (asked .readiness .result) (asked .readiness .ensures) (told .enum-told .given .1) .fine)
 
 returns-2 : tie.Need-returns-2
 returns-2 c =

@@ -59,8 +59,8 @@ pub fn line_bytes(rng: &mut Rng) -> Vec<u8> {
         mangle(&mut bytes, rng);
     }
     let more = match rng.below(4000) {
-        0 => (1 << 16) + rng.place(300),
-        1..=20 => (1 << 8) + rng.place(300),
+        0..=2 => (1 << 16) + rng.place(300),
+        3..=22 => (1 << 8) + rng.place(300),
         _ => 0,
     };
     let at = rng.place(bytes.len() + 1);

@@ -37,12 +37,12 @@ impl Draw {
     /// The next call.
     pub fn call(&mut self) -> Call {
         let rng = &mut self.rng;
-        match rng.below(102) {
-            0..=38 => self.readers.call(rng),
-            39..=60 => frames::call(rng),
-            61..=80 => makers::call(rng),
-            81..=91 => journals::call(rng),
-            92 | 93 => season::call(rng),
+        match rng.below(108) {
+            0..=44 => self.readers.call(rng),
+            45..=66 => frames::call(rng),
+            67..=86 => makers::call(rng),
+            87..=97 => journals::call(rng),
+            98 | 99 => season::call(rng),
             _ => number(rng),
         }
     }

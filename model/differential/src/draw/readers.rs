@@ -2,6 +2,7 @@
 //! started in any order, from fresh states and forged ones.
 
 use super::bits::line_bytes;
+use super::ends::longer;
 use super::states::forged;
 use super::{numbers, parts, room};
 use crate::call::{Call, Function};
@@ -9,6 +10,7 @@ use crate::place::Place;
 use rtcm2_model::journal;
 use rtcm2_model::library::line;
 use rtcm2_model::library::state::State;
+use rtcm2_model::library::turns::ROW;
 use rtcm2_model::refusal::Refusal;
 use rtcm2_model::rng::Rng;
 
@@ -60,6 +62,7 @@ impl Readers {
         reader.fed += match (call.function, answer) {
             (Function::Feed, 0 | 1) => 1,
             (Function::FeedAll, 0) => *call.lent[1].number::<usize>(),
+            (Function::Read, 0) => *call.lent[2].number::<usize>(),
             _ => 0,
         };
     }
@@ -96,16 +99,18 @@ impl Reader {
     /// The next call: mostly the one that a caller would make now.
     fn call(&self, rng: &mut Rng) -> Call {
         let waits = State::read(&self.state).is_ok_and(|state| state.waits);
-        let function = match rng.below(20) {
+        let function = match rng.below(25) {
             0 => Function::Start,
             1 => Function::End,
             2 => Function::Take,
             3 => Function::Feed,
             4 => Function::FeedAll,
             5 => Function::Counts,
+            6 | 7 => Function::Read,
             _ if waits => Function::Take,
             _ if self.fed >= self.line.len() => Function::End,
-            6..=9 => Function::Feed,
+            8..=11 => Function::Feed,
+            12..=14 => Function::Read,
             _ => Function::FeedAll,
         };
         self.call_of(function, rng)
@@ -129,6 +134,11 @@ impl Reader {
                 lent.push(room(rng, self.frame_length()));
                 lent.extend(numbers(rng, 4));
             }
+            Function::Read => {
+                read.push(self.next_bytes(rng));
+                lent.push(rows(rng));
+                lent.extend(numbers(rng, 3));
+            }
             _ => {}
         }
         parts(function, given, read, lent)
@@ -142,10 +152,11 @@ impl Reader {
         }
     }
 
-    /// The next bytes of the line: none, a few, or all.
+    /// The next bytes of the line: none, a few, or all; all of over 65,536.
     fn next_bytes(&self, rng: &mut Rng) -> Place {
         let rest = self.line.get(self.fed..).unwrap_or(&[]);
         let count = match rng.below(4) {
+            _ if rest.len() > 1 << 16 => rest.len(),
             0 => rng.place(8),
             1 => rng.place(60),
             2 => rng.place(300),
@@ -159,4 +170,25 @@ impl Reader {
         let taken = State::read(&self.state).and_then(|mut state| state.take());
         taken.map_or(9, |taken| journal::length_for(taken.frame.n.into()))
     }
+}
+
+/// Room for none to a few rows: just so many bytes, one less, one more, or more by less
+/// than a row; seldom too short for one modulo 2^8 or 2^16.
+fn rows(rng: &mut Rng) -> Place {
+    let count = match rng.below(4) {
+        0 => rng.place(3),
+        1 => rng.place(12),
+        _ => 1,
+    };
+    let size = match rng.below(10) {
+        0 => (ROW * count).saturating_sub(1),
+        1 => ROW * count + 1,
+        2 => ROW * count + rng.place(ROW),
+        3 => {
+            let few = rng.place(ROW);
+            longer(rng, few)
+        }
+        _ => ROW * count,
+    };
+    Place::bytes_of_size(rng, size)
 }

@@ -10,7 +10,7 @@ use Rattle.bits.specs.Bits.{number}
 use Rattle.line.specs.Line.{six}
 use Rattle.line.proofs.LineLaws.{six-lt, six-bits, six-refused}
 use Rattle.reader.specs.Reading.{stepCells, stepTo, FiveIn, Run, spent, runTo}
-use Rattle.reader.proofs.Accepted.{Accepted, accept-free, room-free, length-step, accepted-step}
+use Rattle.reader.proofs.Accepted.{Accepted, to-accepted, room-free, length-step, accepted-step}
 use Rattle.reader.proofs.Running.{spent-none, loop-waits, loop-ends, loop-on, loop-over}
 use Rattle.reader.proofs.Ahead.{many-quiet}
 use Rattle.reader.proofs.Bursts.{goes-many}
@@ -31,7 +31,7 @@ loop-holds c =
     let s = c .before in
     let a = s .args in (
       s .pre .0,
-      accept-free (a .from) (s .pre .5) (s .pre .1) (s .pre .2) (s .pre .3) (s .pre .4) (s .pre .6),
+      to-accepted (a .from) (s .pre .1),
       omega arith,
       omega arith,
       spent-none (runTo (now (a .cells)) (a .from) (now (a .bytes))),

@@ -1,4 +1,4 @@
--- `rtcm2_feed` meets its contract: no state held, a byte that ends no word, the reader's refusal, or the state that is left. Assumes nothing.
+-- `rtcm2_feed` meets its contract: no state held, a byte that needs no hunt, the reader's refusal, or the state that is left. Assumes nothing.
 use mathlib.Core.Path.{_≡_, refl, sym, ap, _∙_}
 use mathlib.Core.Bool.{true, cond}
 use denote.Ref.{now}
@@ -29,7 +29,7 @@ start c = c .before .before .before .before
 held : (c : tie.Else1) → holdsState (now (start c .args .state)) ≡ true
 held c = sym (c .before .holds-state .ensures) ∙ not-false _ (c .if1 .left)
 
--- a byte that ends no word
+-- a byte that needs no hunt
 returns-2 : tie.Need-returns-2
 unfolding fedIn
 returns-2 c =
