@@ -20,6 +20,18 @@ layoutOf kind =
     (cond (eqb kind 18 || eqb kind 19) Observation
     (cond (eqb kind 41 || eqb kind 42) General Plain)))))))
 
+-- the layouts by number, so that two can be compared
+abbrev pub layoutNumber : Layout → ℕ
+layoutNumber Correction = 0
+layoutNumber Position = 1
+layoutNumber Health = 2
+layoutNumber Null = 3
+layoutNumber Text = 4
+layoutNumber Plain = 5
+layoutNumber CorrectionOrNull = 6
+layoutNumber Observation = 7
+layoutNumber General = 8
+
 -- THE SYSTEM: GLONASS has the types 31 to 36
 unfoldable pub systemOf : ℕ → System
 systemOf kind = cond (ltb kind 31 || ltb 36 kind) Gps Glonass

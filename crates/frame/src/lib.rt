@@ -8,7 +8,7 @@ ghost use Rattle.bits.specs.Bits.{bits};
 ghost use Rattle.frame.specs.Header.{stateOf, kindOf, headerOf, nOf, preambled};
 ghost use Rattle.frame.specs.Frames.{builtOf, blank};
 ghost use Rattle.frame.specs.Answer.{healthOf, headerWords, headerWidths, frameWidths, clockOf};
-ghost use Rattle.frame.specs.Layout.{layoutOf, systemOf};
+ghost use Rattle.frame.specs.Layout.{layoutOf, layoutNumber, systemOf};
 use crate::code::FACTORS;
 use crate::code::code_of;
 use crate::outside::any_from;
@@ -249,7 +249,7 @@ pub fn clock_of(z: u16) -> Clock
     Clock::Hour
 }
 
-// What a type number says about the data words.
+// What a type number says about the data words. Neighbours have an arm each, so that no arm is a range.
 pub fn layout_of(kind: u8) -> Layout
     ensures { λ r. ⌜ r ≡ layoutOf kind ⌝ }
 {
@@ -260,10 +260,28 @@ pub fn layout_of(kind: u8) -> Layout
         5 | 33 => Layout::Health,
         6 => Layout::Null,
         16 | 36 => Layout::Text,
-        18 | 19 => Layout::Observation,
+        18 => Layout::Observation,
+        19 => Layout::Observation,
         41 => Layout::General,
         42 => Layout::General,
         _ => Layout::Plain,
+    }
+}
+
+// A number for each layout, so that two can be compared.
+pub fn layout_number(layout: Layout) -> u8
+    ensures { λ r. ⌜ r ≡ layoutNumber layout ⌝ }
+{
+    match layout {
+        Layout::Correction => 0,
+        Layout::Position => 1,
+        Layout::Health => 2,
+        Layout::Null => 3,
+        Layout::Text => 4,
+        Layout::Plain => 5,
+        Layout::CorrectionOrNull => 6,
+        Layout::Observation => 7,
+        Layout::General => 8,
     }
 }
 

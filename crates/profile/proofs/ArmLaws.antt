@@ -20,7 +20,7 @@ use Rattle.frame.specs.declared.System.{System}
 use Rattle.frame.specs.declared.System.the-variants.{Gps}
 use Rattle.record_fields.specs.Coding.{frameBits, entryIn}
 use Rattle.record_stages.specs.declared.Count.the-variants as count
-use Rattle.record_stages.specs.Stages.{layoutNumber, otherLayout, entriesHeld, misfit, wrongSize, readOrder, saysCount}
+use Rattle.record_stages.specs.Stages.{otherLayout, entriesHeld, misfit, wrongSize, readOrder, saysCount}
 use Rattle.record_stages.specs.Lists.{heldTo}
 use Rattle.record_stages.proofs.ListCode.{told-some-few}
 use Rattle.record_stages.proofs.StageLaws.{last-fine}
@@ -79,7 +79,7 @@ module _ (f : Frame) (within : outside f ≡ false) (hour : late (f .header .z) 
   reader l wrongN more refuse answer same = rw (within, same, hour)
 
   pub by-position : f .header .kind ≡ 3 → settled (saysPositionRead (readPosition f)) ≡ checkProfile f
-  unfolding readPosition otherLayout layoutOf layoutNumber
+  unfolding readPosition otherLayout layoutOf
   by-position e =
       ap (λ r. settled (saysPositionRead r))
       (reader layout.Position (wrongSize 4 (f .n)) ((farOut (positionIn f), 10) ∷ []) position.Refused (position.At (positionIn f))
@@ -88,7 +88,7 @@ module _ (f : Frame) (within : outside f ≡ false) (hour : late (f .header .z) 
       ∙ sym (passed 3 e)
 
   pub by-healths : f .header .kind ≡ 5 → settled (saysCount (countHealths f)) ≡ checkProfile f
-  unfolding countHealths otherLayout layoutOf layoutNumber
+  unfolding countHealths otherLayout layoutOf
   by-healths e =
       ap (λ r. settled (saysCount r))
       (reader layout.Health (misfit 24 (f .n)) [] count.Refused (count.Of (entriesHeld 24 (f .n))) (ap (otherLayout layout.Health) e))
@@ -96,7 +96,7 @@ module _ (f : Frame) (within : outside f ≡ false) (hour : late (f .header .z) 
       ∙ sym (passed 5 e)
 
   pub by-null : f .header .kind ≡ 6 → settled (saysNullRead (readNull f)) ≡ checkProfile f
-  unfolding readNull otherLayout layoutOf layoutNumber
+  unfolding readNull otherLayout layoutOf
   by-null e =
       ap (λ r. settled (saysNullRead r))
       (reader layout.Null (tooMany (f .n)) [] null.Refused (null.Null (f .n)) (ap (otherLayout layout.Null) e))
@@ -105,7 +105,7 @@ module _ (f : Frame) (within : outside f ≡ false) (hour : late (f .header .z) 
 
   -- a buffer of 90 has room for every text
   pub by-text : f .header .kind ≡ 16 → textProfile f ≡ checkProfile f
-  unfolding readText otherLayout layoutOf layoutNumber systemOf
+  unfolding readText otherLayout layoutOf systemOf
   by-text e =
       ap (λ r. settled (saysCount r))
       (reader layout.Text (wrongWords (f .n)) (last (systemOf (f .header .kind))) count.Refused (count.Of (lengthIn f)) (ap (otherLayout layout.Text) e))
@@ -155,7 +155,7 @@ module _ (f : Frame) (within : outside f ≡ false) (hour : late (f .header .z) 
 
     -- past 8
     counted : countCorrections f ≡ inOrder ((misfit 40 (f .n), 8) ∷ []) count.Refused (count.Of (satelliteCount f))
-    unfolding countCorrections otherLayout layoutOf layoutNumber
+    unfolding countCorrections otherLayout layoutOf
     counted =
         reader layout.Correction (misfit 40 (f .n)) [] count.Refused (count.Of (satelliteCount f)) (ap (otherLayout layout.Correction) e)
 

@@ -20,7 +20,7 @@ use Rattle.frame.specs.declared.Layout.the-variants as layout
 use Rattle.frame.specs.declared.System.the-variants.{Gps}
 use Rattle.record_fields.specs.Coding.{Each, frameWith}
 use Rattle.record_stages.specs.declared.Count.the-variants as count
-use Rattle.record_stages.specs.Stages.{layoutNumber, otherLayout, wrongCount, makeOrder, refusedMade, doneMade, HeaderFor}
+use Rattle.record_stages.specs.Stages.{otherLayout, wrongCount, makeOrder, refusedMade, doneMade, HeaderFor}
 use Rattle.record_stages.proofs.ListCode.{some-few}
 use Rattle.record_stages.proofs.StageLaws.{done-apart as made-apart}
 use Rattle.record_corrections.specs.declared.Correction.{Correction}
@@ -148,7 +148,7 @@ module _ (h : Header) (es : List Correction) (c : ℕ) where
   ranges-fine f e q = sym (gps e) ∙ order-told refusedMade (doneMade whole) (doneMade f) (λ n. made-apart n f) makes q .0 .1 .1 .1 .1 .0
 
   whole-made : h .kind ≡ 9 → NoneApplies (cutOrder h es c) → makeCorrections h es c ≡ doneMade whole
-  unfolding makeCorrections otherLayout layoutOf layoutNumber
+  unfolding makeCorrections otherLayout layoutOf
   whole-made e t =
       order-answers refusedMade (doneMade whole) makes
       (t .0, (ap (otherLayout layout.Correction) e, (t .1 .1 .0, (t .1 .1 .1 .0, (gps e ∙ t .1 .1 .1 .1 .0, tt)))))

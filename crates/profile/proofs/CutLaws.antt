@@ -18,7 +18,7 @@ use Rattle.frame.specs.declared.System.{System}
 use Rattle.frame.specs.declared.System.the-variants.{Gps}
 use Rattle.frame.proofs.WidthLaws.{to-inside, from-inside}
 use Rattle.record_fields.specs.Coding.{frameWith}
-use Rattle.record_stages.specs.Stages.{layoutNumber, otherLayout, wrongCount, makeOrder, refusedMade, doneMade}
+use Rattle.record_stages.specs.Stages.{otherLayout, wrongCount, makeOrder, refusedMade, doneMade}
 use Rattle.record_stages.specs.declared.Made.{Made}
 use Rattle.record_stages.specs.declared.Making.{Making}
 use Rattle.record_stages.specs.declared.Making.the-variants as making
@@ -92,7 +92,7 @@ module _ (h : Header) (es : List Correction) (s : Sound h es) (i : ℕ) (there :
   size = (omega (arith, part-size es i, there), omega (arith, part-size es i))
 
   pub part-made : makeCorrections (rising h i) (part es i) (length (part es i)) ≡ doneMade (cutFrame h es i)
-  unfolding makeCorrections otherLayout layoutOf layoutNumber systemOf cutFrame
+  unfolding makeCorrections otherLayout layoutOf systemOf cutFrame
   part-made =
       ap (λ y. inOrder (makeOrder layout.Correction (rising h i) (more y)) refusedMade (doneMade (frameWith fill (coding y) (rising h i) all)))
       (ap systemOf (s .kind))
@@ -150,7 +150,7 @@ module _ (h : Header) (es : List Correction) (c : ℕ) (inside : headerOutside h
 
     -- what making answers is what the checks in the middle say
     answer-is : m .answer ≡ inOrder middle making.Refused making.Done
-    unfolding makeCorrections otherLayout layoutOf layoutNumber systemOf refusedMade doneMade
+    unfolding makeCorrections otherLayout layoutOf systemOf refusedMade doneMade
     answer-is =
         ap (λ x. x .answer)
         (is

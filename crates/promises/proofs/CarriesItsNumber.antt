@@ -13,6 +13,7 @@ use Rattle.line.specs.Answer.{saysSix}
 use Rattle.line.specs.declared.Six.the-variants as six
 use Rattle.word.specs.Answer.{saysSent}
 use Rattle.word.specs.declared.Sent.the-variants as sent
+use Rattle.frame.specs.Layout.{layoutNumber}
 use Rattle.frame.specs.Frames.{blank}
 use Rattle.frame.specs.Widths.{anyOf, stateOutside, late}
 use Rattle.frame.specs.Answer.{saysHealthCode, saysWords, saysWidths, saysClock}
@@ -37,7 +38,7 @@ use Rattle.journal.specs.Words.{recallWordsOrder, recalledWords, keepsWords}
 use Rattle.journal.specs.declared.Kept.the-variants as kept
 use Rattle.journal_moves.specs.Moving.{saysMoved}
 use Rattle.journal_moves.specs.declared.Moved.the-variants as moved
-use Rattle.record_stages.specs.Stages.{layoutNumber, otherLayout, entryRefusal, refusedMade, doneMade, saysAsked, saysSize, saysCount, saysPlace, saysMade}
+use Rattle.record_stages.specs.Stages.{otherLayout, entryRefusal, refusedMade, doneMade, saysAsked, saysSize, saysCount, saysPlace, saysMade}
 use Rattle.record_corrections.specs.Corrections.{countCorrections, correctionAt, makeCorrections, saysCorrectionRead}
 use Rattle.record_healths.specs.Healths.{countHealths, healthAt, makeHealths, saysHealthRead}
 use Rattle.record_positions.specs.Positions.{readPosition, makePosition, saysPositionRead}

@@ -24,5 +24,6 @@ part-calls = record {
   frame-widths = record { asks-nothing = λ κs a. tt; settles = λ κs a z e p. p; ends = frame.frame_widths.Met.met };
   clock-of = record { asks-nothing = λ κs a. tt; settles = λ κs a z e p. p; ends = frame.clock_of.Met.met };
   layout-of = record { asks-nothing = λ κs a. tt; settles = λ κs a z e p. p; ends = frame.layout_of.Met.met };
+  layout-number = record { asks-nothing = λ κs a. tt; settles = λ κs a z e p. p; ends = frame.layout_number.Met.met };
   system-of = record { asks-nothing = λ κs a. tt; settles = λ κs a z e p. p; ends = frame.system_of.Met.met };
 }

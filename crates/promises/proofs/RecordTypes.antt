@@ -7,12 +7,12 @@ use Rattle.frame.specs.Layout.{layoutOf}
 use Rattle.frame.specs.Widths.{anyOf}
 use Rattle.frame.specs.declared.Layout.{Layout}
 use Rattle.frame.specs.declared.Layout.the-variants as layout
-use Rattle.record_stages.specs.Stages.{layoutNumber, isOf, otherLayout}
+use Rattle.record_stages.specs.Stages.{isOf, otherLayout}
 use Rattle.promises.specs.Demand2.{recordTypes}
 
 -- type number by type number, in the order of the decision
 pub fifteen : (kind : ℕ) → otherLayout layout.Plain kind ≡ anyOf (eqb kind) recordTypes
-unfolding otherLayout layoutOf layoutNumber
+unfolding otherLayout layoutOf
 fifteen kind =
     go (eqb kind 1) (eqb kind 9) (eqb kind 31) (eqb kind 34) (eqb kind 3) (eqb kind 32) (eqb kind 5) (eqb kind 33) (eqb kind 6) (eqb kind 16)
     (eqb kind 36) (eqb kind 18) (eqb kind 19) (eqb kind 41) (eqb kind 42)

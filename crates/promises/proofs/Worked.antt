@@ -12,7 +12,7 @@ use Rattle.frame.specs.Header.{factors, stateOf, codeOf, preambled, nOf, header
 use Rattle.frame.specs.Frames.{framed, afterPair, turnedFrame}
 use Rattle.frame.specs.Widths.{stateOutside, numbersOutside, headerOutside, pairOutside, outside}
 use Rattle.frame.specs.Layout.{layoutOf}
-use Rattle.record_stages.specs.Stages.{layoutNumber, otherLayout, misfitAfter}
+use Rattle.record_stages.specs.Stages.{otherLayout, misfitAfter}
 use Rattle.record_corrections.specs.Corrections.{countCorrections}
 use Rattle.record_values.specs.Values.{signedValue, hundredthsOf, limits, udreValue}
 use Rattle.stream.specs.Standing.{right, nAt, dataFrom, frameAt, placed, allRight, stands, scan, framesIn}
@@ -72,7 +72,7 @@ zero-bits : six 0x40 ≡ replicate 6 false
 zero-bits = unfold bits number six in refl
 
 pub worked : WorkedValues
-unfolding factors stateOf signedValue hundredthsOf limits udreValue outside pairOutside headerOutside numbersOutside stateOutside layoutOf layoutNumber
+unfolding factors stateOf signedValue hundredthsOf limits udreValue outside pairOutside headerOutside numbersOutside stateOutside layoutOf
     otherLayout misfitAfter countCorrections
 worked = record {
   word-1 = unfold bits number rows parity turnedBy sent in refl;

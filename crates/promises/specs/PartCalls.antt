@@ -8,7 +8,7 @@ use Rattle.word.specs.Answer.{testedBy, remainderAt, wordOf}
 use Rattle.frame.specs.Header.{stateOf, headerOf, nOf, preambled}
 use Rattle.frame.specs.Answer.{healthOf, headerWidths, headerWords, frameWidths, clockOf}
 use Rattle.frame.specs.Frames.{builtOf, blank}
-use Rattle.frame.specs.Layout.{layoutOf, systemOf}
+use Rattle.frame.specs.Layout.{layoutOf, layoutNumber, systemOf}
 use Rattle.line.proofs.six_of
 use Rattle.line.proofs.byte_of
 use Rattle.word.proofs.data_of
@@ -27,6 +27,7 @@ use Rattle.frame.proofs.header_words
 use Rattle.frame.proofs.frame_widths
 use Rattle.frame.proofs.clock_of
 use Rattle.frame.proofs.layout_of
+use Rattle.frame.proofs.layout_number
 use Rattle.frame.proofs.system_of
 use Rattle.promises.specs.Answered.{Answered}
 
@@ -70,5 +71,7 @@ pub record PartCalls : Type 2 where
       (λ κs (z, _). clockOf z)
   pub layout-of : Answered layout_of.Reads.Asked layout_of.Reads.Learnt layout_of.Statement.statement
       (λ κs (kind, _). layoutOf kind)
+  pub layout-number : Answered layout_number.Reads.Asked layout_number.Reads.Learnt layout_number.Statement.statement
+      (λ κs (layout, _). layoutNumber layout)
   pub system-of : Answered system_of.Reads.Asked system_of.Reads.Learnt system_of.Statement.statement
       (λ κs (kind, _). systemOf kind)

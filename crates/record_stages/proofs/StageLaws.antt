@@ -9,7 +9,7 @@ use lib.Dec.{eqb}
 use borrow.Author.Tests.{eq-eqb, ne-eqb}
 use Rattle.answer.specs.Order.{Check, inOrder}
 use Rattle.answer.proofs.OrderLaws.{order-map, order-append}
-use Rattle.frame.specs.Layout.{layoutOf}
+use Rattle.frame.specs.Layout.{layoutOf, layoutNumber}
 use Rattle.frame.specs.Widths.{headerOutside, outside, late}
 use Rattle.frame.specs.Answer.{headerWidths, frameWidths, clockOf}
 use Rattle.frame.proofs.WidthLaws.{told-outside, told-within, told-late, told-hour}
@@ -27,7 +27,7 @@ use Rattle.record_stages.specs.declared.Ranged.the-variants as ranged
 use Rattle.record_stages.specs.declared.checks.Suited.{Suited}
 use Rattle.record_stages.specs.declared.checks.Suited.the-variants as suited
 use Rattle.record_stages.specs.declared.Count.the-variants as count
-use Rattle.record_stages.specs.Stages.{layoutNumber, otherLayout, askedOf, rangedOf, readOrder, makeOrder, refusedMade, doneMade}
+use Rattle.record_stages.specs.Stages.{otherLayout, askedOf, rangedOf, readOrder, makeOrder, refusedMade, doneMade}
 
 -- ---- what a stage's answer says of its check
 
@@ -78,7 +78,7 @@ abbrev byNumbers : ℕ → ℕ → Asked
 byNumbers f a = cond (not (eqb f a || (eqb f 6 && (eqb a 0 || eqb a 3)))) Other Same
 
 pub asked-by : (l : Layout) (kind f a : ℕ) (r : Asked) → f ≡ layoutNumber (layoutOf kind) → a ≡ layoutNumber l → r ≡ byNumbers f a → r ≡ askedOf l kind
-unfolding otherLayout layoutNumber
+unfolding otherLayout
 asked-by l kind f a r ef ea e = e ∙ ap₂ byNumbers ef ea
 
 module _ (f a : ℕ) where

@@ -7,7 +7,7 @@ use Prim.Native.Nat.{ℕ, _+_, _*_, _-_, _/_, _<_}
 use lib.Dec.{ltb, leb, eqb}
 use Rattle.answer.specs.Order.{Says, refuses, answers, Check, inOrder}
 use Rattle.frame.specs.Frames.{builtOf, blank}
-use Rattle.frame.specs.Layout.{layoutOf}
+use Rattle.frame.specs.Layout.{layoutOf, layoutNumber}
 use Rattle.frame.specs.Widths.{headerOutside, outside, late}
 use Rattle.frame.specs.declared.Header.{Header}
 use Rattle.frame.specs.declared.Frame.{Frame}
@@ -37,18 +37,6 @@ use Rattle.record_stages.specs.declared.Making.the-variants as making
 use Rattle.record_stages.specs.declared.Made.{Made}
 
 -- ---- refusal 6: ONE DECISION over type numbers, held against the layout asked for
-
--- the layouts by number, so that two can be compared
-unfoldable pub layoutNumber : Layout → ℕ
-layoutNumber layout.Correction = 0
-layoutNumber layout.Position = 1
-layoutNumber layout.Health = 2
-layoutNumber layout.Null = 3
-layoutNumber layout.Text = 4
-layoutNumber layout.Plain = 5
-layoutNumber layout.CorrectionOrNull = 6
-layoutNumber layout.Observation = 7
-layoutNumber layout.General = 8
 
 abbrev pub sameLayout : Layout → Layout → Bool
 sameLayout a b = eqb (layoutNumber a) (layoutNumber b)

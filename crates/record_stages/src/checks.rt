@@ -3,7 +3,6 @@ ghost use mathlib.Core.Path.{_≡_};
 ghost use Rattle.record_stages.specs.Stages.{suitedBy, entryRefusal};
 use crate::Asked;
 use crate::asked_of;
-use crate::layout_number;
 use frame::Clock;
 use frame::Header;
 use frame::Layout;
@@ -41,7 +40,7 @@ pub(crate) fn suits(layout: Layout, header: Header, most: usize, count: usize) -
 pub(crate) fn entry_refusal(layout: Layout) -> u8
     ensures { λ r. ⌜ r ≡ entryRefusal layout ⌝ }
 {
-    if layout_number(layout) == layout_number(Layout::Text) {
+    if frame::layout_number(layout) == frame::layout_number(Layout::Text) {
         return 11;
     }
     10

@@ -2,7 +2,7 @@
 mod checks;
 
 ghost use mathlib.Core.Path.{_≡_};
-ghost use Rattle.record_stages.specs.Stages.{layoutNumber, askedOf, entriesIn, indexOf, countAfter, placeAfter, sizeOf};
+ghost use Rattle.record_stages.specs.Stages.{askedOf, entriesIn, indexOf, countAfter, placeAfter, sizeOf};
 ghost use Rattle.record_stages.specs.Stages.{refusedMade, madeBy};
 use crate::checks::Suited;
 use crate::checks::entry_refusal;
@@ -68,29 +68,12 @@ pub struct Made {
     pub frame: Frame,
 }
 
-// A number for each layout, so that two can be compared.
-fn layout_number(layout: Layout) -> u8
-    ensures { λ r. ⌜ r ≡ layoutNumber layout ⌝ }
-{
-    match layout {
-        Layout::Correction => 0,
-        Layout::Position => 1,
-        Layout::Health => 2,
-        Layout::Null => 3,
-        Layout::Text => 4,
-        Layout::Plain => 5,
-        Layout::CorrectionOrNull => 6,
-        Layout::Observation => 7,
-        Layout::General => 8,
-    }
-}
-
 // Whether a type number has the layout that is asked for.
 pub fn asked_of(layout: Layout, kind: u8) -> Asked
     ensures { λ r. ⌜ r ≡ askedOf layout kind ⌝ }
 {
-    let found = layout_number(frame::layout_of(kind));
-    let asked = layout_number(layout);
+    let found = frame::layout_number(frame::layout_of(kind));
+    let asked = frame::layout_number(layout);
     if found == asked {
         return Asked::Same;
     }

@@ -18,7 +18,7 @@ use Rattle.record_fields.specs.Coding.{frameAfter}
 use Rattle.record_fields.specs.Tables.{noRows, putRow}
 use Rattle.record_fields.proofs.TableLaws.{push-codes}
 use Rattle.record_stages.specs.declared.Made.{Made}
-use Rattle.record_stages.specs.Stages.{layoutNumber, otherLayout, wrongSize, madeOrder, madeBy, refusedMade, doneMade}
+use Rattle.record_stages.specs.Stages.{otherLayout, wrongSize, madeOrder, madeBy, refusedMade, doneMade}
 use Rattle.record_stages.proofs.ListLaws.{rows-after}
 use Rattle.record_stages.proofs.StageLaws.{told-wrong, told-right}
 use Rattle.record_generals.specs.Generals.{otherSystem, widths, coding, least, most, numbers, outOfRange, fill}
@@ -46,7 +46,7 @@ from6 h n s = (otherThanNull (h .kind), 6) ∷ from7 h n s
 
 -- type 42 has the layout
 its-layout : otherLayout layout.General 42 ≡ false
-unfolding otherLayout layoutOf layoutNumber
+unfolding otherLayout layoutOf
 its-layout = refl
 
 has-layout : (kind : ℕ) → kind ≡ 42 → otherLayout layout.General kind ≡ false
@@ -55,7 +55,7 @@ has-layout kind e = ap (otherLayout layout.General) e ∙ its-layout
 -- what is made of the row, where the header suits
 made : (h : Header) (s : ℕ) (r : Rows) (m : Made) → m ≡ madeBy layout.General 1 fill h 1 r → r ≡ systemRows s
     → headerOutside h ≡ false → h .kind ≡ 42 → late (h .z) ≡ false → m ≡ done h s
-unfolding layoutNumber putRow noRows
+unfolding putRow noRows
 made h s r m em er inside kind hour =
     rows-after layout.General (coding 0) fill 1 (outOfRange 0) numbers least (most 0) (λ g. push-codes (widths 0) (numbers g)) (λ g. refl)
     (narrow 0 (omega arith)) (systemRows s) (systemBits s) (system-held s) (omega (arith, system-long s)) h [] 1 r m em (λ e. (omega arith, er))

@@ -18,7 +18,7 @@ use Rattle.record_fields.specs.Tables.{noRows, putRow, putRows}
 use Rattle.record_fields.proofs.TableLaws.{push-codes}
 use Rattle.record_stages.specs.declared.Asked.the-variants.{Same}
 use Rattle.record_stages.specs.declared.Made.{Made}
-use Rattle.record_stages.specs.Stages.{layoutNumber, askedOf, wrongCount, madeBy, refusedMade, doneMade}
+use Rattle.record_stages.specs.Stages.{askedOf, wrongCount, madeBy, refusedMade, doneMade}
 use Rattle.record_stages.proofs.ListLaws.{entries-after}
 use Rattle.record_stages.proofs.StageLaws.{make5, make6, make7, make-on}
 use Rattle.record_generals.specs.declared.General.{General}
@@ -45,7 +45,7 @@ made : (h : Header) (a : GeneralHead) (gs : List General) (c : ℕ) (r : Rows) (
     m ≡ madeBy layout.General (mostGenerals d) fill h c r → r ≡ putRows (widths d) least (most d) (map numbers (take c gs)) (headRows a)
     → Within ≡ headerWidths h → Same ≡ askedOf layout.General (h .kind) → Hour ≡ clockOf (h .z) → otherSystem (a .system) ≡ false
     → m ≡ makeGenerals h a gs c
-unfolding makeGenerals layoutNumber putRow noRows
+unfolding makeGenerals putRow noRows
 made h a gs c r m em er within same hour known =
     let d = delayWidth (a .ionosphere) in
     entries-after layout.General (coding d) fill (mostGenerals d) (outOfRange d) numbers least (most d) (λ g. push-codes (widths d) (numbers g)) (λ g. refl)

@@ -9,7 +9,6 @@ use Rattle.bits.specs.Fields.{span}
 use Rattle.frame.specs.declared.Layout.the-variants as layout
 use Rattle.record_fields.specs.Tables.{noRows, putRow, putRows}
 use Rattle.record_fields.proofs.TableLaws.{push-codes}
-use Rattle.record_stages.specs.Stages.{layoutNumber}
 use Rattle.record_stages.proofs.ListLaws.{entries-after}
 use Rattle.record_observations.specs.declared.Quantity.{Quantity}
 use Rattle.record_observations.specs.declared.Epoch.{Epoch}
@@ -24,7 +23,7 @@ few : (a : Epoch) (q : Quantity) → length (epochBits a) + 15 * span (widths q)
 few a q = omega (arith, head-long a, ap (λ w. 15 * w) (span-48 q))
 
 returns : tie.Need-returns
-unfolding makeObservations layoutNumber putRow noRows
+unfolding makeObservations putRow noRows
 returns c =
     let a = c .before .before .before .args in
     let q = quantityOf (a .header .kind) in

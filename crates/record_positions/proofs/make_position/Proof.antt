@@ -6,13 +6,13 @@ use borrow.Author.Needs.{needs}
 use Rattle.answer.specs.Order.{inOrder}
 use Rattle.frame.specs.declared.Layout.the-variants as layout
 use Rattle.record_fields.proofs.Making.{packed-frame}
-use Rattle.record_stages.specs.Stages.{layoutNumber, makeOrder, refusedMade, doneMade, madeBy}
+use Rattle.record_stages.specs.Stages.{makeOrder, refusedMade, doneMade, madeBy}
 use Rattle.record_positions.specs.Positions.{coding, fill, outOfRange, makePosition}
 use Rattle.record_positions.proofs.make_position.Statement.{statement}
 use Rattle.record_positions.proofs.make_position.Tie as tie
 
 returns : tie.Need-returns
-unfolding makePosition layoutNumber
+unfolding makePosition
 returns c =
     let o = c .before in
     let q = o .before in

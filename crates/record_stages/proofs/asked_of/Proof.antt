@@ -3,7 +3,7 @@ use mathlib.Core.Path.{ap, _∙_}
 use mathlib.Core.Bool.{true, false}
 use borrow.Author.Tests.{eq-eqb, ne-eqb}
 use borrow.Author.Needs.{needs}
-use Rattle.record_stages.specs.Stages.{layoutNumber}
+use Rattle.frame.specs.Layout.{layoutNumber}
 use Rattle.record_stages.proofs.StageLaws.{asked-by, one-layout, one-other, either}
 use Rattle.record_stages.proofs.asked_of.Statement.{statement}
 use Rattle.record_stages.proofs.asked_of.Tie as tie

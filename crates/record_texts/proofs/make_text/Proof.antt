@@ -13,7 +13,6 @@ use Rattle.frame.specs.declared.System.{System}
 use Rattle.frame.specs.Layout.{systemOf}
 use Rattle.record_fields.specs.declared.Rows.{Rows}
 use Rattle.record_fields.specs.Tables.{noRows, putRows}
-use Rattle.record_stages.specs.Stages.{layoutNumber}
 use Rattle.record_stages.proofs.ListCode.{told-some-few}
 use Rattle.record_stages.proofs.ListLaws.{rows-made}
 use Rattle.record_texts.specs.Texts.{widths, coding, fill, least, most, numbers, forbidden, makeText}
@@ -26,7 +25,7 @@ all-rows : (u s : System) (t : List ℕ) (r : Rows) → r ≡ putRows widths lea
 all-rows u s t r e same few = e ∙ ap₂ (λ v l. putRows widths least (most v) (map numbers l) noRows) same (take-all 90 t few)
 
 returns : tie.Need-returns
-unfolding makeText layoutNumber
+unfolding makeText
 returns c =
     let q = c .before in
     let u = q .before in

@@ -8,7 +8,7 @@ use Rattle.frame.specs.declared.Layout.the-variants as layout
 use Rattle.frame.specs.Layout.{systemOf}
 use Rattle.record_fields.specs.Tables.{noRows, putRows}
 use Rattle.record_fields.proofs.TableLaws.{push-codes}
-use Rattle.record_stages.specs.Stages.{layoutNumber, madeBy}
+use Rattle.record_stages.specs.Stages.{madeBy}
 use Rattle.record_stages.proofs.ListLaws.{entries-made}
 use Rattle.record_healths.specs.Healths as health
 use Rattle.rtcm2_rows.specs.Rows.{rowSize, countOf, entriesFrom}
@@ -19,7 +19,7 @@ use Rattle.rtcm2.proofs.health.made_of.Statement.{statement}
 use Rattle.rtcm2.proofs.health.made_of.Tie as tie
 
 returns : tie.Need-returns
-unfolding health.makeHealths layoutNumber
+unfolding health.makeHealths
 returns c =
     let r = c .before in
     let n = r .before .before .before .before in
