@@ -134,15 +134,25 @@ def wanted(root, crates):
     return found
 
 
+def with_place(text, name, names):
+    """The page with a heading and a place for a crate's table, behind the section of the crate before it that has one."""
+    earlier = [other for other in names[: names.index(name)] if BEGIN.format(other) in text]
+    section = text.index(BEGIN.format(earlier[-1])) if earlier else 0
+    at = text.index("\n## ", section) + 1
+    return f"{text[:at]}## {name}\n\n{BEGIN.format(name)}\n{END}\n\n{text[at:]}"
+
+
 def problems(root, crates, write):
-    """What on the page is not current. With `write` the tables that stand there are written anew."""
+    """What on the page is not current. With `write` the tables are written anew, and a crate that has none gets a heading and its table."""
     page = root / PAGE
     text = page.read_text(encoding="utf-8")
     found = []
     for name, lines in wanted(root, crates).items():
         begin = BEGIN.format(name)
+        if write and name in crates and begin not in text:
+            text = with_place(text, name, list(crates))
         if text.count(begin) != 1:
-            found.append(f"{PAGE}: there is no place for the table of {name}: a line `{begin}` and a line `{END}`")
+            found.append(f"{PAGE}: the table of {name} has no place, or more than one: .ci/contracts --write")
             continue
         start = text.index(begin) + len(begin)
         end = text.index(END, start)
