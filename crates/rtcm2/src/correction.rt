@@ -13,6 +13,7 @@ ghost use Rattle.rtcm2.specs.Rows.{rowTo, rowHeld};
 ghost use Rattle.rtcm2.specs.Corrections.{countSaid, entrySaid, madeSaid};
 use crate::header::Headed;
 use frame::Header;
+use frame::Layout;
 use journal::Found;
 use record_corrections::CorrectionRead;
 use record_stages::Made;
@@ -23,15 +24,7 @@ pub extern "C" fn rtcm2_count_corrections(frame: &[u8], count: &mut usize) -> u8
     ensures { λ r. ⌜ r ≡ numberOf (countSaid (frameSaid (now (frame .entry)))) ⌝ }
     ensures { λ _. ⌜ now (count .exit) ≡ left (countSaid (frameSaid (now (frame .entry)))) (λ k. k) (now (count .entry)) ⌝ }
 {
-    let recalled = journal::recall(frame);
-    let answer = recalled.answer;
-    match answer {
-        Found::Record(_) => {
-            let said = record_corrections::count_corrections(recalled.frame);
-            crate::rows::count_to(said, count)
-        }
-        Found::Refused(number) => number,
-    }
+    crate::rows::count_at(Layout::Correction, 0, 40, frame, count)
 }
 
 // A correction as a row at the start of the bytes: the refusal that there was, or 13.

@@ -30,15 +30,7 @@ pub extern "C" fn rtcm2_count_healths(frame: &[u8], count: &mut usize) -> u8
     ensures { λ r. ⌜ r ≡ numberOf (countSaid (frameSaid (now (frame .entry)))) ⌝ }
     ensures { λ _. ⌜ now (count .exit) ≡ left (countSaid (frameSaid (now (frame .entry)))) (λ k. k) (now (count .entry)) ⌝ }
 {
-    let recalled = journal::recall(frame);
-    let answer = recalled.answer;
-    match answer {
-        Found::Record(_) => {
-            let said = record_healths::count_healths(recalled.frame);
-            crate::rows::count_to(said, count)
-        }
-        Found::Refused(number) => number,
-    }
+    crate::rows::count_at(Layout::Health, 0, 24, frame, count)
 }
 
 // The health bits, as they are sent.

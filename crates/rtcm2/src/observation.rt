@@ -12,6 +12,7 @@ ghost use Rattle.rtcm2.specs.Observations.{editionBy, countSaid, epochSa
 use crate::header::Headed;
 use frame::Frame;
 use frame::Header;
+use frame::Layout;
 use journal::Found;
 use record_observations::Edition;
 use record_observations::Epoch;
@@ -44,15 +45,7 @@ pub extern "C" fn rtcm2_count_observations(frame: &[u8], count: &mut usize) -> u
     ensures { λ r. ⌜ r ≡ numberOf (countSaid (frameSaid (now (frame .entry)))) ⌝ }
     ensures { λ _. ⌜ now (count .exit) ≡ left (countSaid (frameSaid (now (frame .entry)))) (λ k. k) (now (count .entry)) ⌝ }
 {
-    let recalled = journal::recall(frame);
-    let answer = recalled.answer;
-    match answer {
-        Found::Record(_) => {
-            let said = record_observations::count_observations(recalled.frame);
-            crate::rows::count_to(said, count)
-        }
-        Found::Refused(number) => number,
-    }
+    crate::rows::count_at(Layout::Observation, 24, 48, frame, count)
 }
 
 // The head of a frame: frequency, smoothing, time. Order 14, 15, 16, 15, 16, then 6, 7, 8, 10.

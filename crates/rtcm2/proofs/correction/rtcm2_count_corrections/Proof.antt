@@ -1,34 +1,12 @@
--- `rtcm2_count_corrections` meets its contract: the record's refusal, or the count that its frame says. Assumes nothing.
-use mathlib.Core.Path.{sym, ap, _∙_}
-use denote.Ref.{now}
+-- `rtcm2_count_corrections` meets its contract: it is the count of the layout. Assumes nothing.
 use borrow.Author.Needs.{needs}
-use Rattle.record_stages.specs.Stages.{saysCount}
-use Rattle.rtcm2.specs.Corrections.{countSaid}
-use Rattle.rtcm2.proofs.RecallLaws.{frame-told, frame-refused}
-use Rattle.rtcm2.proofs.RowLaws.{counts-refused, counts-as}
+use Rattle.record_corrections.specs.Corrections.{countCorrections}
 use Rattle.rtcm2.proofs.correction.rtcm2_count_corrections.Statement.{statement}
 use Rattle.rtcm2.proofs.correction.rtcm2_count_corrections.Tie as tie
 
 returns : tie.Need-returns
-returns c =
-    let k = c .before .before in
-    let told = k .before in
-    let r = told .before .before in
-    let a = r .before .before .args in
-    counts-as (now (a .count))
-    (ap saysCount (k .count-corrections .ensures)
-    ∙ ap countSaid (frame-told (now (a .frame)) (r .recall .result) (r .recall .ensures) (sym (told .enum-told .given .1))))
-    (c .count-to .ensures)
-
-returns-2 : tie.Need-returns-2
-returns-2 c =
-    let r = c .before .before .before in
-    let a = r .before .before .args in
-    counts-refused (now (a .count))
-    (ap countSaid (frame-refused (now (a .frame)) (r .recall .result) (r .recall .ensures) (sym (c .before .answer .given .1))))
+unfolding countCorrections
+returns c = c .count-at .ensures
 
 pub rtcm2-count-corrections-spec : {M : Type 1} → statement M
-rtcm2-count-corrections-spec =
-    tie.close
-    (tie.spec (λ c κs. search needs) (λ c. search needs) (λ c κs. search needs) (λ c κs. search needs) (λ c. search needs) returns
-    returns-2)
+rtcm2-count-corrections-spec = tie.close (tie.spec (λ c κs. search needs) returns)
