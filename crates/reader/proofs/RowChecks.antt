@@ -9,13 +9,13 @@ use borrow.Author.Tests.{lt-ltb, le-ltb}
 use Rattle.answer.specs.Order.{inOrder}
 use Rattle.stream.specs.Standing.{stands}
 use Rattle.reader.specs.Reading.{candidateBits, past, frameWaits}
-use Rattle.reader.specs.Rows.{rowSize, rowsPut, stuck, going, turnedBy, rowsTurns}
+use Rattle.reader.specs.Rows.{rowSize, rowsPut, stuck, going, afterTurns, rowsTurns}
 use Rattle.reader.specs.Rows.{noRows, someRows, rowsBy, rowsTo}
 use Rattle.reader.specs.declared.Candidate.{Candidate}
 use Rattle.reader.specs.declared.Reader.{Reader}
 use Rattle.reader.specs.declared.Answer.the-variants.{Done}
 use Rattle.reader.specs.declared.rows.RowsRead.{RowsRead}
-use Rattle.reader.specs.declared.rows.Turned.{Turned}
+use Rattle.reader.specs.declared.rows.TurnsMade.{TurnsMade}
 use Rattle.reader.proofs.Turning.{flag-set}
 
 -- ---- whether a reader is stuck
@@ -81,8 +81,8 @@ module _ (r : Reader) (bs rows : List ℕ) where
             let l = lt-ltb (length rows) rowSize h in
             (e ∙ sym (rows-by false false false true p s n l), sym (rows-to false false false true p s n l))
 
-        pub rows-done : rowSize ≤ length rows → (cells : List ℕ) (t : Turned)
-            → turnedBy cells t ≡ someRows (rowsTurns (going (r .cells) (r .candidate)) bs rows)
+        pub rows-done : rowSize ≤ length rows → (cells : List ℕ) (t : TurnsMade)
+            → afterTurns cells t ≡ someRows (rowsTurns (going (r .cells) (r .candidate)) bs rows)
             → (rows′ : List ℕ) → rows′ ≡ rowsPut 0 (rowsTurns (going (r .cells) (r .candidate)) bs rows .frames) rows
             → (record {
               answer = Done;
@@ -98,7 +98,7 @@ module _ (r : Reader) (bs rows : List ℕ) where
               o ∙ ap (λ (x : Reader). rowsPut 0 (rowsTurns x bs rows .frames) rows) (sym same) ∙ sym (rows-to false false false false p s n l),
             )
           where
-            ended-as : Turned → List ℕ → Bool → RowsRead
+            ended-as : TurnsMade → List ℕ → Bool → RowsRead
             ended-as t cells b = record {
               answer = Done;
               used = t .used;

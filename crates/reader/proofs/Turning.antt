@@ -18,7 +18,7 @@ use Rattle.stream.proofs.Words.{n-lt}
 use Rattle.stream.proofs.Stand.{stands-long, test-stands}
 use Rattle.reader.specs.Hunting.{huntOf}
 use Rattle.reader.specs.Reading.{candidateBits, past, pastOf, frameWaits, movedTo, stepCells, stepTo, Run, runTo, ranBy, fedAllBy, takeTo, takenBy}
-use Rattle.reader.specs.Rows.{rowSize, rowOf, rowsPut, Turns, stopped, wentOn, takenOr, inTurns, going, turnedBy}
+use Rattle.reader.specs.Rows.{rowSize, rowOf, rowsPut, Turns, stopped, wentOn, takenOr, inTurns, going, afterTurns}
 use Rattle.reader.specs.Rows.{someRows}
 use Rattle.reader.specs.declared.hunt.Halt.{Halt}
 use Rattle.reader.specs.declared.Candidate.{Candidate}
@@ -210,7 +210,7 @@ module _ (whole : Turns) (rows₀ rows : List ℕ) (used passed count : ℕ) (re
 
   -- nothing is left
   pub far-end : (cells : List ℕ) (c : Candidate) (u p : ℕ) → rest ≡ record { reader = going cells c; used = u; passed = p; frames = [] }
-      → (turnedBy cells (record { candidate = c; used = used + u; passed = passed + p; count = count }) ≡ someRows whole)
+      → (afterTurns cells (record { candidate = c; used = used + u; passed = passed + p; count = count }) ≡ someRows whole)
       × (rows ≡ rowsPut 0 (whole .frames) rows₀)
   far-end cells c u p e = (
     (λ i. record { answer = Done; used = sym uses i; passed = sym passes i; count = sym counts i; reader = sym ends i }),
@@ -232,11 +232,11 @@ module _ (whole : Turns) (rows₀ rows : List ℕ) (used passed count : ℕ) (re
 -- there is no room for a row
 pub far-full : (whole : Turns) (rows₀ rows : List ℕ) (used passed count left : ℕ) (cells : List ℕ) (c : Candidate) (bs : List ℕ) → left ≡ 0
     → Far whole rows₀ rows used passed count (inTurns left (going cells c) bs)
-    → (turnedBy cells (record { candidate = c; used = used; passed = passed; count = count }) ≡ someRows whole) × (rows ≡ rowsPut 0 (whole .frames) rows₀)
+    → (afterTurns cells (record { candidate = c; used = used; passed = passed; count = count }) ≡ someRows whole) × (rows ≡ rowsPut 0 (whole .frames) rows₀)
 unfolding inTurns
 far-full whole rows₀ rows used passed count left cells c bs e far =
     let x = far-end whole rows₀ rows used passed count (inTurns left (going cells c) bs) far cells c 0 0 (ap (λ k. inTurns k (going cells c) bs) e) in
-    (ap₂ (λ u p. turnedBy cells (record { candidate = c; used = u; passed = p; count = count })) (sym (add-zero used)) (sym (add-zero passed)) ∙ x .0, x .1)
+    (ap₂ (λ u p. afterTurns cells (record { candidate = c; used = u; passed = p; count = count })) (sym (add-zero used)) (sym (add-zero passed)) ∙ x .0, x .1)
 
 -- the bytes left, counted from the start
 pub far-drop : {whole : Turns} {rows₀ rows : List ℕ} {used passed count : ℕ} (k : ℕ) (r : Reader) (u v : ℕ) (bs : List ℕ)

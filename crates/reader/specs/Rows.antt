@@ -17,7 +17,7 @@ use Rattle.reader.specs.declared.Answer.the-variants.{Done, Refused}
 use Rattle.reader.specs.declared.FedAll.{FedAll}
 use Rattle.reader.specs.declared.Taken.{Taken}
 use Rattle.reader.specs.declared.rows.RowsRead.{RowsRead}
-use Rattle.reader.specs.declared.rows.Turned.{Turned}
+use Rattle.reader.specs.declared.rows.TurnsMade.{TurnsMade}
 
 -- ---- rows
 
@@ -90,8 +90,8 @@ someRows t = record { answer = Done; used = t .used; passed = t .passed; count =
 abbrev pub going : List ℕ → Candidate → Reader
 going cells c = record { cells = cells; candidate = c; ended = false }
 
-abbrev pub turnedBy : List ℕ → Turned → RowsRead
-turnedBy cells t = record { answer = Done; used = t .used; passed = t .passed; count = t .count; reader = going cells (t .candidate) }
+abbrev pub afterTurns : List ℕ → TurnsMade → RowsRead
+afterTurns cells t = record { answer = Done; used = t .used; passed = t .passed; count = t .count; reader = going cells (t .candidate) }
 
 unfoldable pub rowsBy : Reader → List ℕ → List ℕ → RowsRead
 rowsBy r bytes rows = inOrder (rowsOrder r rows) (noRows r) (someRows (rowsTurns r bytes rows))

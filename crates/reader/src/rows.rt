@@ -9,7 +9,7 @@ ghost use Rattle.stream.specs.Standing.{nAt, dataFrom, stands, frameAt};
 ghost use Rattle.journal.specs.Bytes.{written};
 ghost use Rattle.reader.specs.Cells.{heldBits};
 ghost use Rattle.reader.specs.Reading.{pastOf, candidateBits, frameWaits, takeTo};
-ghost use Rattle.reader.specs.Rows.{rowOf, rowsPut, going, stuck, rowsTurns, turnedBy, noRows, someRows, rowsBy, rowsTo};
+ghost use Rattle.reader.specs.Rows.{rowOf, rowsPut, going, stuck, rowsTurns, afterTurns, noRows, someRows, rowsBy, rowsTo};
 use crate::Answer;
 use crate::Candidate;
 use crate::Reader;
@@ -36,7 +36,7 @@ pub struct RowsRead {
 }
 
 // What turns left beside the cells and the rows.
-pub(crate) struct Turned {
+pub(crate) struct TurnsMade {
     pub candidate: Candidate,
     pub used: usize,
     pub passed: usize,
@@ -114,9 +114,9 @@ fn frame_waits(cells: &[u32; 40], c: Candidate) -> bool
 }
 
 // Feeds and takes in turns while there is room for a row.
-fn turns(cells: &mut [u32; 40], from: Candidate, bytes: &[u8], rows: &mut [u8]) -> Turned
+fn turns(cells: &mut [u32; 40], from: Candidate, bytes: &[u8], rows: &mut [u8]) -> TurnsMade
     requires { ⌜ (length (now cells) ≡ 40) × (pastOf from ≡ false) ⌝ }
-    ensures { λ r. ⌜ turnedBy (now (cells .exit)) r
+    ensures { λ r. ⌜ afterTurns (now (cells .exit)) r
         ≡ someRows (rowsTurns (going (now (cells .entry)) from) (now (bytes .entry)) (now (rows .entry))) ⌝ }
     ensures { λ _. ⌜ now (rows .exit) ≡ rowsPut 0 (rowsTurns (going (now (cells .entry)) from) (now (bytes .entry)) (now (rows .entry)) .frames)
         (now (rows .entry)) ⌝ }
@@ -132,7 +132,7 @@ fn turns(cells: &mut [u32; 40], from: Candidate, bytes: &[u8], rows: &mut [u8]) 
         passed += ran.passed;
         c = ran.candidate;
         if !frame_waits(cells, c) {
-            return Turned {
+            return TurnsMade {
                 candidate: c,
                 used,
                 passed,
@@ -142,7 +142,7 @@ fn turns(cells: &mut [u32; 40], from: Candidate, bytes: &[u8], rows: &mut [u8]) 
         c = take_row(cells, c, ROW * count, rows);
         count += 1;
     }
-    Turned {
+    TurnsMade {
         candidate: c,
         used,
         passed,
@@ -193,14 +193,14 @@ pub fn read_rows(reader: Reader, bytes: &[u8], rows: &mut [u8]) -> RowsRead
     if rows.len() < ROW {
         return unread(next, 13);
     }
-    let turned = turns(&mut next.cells, c, bytes, rows);
-    let last = turned.candidate;
+    let made = turns(&mut next.cells, c, bytes, rows);
+    let last = made.candidate;
     next.candidate = last;
     RowsRead {
         answer: Answer::Done,
-        used: turned.used,
-        passed: turned.passed,
-        count: turned.count,
+        used: made.used,
+        passed: made.passed,
+        count: made.count,
         reader: next,
     }
 }
