@@ -9,8 +9,10 @@ WORD = re.compile(r"λ|→|[(){},;]|[^\s(){},;λ→]+")
 
 @dataclass
 class Field:
+    """A field of a record. Where the record is over a list layout, `over` is what it calls that."""
     file: Path
     record: str
+    over: str
     name: str
     words: list
     scope: dict
@@ -48,14 +50,14 @@ def words_of(text):
 def read_fields(file):
     """The fields of a file's public records."""
     text = file.read_text(encoding="utf-8")
-    scope, record, found = scope_of(text), "", []
+    scope, record, over, found = scope_of(text), "", "", []
     for line in text.splitlines():
-        started = re.match(r"pub record (\S+)", line)
+        started = re.match(r"pub record (\S+)(?: \((\w+) : ListLayout\))?", line)
         field = re.match(r"  pub (\S+) : (.*)", line)
         if started:
-            record = started.group(1)
+            record, over = started.group(1), started.group(2) or ""
         elif field and record:
-            found.append(Field(file, record, field.group(1), words_of(field.group(2)), scope))
+            found.append(Field(file, record, over, field.group(1), words_of(field.group(2)), scope))
         elif re.match(r"      ", line) and found:
             found[-1].words += words_of(line)
         elif line and not line.startswith(" "):
@@ -164,6 +166,16 @@ def put_in(term, values):
     if term[0] == "λ":
         return "λ", term[1], put_in(term[2], {name: value for name, value in values.items() if name not in term[1]})
     return (term[0], *(put_in(part, values) for part in term[1:]))
+
+
+def unfolded(term, definitions):
+    """A term with defined names replaced by what they are, each applied to its arguments at once."""
+    if isinstance(term, str):
+        return definitions.get(term, term)
+    if term[0] == "λ":
+        return "λ", term[1], unfolded(term[2], definitions)
+    parts = [unfolded(part, definitions) for part in term[1:]]
+    return ("app", *parts[0][1:], *parts[1:]) if term[0] == "app" and parts[0][0] == "app" else (term[0], *parts)
 
 
 def by_place(function):

@@ -11,6 +11,30 @@ ROOTS = ("Demands", "Library")
 
 NOW = "denote.Ref.now"
 
+# the list layouts stand in one definition; `EachList R` says the record R of each of them, and their calls are definitions of LISTS at the layout
+LAYOUTS, LAYOUT_OF, EACH = "crates/promises/specs/RecordLayouts.antt", "listOf", "EachList"
+LISTS = "Rattle.record_stages.specs.Lists."
+
+
+def own_name(file, name):
+    """A name of a file of specs as other crates know it."""
+    return f"Rattle.{file.parts[-3]}.specs.{file.stem}.{name}"
+
+
+def read_clauses(file, name):
+    """What a definition by clauses over constants answers, clause by clause."""
+    text = file.read_text(encoding="utf-8")
+    scope = antt.scope_of(text)
+    return [scope.get(value, own_name(file, value)) for value in re.findall(rf"^{name} \w+ = (\w+)$", text, re.MULTILINE)]
+
+
+def read_instances(file, module):
+    """The definitions of a file that are a definition of the module at a name: `countHealths = counted healthLayout`."""
+    text = file.read_text(encoding="utf-8")
+    scope = antt.scope_of(text)
+    return {own_name(file, name): ("app", scope[general], scope.get(value, own_name(file, value)))
+            for name, general, value in re.findall(r"^(\w+) = (\w+) (\w+)$", text, re.MULTILINE) if scope.get(general, "").startswith(module)}
+
 
 @dataclass
 class Call:
@@ -25,6 +49,10 @@ class Promises:
     def __init__(self, root):
         self.root = Path(root)
         self.calls, self.orders, self.keeps = {}, [], []
+        self.layouts = read_clauses(self.root / LAYOUTS, LAYOUT_OF)
+        self.instances = {}
+        for file in sorted(self.root.glob("crates/*/specs/*.antt")):
+            self.instances.update(read_instances(file, LISTS))
         for field in self.promised():
             head = field.words[0]
             if head in ("Answered", "AnsweredLent"):
@@ -40,10 +68,11 @@ class Promises:
             proofs += "\n".join(file.read_text(encoding="utf-8") for file in sorted((crate / "proofs").rglob("*.antt")))
         proved = [root for root in ROOTS if re.search(rf"^pub \S+ : {root}$", proofs, re.MULTILINE)]
         self.unproved = sorted(set(ROOTS) - set(proved))
+        over = {field.record for field in fields if field.over}
         reached, left = set(), proved
         while left:
             reached.add(left.pop())
-            left += {word for field in fields if field.record in reached for word in field.words} - reached - set(left)
+            left += {word for field in fields if field.record in reached for word in said_in(field.words, over)} - reached - set(left)
         return [field for field in fields if field.record in reached]
 
     def add_call(self, field):
@@ -54,11 +83,14 @@ class Promises:
             return
         bodies = [antt.by_place(part) for part in term[5:]]
         held, left = (antt.parts(bodies[1]), antt.parts(bodies[2])) if len(bodies) == 3 else ([], [])
-        self.calls[function] = Call(field, without_number(bodies[0]), held, left)
+        self.calls[function] = Call(field, antt.unfolded(without_number(bodies[0]), self.instances), held, left)
 
     def add_law(self, field):
         names, laws = antt.conclusion(field)
+        if field.over:
+            laws = [antt.put_in(law, {field.over: layout}) for layout in self.layouts for law in laws]
         for law in laws:
+            law = antt.unfolded(law, self.instances)
             head = law[1].split(".")[-1]
             if head == "Ordered":
                 self.orders.append((names, law[4]))
@@ -88,6 +120,11 @@ class Promises:
                 if found is not None and one not in names and antt.matches(other, was, names, found) is not None:
                     return True
         return False
+
+
+def said_in(words, over):
+    """The words of a field, but records over a list layout only where the field says them of each."""
+    return {word for before, word in zip(["", *words], words) if word not in over or before == EACH}
 
 
 def without_number(answer):

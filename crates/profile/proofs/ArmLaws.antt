@@ -1,7 +1,7 @@
 -- What the profile asks of each of its types is what their readers say: once 5 and 7 are passed, the rest of the order is the reader's own
 -- with 21 and 22 behind it. Assumes nothing.
 use mathlib.Core.Path.{_≡_, refl, sym, ap, ap₂, _∙_}
-use mathlib.Core.Bool.{Bool, true, false}
+use mathlib.Core.Bool.{Bool, true, false, cond}
 use mathlib.Core.List.{List, [], _∷_}
 use Prim.Native.Nat.{ℕ, zero, suc, _*_, _≤_, _<_}
 use native.Mathlib.Omega.{arith}
@@ -21,12 +21,11 @@ use Rattle.frame.specs.declared.System.the-variants.{Gps}
 use Rattle.record_fields.specs.Coding.{frameBits, entryIn}
 use Rattle.record_stages.specs.declared.Count.the-variants as count
 use Rattle.record_stages.specs.Stages.{otherLayout, entriesHeld, misfit, wrongSize, readOrder, saysCount}
-use Rattle.record_stages.specs.Lists.{heldTo}
 use Rattle.record_stages.proofs.ListCode.{told-some-few}
-use Rattle.record_stages.proofs.StageLaws.{last-fine}
+use Rattle.record_corrections.specs.declared.CorrectionRead.{CorrectionRead}
 use Rattle.record_corrections.specs.declared.CorrectionRead.the-variants as correction
-use Rattle.record_corrections.specs.Issues.{issueOf}
-use Rattle.record_corrections.specs.Corrections.{coding, outOfRange, countCorrections, correctionAt, HoldsCorrections}
+use Rattle.record_corrections.specs.Issues.{issueOf, lateTb}
+use Rattle.record_corrections.specs.Corrections.{coding, correctionLayout, countCorrections, correctionAt, HoldsCorrections}
 use Rattle.record_healths.specs.Healths.{countHealths}
 use Rattle.record_nulls.specs.Nulls.{tooMany, readNull, saysNullRead}
 use Rattle.record_nulls.specs.declared.NullRead.the-variants as null
@@ -34,7 +33,8 @@ use Rattle.record_positions.specs.Positions.{positionIn, readPosition, saysPosi
 use Rattle.record_positions.specs.Positions.{outOfRange as farOut}
 use Rattle.record_positions.specs.declared.PositionRead.the-variants as position
 use Rattle.record_texts.specs.Texts.{wrongWords, forbidden, textIn, lengthIn, readText}
-use Rattle.record_laws.proofs.CorrectionTrips.{entry-late, corrections-read, corrections-held}
+use Rattle.record_laws.proofs.PlainLists.{lists-read, lists-held}
+use Rattle.record_laws.proofs.CorrectionTrips.{corrections-owed}
 use Rattle.record_laws.proofs.TextHeld.{closing}
 use Rattle.profile.specs.declared.Profile.the-variants.{Inside, Refused}
 use Rattle.profile.specs.Profile.{listed, satelliteNumber, satelliteCount, satellitesIn, repeated, typeOrder, checkProfile}
@@ -131,14 +131,17 @@ module _ (f : Frame) (within : outside f ≡ false) (hour : late (f .header .z) 
   -- ---- type 9: every entry below the count is read, and says its satellite
 
   module _ (e : f .header .kind ≡ 9) where
+    -- or 10 where its tb is late, of which GPS has none
+    abbrev readBy : System → ℕ → CorrectionRead
+    readBy s i = let x = entryIn (coding s) i (frameBits f) in cond (lateTb (x .issue)) (correction.Refused 10) (correction.Entry x)
+
+    entry-read : (c : ℕ) → HoldsCorrections f c → (i : ℕ) → i < c → correctionAt f i ≡ readBy (systemOf (f .header .kind)) i
+    unfolding correctionAt
+    entry-read c k i l = lists-read correctionLayout corrections-owed f c k .entries i l
+
     pub satellite-read : (c : ℕ) → HoldsCorrections f c → (i : ℕ) → i < c → satelliteRead (correctionAt f i) ≡ satelliteNumber f i
     unfolding systemOf issueOf
-    satellite-read c k i l =
-        ap satelliteRead
-        (corrections-read f c k .entries i l
-        ∙ ap (λ s. heldTo (outOfRange s) correction.Refused correction.Entry (entryIn (coding s) i (frameBits f))) (ap systemOf e)
-        ∙ sym (last-fine correction.Refused (correction.Entry (entryIn (coding Gps) i (frameBits f))) (outOfRange Gps (entryIn (coding Gps) i (frameBits f))) 10
-        (entry-late Gps i (frameBits f))))
+    satellite-read c k i l = ap satelliteRead (entry-read c k i l ∙ ap (λ s. readBy s i) (ap systemOf e))
 
     pub three-read : (c : ℕ) → HoldsCorrections f c → c ≤ 3
         → take c (satelliteRead (correctionAt f 0) ∷ satelliteRead (correctionAt f 1) ∷ satelliteRead (correctionAt f 2) ∷ []) ≡ listed (satelliteNumber f) c 0
@@ -169,6 +172,9 @@ module _ (f : Frame) (within : outside f ≡ false) (hour : late (f .header .z) 
         of : (b : Bool) → misfit 40 (f .n) ≡ b → countCorrections f ≡ inOrder ((b, 8) ∷ []) count.Refused (count.Of (satelliteCount f))
         of b w = counted ∙ ap (λ x. inOrder ((x, 8) ∷ []) count.Refused (count.Of (satelliteCount f))) w
 
+        holds : countCorrections f ≡ count.Of (satelliteCount f) → HoldsCorrections f (satelliteCount f)
+        holds = unfold countCorrections in lists-held correctionLayout corrections-owed f (satelliteCount f)
+
         few : (b : Bool) → ltb 3 (satelliteCount f) ≡ b → HoldsCorrections f (satelliteCount f)
             → fewProfile f (satelliteCount f) ≡ inOrder ((b, 21) ∷ (repeated (satellitesIn f), 22) ∷ []) Refused Inside
         few true q k = rw q
@@ -177,7 +183,7 @@ module _ (f : Frame) (within : outside f ≡ false) (hour : late (f .header .z) 
         go : (b : Bool) → misfit 40 (f .n) ≡ b → correctionsProfile f ≡ inOrder ((misfit 40 (f .n), 8) ∷ rest) Refused Inside
         go true w = ap (countedProfile f) (of true w) ∙ rw w
         go false w =
-            ap (countedProfile f) (of false w) ∙ few (ltb 3 (satelliteCount f)) refl (corrections-held f (satelliteCount f) (of false w)) ∙ rw w
+            ap (countedProfile f) (of false w) ∙ few (ltb 3 (satelliteCount f)) refl (holds (of false w)) ∙ rw w
 
   -- ---- 20: no type of the profile
 

@@ -21,12 +21,15 @@ use Rattle.frame.specs.declared.System.the-variants.{Gps}
 use Rattle.record_fields.specs.Coding.{Each, frameWith}
 use Rattle.record_stages.specs.declared.Count.the-variants as count
 use Rattle.record_stages.specs.Stages.{otherLayout, wrongCount, makeOrder, refusedMade, doneMade, HeaderFor}
+use Rattle.record_stages.specs.Lists.{ListMade}
 use Rattle.record_stages.proofs.ListCode.{some-few}
 use Rattle.record_stages.proofs.StageLaws.{done-apart as made-apart}
 use Rattle.record_corrections.specs.declared.Correction.{Correction}
 use Rattle.record_corrections.specs.declared.Issue.the-variants.{Iod}
-use Rattle.record_corrections.specs.Corrections.{coding, fill, outOfRange, countCorrections, makeCorrections, Typed, CorrectionsMade, HoldsCorrections}
-use Rattle.record_laws.proofs.CorrectionTrips.{corrections-made-read, corrections-held, corrections-sent, corrections-told}
+use Rattle.record_corrections.specs.Corrections.{coding, fill, outOfRange, Typed, correctionLayout, HoldsCorrections}
+use Rattle.record_corrections.specs.Corrections.{countCorrections, correctionAt, makeCorrections}
+use Rattle.record_laws.proofs.PlainLists.{lists-made-read, lists-held, lists-sent, lists-told}
+use Rattle.record_laws.proofs.CorrectionTrips.{corrections-owed}
 use Rattle.profile.specs.Profile.{listed, satelliteNumber, repeated, InProfile, in-corrections}
 use Rattle.profile.specs.Cutting.{rising, part, cutFrame, frameCount, cutFrames, satellitesOf, cutOrder, refusedCut, doneCut, cutCorrections}
 use Rattle.profile.specs.Cutting.{Cuttable, Reads, ReadsAll, end, next, CutWell, IsCut}
@@ -47,20 +50,21 @@ satellite-at es i = List·getD-map (λ e. e .satellite) es i nobody
 
 module _ (h : Header) (es : List Correction) (s : Sound h es) (typed : Each Typed es) where
   module _ (i : ℕ) (there : 3 * i < length es) where
-    made : (d : Correction) → CorrectionsMade (rising h i) (part es i) (length (part es i)) d (cutFrame h es i)
+    made : (d : Correction) → ListMade correctionLayout (rising h i) (part es i) (length (part es i)) d (cutFrame h es i)
     made d =
-        corrections-made-read (rising h i) (part es i) (length (part es i)) d (cutFrame h es i) (omega arith)
+        lists-made-read correctionLayout corrections-owed (rising h i) (part es i) (length (part es i)) d (cutFrame h es i) (omega arith)
         (subst (Each Typed) (sym (take-length (part es i))) (each-take Typed 3 (drop (3 * i) es) (each-drop Typed (3 * i) es typed)))
-        (part-made h es s i there)
+        (unfold makeCorrections in part-made h es s i there)
 
     reads : Reads (cutFrame h es i) (part es i)
+    unfolding countCorrections correctionAt
     reads = record { counts = made nobody .counts; entries = λ j d l. made d .entries j l }
 
     kind-is : cutFrame h es i .header .kind ≡ 9
     kind-is = ap (λ x. x .kind) (made nobody .header) ∙ s .kind
 
     holds : HoldsCorrections (cutFrame h es i) (length (part es i))
-    holds = corrections-held (cutFrame h es i) (length (part es i)) (reads .counts)
+    holds = lists-held correctionLayout corrections-owed (cutFrame h es i) (length (part es i)) (made nobody .counts)
 
     -- its satellites are those of its part
     satellite-is : (j : ℕ) → j < length (part es i) → satelliteNumber (cutFrame h es i) j ≡ getD (satellitesOf (part es i)) j 0
@@ -195,7 +199,8 @@ module _ (h : Header) (es : List Correction) (c : ℕ) where
         few = some-few c 18 (k .sendable .some) (k .sendable .few)
 
         ranges : anyOf (outOfRange Gps) (take c es) ≡ false
-        ranges = let m = corrections-sent h es c d typed (k .sendable) in ranges-fine (m .frame) (k .kind) (m .done)
+        ranges = let m = lists-sent correctionLayout corrections-owed h es c d typed (k .sendable) in
+            ranges-fine (m .frame) (k .kind) (unfold makeCorrections in m .done)
 
         once : repeated (satellitesOf (take c es)) ≡ false
         once =
@@ -206,7 +211,7 @@ module _ (h : Header) (es : List Correction) (c : ℕ) where
     pub cut-told : (fs : List Frame) → cutCorrections h es c ≡ doneCut fs → Cuttable h es c d
     unfolding cutCorrections
     cut-told fs q = record {
-      sendable = corrections-told h es c d whole there (whole-made nine t);
+      sendable = lists-told correctionLayout corrections-owed h es c d whole there (unfold makeCorrections in whole-made nine t);
       kind = nine;
       apart = λ i j l m s.
           apart-told (satellitesOf (take c es)) (t .1 .1 .1 .1 .1 .0) i j l (omega (arith, size)) (at i (omega arith) ∙ s ∙ sym (at j m));

@@ -1,6 +1,7 @@
 -- The checker accepts exactly the frames of the profile. Assumes nothing.
 use mathlib.Core.Path.{_≡_, refl, sym, ap, _∙_}
 use mathlib.Core.Bool.{Bool, true, false, true≢false}
+use mathlib.Core.Logic.{_↔_}
 use mathlib.Core.List.{List, [], _∷_}
 use Prim.Native.Nat.{ℕ, _*_, _≤_, _<_}
 use native.Mathlib.Omega.{arith}
@@ -16,8 +17,8 @@ use Rattle.record_fields.specs.Coding.{frameBits}
 use Rattle.record_stages.specs.declared.Count.{Count}
 use Rattle.record_stages.specs.declared.Count.the-variants as count
 use Rattle.record_stages.specs.Stages.{FrameFor, saysCount}
-use Rattle.record_corrections.specs.Corrections.{countCorrections, correctionAt, HoldsCorrections}
-use Rattle.record_healths.specs.Healths.{countHealths}
+use Rattle.record_corrections.specs.Corrections.{correctionLayout, countCorrections, correctionAt, HoldsCorrections}
+use Rattle.record_healths.specs.Healths.{healthLayout, countHealths, HoldsHealths}
 use Rattle.record_nulls.specs.declared.NullRead.{NullRead}
 use Rattle.record_nulls.specs.declared.NullRead.the-variants as null
 use Rattle.record_nulls.specs.Nulls.{readNull, saysNullRead}
@@ -25,8 +26,9 @@ use Rattle.record_positions.specs.declared.PositionRead.{PositionRead}
 use Rattle.record_positions.specs.declared.PositionRead.the-variants as position
 use Rattle.record_positions.specs.Positions.{readPosition, saysPositionRead}
 use Rattle.record_texts.specs.Texts.{readText, HoldsText}
-use Rattle.record_laws.proofs.CorrectionTrips.{corrections-read, corrections-held}
-use Rattle.record_laws.proofs.HealthTrips.{healths-read, healths-held}
+use Rattle.record_laws.proofs.PlainLists.{lists-read, lists-held}
+use Rattle.record_laws.proofs.CorrectionTrips.{corrections-owed}
+use Rattle.record_laws.proofs.HealthTrips.{healths-owed}
 use Rattle.record_laws.proofs.NullTrips.{null-read, null-held}
 use Rattle.record_laws.proofs.PositionTrips.{position-read, position-held}
 use Rattle.record_laws.proofs.TextHeld.{text-read, text-held}
@@ -45,6 +47,16 @@ apart n e = let z : _≡_ {A = ℕ} 0 1 = cc in omega arith
 -- 5 and 7 of a frame that is for a layout
 hour-of : {l : Layout} (f : Frame) → FrameFor l f → late (f .header .z) ≡ false
 hour-of f k = lt-leb 6000 (f .header .z) (k .hour)
+
+-- ---- which frames a count is read of
+
+corrections-counted : (f : Frame) (c : ℕ) → (countCorrections f ≡ count.Of c) ↔ HoldsCorrections f c
+unfolding countCorrections
+corrections-counted f c = (lists-held correctionLayout corrections-owed f c, λ k. lists-read correctionLayout corrections-owed f c k .counts)
+
+healths-counted : (f : Frame) (c : ℕ) → (countHealths f ≡ count.Of c) ↔ HoldsHealths f c
+unfolding countHealths
+healths-counted f c = (lists-held healthLayout healths-owed f c, λ k. lists-read healthLayout healths-owed f c k .counts)
 
 -- ---- 21 and 22 of a frame that holds corrections, both ways
 
@@ -99,13 +111,13 @@ pub accepted : (f : Frame) → InProfile f → checkProfile f ≡ Inside
 accepted f (in-position e k) =
     sym (by-position f (k .frame .inside) (hour-of f (k .frame)) e) ∙ ap (λ r. settled (saysPositionRead r)) (position-read f k)
 accepted f (in-healths e c k) =
-    sym (by-healths f (k .frame .inside) (hour-of f (k .frame)) e) ∙ ap (λ r. settled (saysCount r)) (healths-read f c k .counts)
+    sym (by-healths f (k .frame .inside) (hour-of f (k .frame)) e) ∙ ap (λ r. settled (saysCount r)) (healths-counted f c .1 k)
 accepted f (in-null e k) =
     sym (by-null f (k .frame .inside) (hour-of f (k .frame)) e) ∙ ap (λ r. settled (saysNullRead r)) (null-read f k)
 accepted f (in-corrections e c k) =
     let w = k .holds .frame .inside in
     let z = hour-of f (k .holds .frame) in
-    sym (by-corrections f w z e) ∙ ap (countedProfile f) (corrections-read f c (k .holds) .counts) ∙ few-inside f c w z e k
+    sym (by-corrections f w z e) ∙ ap (countedProfile f) (corrections-counted f c .1 (k .holds)) ∙ few-inside f c w z e k
 accepted f (in-text e t k s) =
     sym (by-text f (s .frame .inside) (hour-of f (s .frame)) e)
     ∙ ap (λ r. settled (saysCount r)) (text-read f t k s .reads (replicate 90 0) (text-short f t k s))
@@ -134,7 +146,7 @@ module _ (f : Frame) (q : checkProfile f ≡ Inside) where
   is-healths e = go (countHealths f) refl
     where
       go : (r : Count) → countHealths f ≡ r → InProfile f
-      go (count.Of c) s = in-healths e c (healths-held f c s)
+      go (count.Of c) s = in-healths e c (healths-counted f c .0 s)
       go (count.Refused n) s = absurd (apart n (sym (ap (λ r. settled (saysCount r)) s) ∙ by-healths f w z e ∙ q))
 
   is-null : f .header .kind ≡ 6 → InProfile f
@@ -149,7 +161,7 @@ module _ (f : Frame) (q : checkProfile f ≡ Inside) where
     where
       go : (r : Count) → countCorrections f ≡ r → InProfile f
       go (count.Of c) s =
-          in-corrections e c (few-told f c w z e (corrections-held f c s) (sym (ap (countedProfile f) s) ∙ by-corrections f w z e ∙ q))
+          in-corrections e c (few-told f c w z e (corrections-counted f c .0 s) (sym (ap (countedProfile f) s) ∙ by-corrections f w z e ∙ q))
       go (count.Refused n) s = absurd (apart n (sym (ap (countedProfile f) s) ∙ by-corrections f w z e ∙ q))
 
   is-text : f .header .kind ≡ 16 → InProfile f

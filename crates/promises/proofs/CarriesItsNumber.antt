@@ -8,7 +8,7 @@ use native.Mathlib.Omega.{arith}
 use lib.ListN.{getD}
 use lib.Dec.{ltb, eqb}
 use Rattle.answer.specs.Order.{Says, refuses, answers, Check, inOrder, NoneApplies, FirstIs}
-use Rattle.answer.proofs.OrderLaws.{order-answers, order-refuses, order-map, first-or-none, refuses-apart}
+use Rattle.answer.proofs.OrderLaws.{order-answers, order-refuses, order-map, first-or-none, refuses-apart, says-order}
 use Rattle.line.specs.Answer.{saysSix}
 use Rattle.line.specs.declared.Six.the-variants as six
 use Rattle.word.specs.Answer.{saysSent}
@@ -17,6 +17,7 @@ use Rattle.frame.specs.Layout.{layoutNumber}
 use Rattle.frame.specs.Frames.{blank}
 use Rattle.frame.specs.Widths.{anyOf, stateOutside, late}
 use Rattle.frame.specs.Answer.{saysHealthCode, saysWords, saysWidths, saysClock}
+use Rattle.frame.specs.Layout.{systemOf}
 use Rattle.frame.specs.declared.Layout.{Layout}
 use Rattle.frame.specs.declared.Layout.the-variants as layout
 use Rattle.frame.specs.declared.HealthCode.the-variants as health
@@ -39,14 +40,11 @@ use Rattle.journal.specs.declared.Kept.the-variants as kept
 use Rattle.journal_moves.specs.Moving.{saysMoved}
 use Rattle.journal_moves.specs.declared.Moved.the-variants as moved
 use Rattle.record_stages.specs.Stages.{otherLayout, entryRefusal, refusedMade, doneMade, saysAsked, saysSize, saysCount, saysPlace, saysMade}
-use Rattle.record_corrections.specs.Corrections.{countCorrections, correctionAt, makeCorrections, saysCorrectionRead}
-use Rattle.record_healths.specs.Healths.{countHealths, healthAt, makeHealths, saysHealthRead}
+use Rattle.record_stages.specs.Lists.{ListLayout, saidAt, atOrder}
 use Rattle.record_positions.specs.Positions.{readPosition, makePosition, saysPositionRead}
 use Rattle.record_nulls.specs.Nulls.{readNull, makeNull, saysNullRead}
 use Rattle.record_texts.specs.Texts.{readText, makeText}
 use Rattle.record_stages.specs.declared.Count.the-variants as count
-use Rattle.record_corrections.specs.declared.CorrectionRead.the-variants as correction
-use Rattle.record_healths.specs.declared.HealthRead.the-variants as healths
 use Rattle.record_positions.specs.declared.PositionRead.the-variants as position
 use Rattle.record_nulls.specs.declared.NullRead.the-variants as null
 use Rattle.record_stages.specs.declared.Asked.the-variants.{Same, Other}
@@ -81,7 +79,10 @@ use Rattle.mender.specs.Steps.{refusedMend, saysMended}
 use Rattle.listing.specs.Listing as listing
 use Rattle.listing.specs.declared.Listed.{Listed}
 use Rattle.promises.proofs.MeaningLaws.{frequency-says, step-says}
-use Rattle.promises.specs.CarriesItsNumber.{checkNumbers, outsideTable, Ordered, CarriesItsNumber}
+use Rattle.record_laws.proofs.PlainLists.{OwedList}
+use Rattle.promises.specs.RecordLayouts.{listOf}
+use Rattle.promises.specs.CarriesItsNumber.{checkNumbers, outsideTable, Ordered, ListOrders, CarriesItsNumber}
+use Rattle.promises.proofs.RecordLayouts.{owed-of}
 
 number-inj : {A : Type 0} (m n : ℕ) → _≡_ {A = Says A} (refuses m) (refuses n) → m ≡ n
 number-inj m n e = cc
@@ -114,6 +115,27 @@ either-told : (bs : List ℕ) (words : Bool)
 either-told bs true = told saysRecalled refusedRecall _ _ refl refl refl
 either-told bs false = told saysRecalled refusedRecall _ _ refl refl refl
 
+-- a plain list layout
+list-orders : (L : ListLayout) → OwedList L → ListOrders L
+unfolding refusedMade doneMade
+list-orders L o = record {
+  count = λ f. told saysCount count.Refused _ _ refl refl refl;
+  entry = λ f i.
+      let e = saidAt L f i in
+      ordered (atOrder L f i) e (says-order (L .says) (L .refused) (o .says-refused) (L .entry e) (atOrder L f i) (o .says-entry e))
+      (ranged (L .ranged) (L .out (systemOf (f .header .kind)) e)) (in-table (L .ranged));
+  make = λ h es c. told saysMade refusedMade _ _ refl refl refl;
+}
+  where
+    ranged : (b x : Bool)
+        → _≡_ {A = List ℕ} (5 ∷ 6 ∷ 7 ∷ 8 ∷ 9 ∷ checkNumbers (cond b ((x, 10) ∷ []) [])) (5 ∷ 6 ∷ 7 ∷ 8 ∷ 9 ∷ cond b (10 ∷ []) [])
+    ranged true x = refl
+    ranged false x = refl
+
+    in-table : (b : Bool) → anyOf outsideTable (5 ∷ 6 ∷ 7 ∷ 8 ∷ 9 ∷ cond b (10 ∷ []) []) ≡ false
+    in-table true = refl
+    in-table false = refl
+
 -- the numbers of making are of the table, for every layout
 entry-numbered : (l : Layout) → anyOf outsideTable (5 ∷ 6 ∷ 7 ∷ 12 ∷ entryRefusal l ∷ []) ≡ false
 entry-numbered l = go (eqb (layoutNumber l) (layoutNumber layout.Text))
@@ -123,7 +145,7 @@ entry-numbered l = go (eqb (layoutNumber l) (layoutNumber layout.Text))
     go false = refl
 
 pub carries-its-number : CarriesItsNumber
-unfolding fedBy fedAllBy endedBy takenBy rowsBy countCorrections correctionAt makeCorrections countHealths healthAt makeHealths readPosition makePosition
+unfolding fedBy fedAllBy endedBy takenBy rowsBy readPosition makePosition
     countObservations readEpoch observationAt makeObservations countGenerals readHead generalAt makeGenerals readGeneralNull makeGeneralNull
     readNull makeNull readText makeText checkProfile refusedMade doneMade printedBy pieceBy
     finishBy linePut addedBy journalAdded rowNumbered
@@ -133,8 +155,7 @@ carries-its-number = record {
   reader-end = λ r. told (λ (x : Next). saysAnswer (x .answer)) (λ n. record { answer = Refused n; reader = r }) _ tt refl refl refl;
   reader-take = λ r. told (λ (x : Taken). saysAnswer (x .answer)) (λ n. record { answer = Refused n; at = 0; frame = blank; reader = r }) _ tt refl refl refl;
   read-rows = λ r bytes rows. told (λ (x : RowsRead). saysAnswer (x .answer)) (noRows r) _ tt refl refl refl;
-  count-corrections = λ f. told saysCount count.Refused _ _ refl refl refl;
-  correction-at = λ f i. told saysCorrectionRead correction.Refused _ _ refl refl refl;
+  lists = λ l. list-orders (listOf l) (owed-of l);
   count-observations = λ f. told saysCount count.Refused _ _ refl refl refl;
   read-epoch = λ f. told saysEpochRead epoch.Refused _ _ refl refl refl;
   observation-at = λ e f i. told saysObservationRead observation.Refused _ _ refl refl refl;
@@ -142,13 +163,9 @@ carries-its-number = record {
   read-head = λ f. told saysHeadRead head.Refused _ _ refl refl refl;
   general-at = λ f i. told saysGeneralRead general.Refused _ _ refl refl refl;
   read-general-null = λ f. told saysGeneralNullRead general-null.Refused _ _ refl refl refl;
-  count-healths = λ f. told saysCount count.Refused _ _ refl refl refl;
-  health-at = λ f i. told saysHealthRead healths.Refused _ _ refl refl refl;
   read-position = λ f. told saysPositionRead position.Refused _ _ refl refl refl;
   read-null = λ f. told saysNullRead null.Refused _ _ refl refl refl;
   read-text = λ f buffer. told saysCount count.Refused _ _ refl refl refl;
-  make-corrections = λ h es c. told saysMade refusedMade _ _ refl refl refl;
-  make-healths = λ h es c. told saysMade refusedMade _ _ refl refl refl;
   make-observations = λ e h a os c. told saysMade refusedMade _ _ refl refl refl;
   make-generals = λ h a gs c. told saysMade refusedMade _ _ refl refl refl;
   make-general-null = λ h n s. told saysMade refusedMade _ _ refl refl refl;

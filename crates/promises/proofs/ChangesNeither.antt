@@ -37,8 +37,6 @@ use Rattle.journal_moves.proofs.RunLaws.{step-of, moved-held, moved-unchanged}
 use Rattle.record_fields.specs.Coding.{frameBits}
 use Rattle.record_texts.proofs.TextCode.{length-characters}
 use Rattle.record_stages.specs.Stages.{refusedMade, saysCount}
-use Rattle.record_corrections.specs.Corrections.{makeCorrections}
-use Rattle.record_healths.specs.Healths.{makeHealths}
 use Rattle.record_observations.specs.Observations.{makeObservations}
 use Rattle.record_generals.specs.Generals.{makeGenerals}
 use Rattle.record_generals.specs.GeneralNulls.{makeGeneralNull}
@@ -128,7 +126,7 @@ either-alone bs true = keeps (carries-its-number .recall-words bs) (λ (x : Reca
 either-alone bs false = keeps (carries-its-number .recall bs) (λ (x : Recalled). x .frame) unrecalled _ _ (λ n. refl)
 
 pub number-alone : NumberAlone
-unfolding fedAllBy takenBy rowsBy makeCorrections makeHealths makeObservations makeGenerals makeGeneralNull makePosition makeNull makeText cutCorrections refusedMade
+unfolding fedAllBy takenBy rowsBy makeObservations makeGenerals makeGeneralNull makePosition makeNull makeText cutCorrections refusedMade
     refusedCut pieceBy finishBy
     journalAdded
 number-alone = record {
@@ -140,11 +138,10 @@ number-alone = record {
   recall = λ bs. keeps (carries-its-number .recall bs) (λ (x : Recalled). x .frame) unrecalled _ _ (λ n. refl);
   recall-words = λ bs. keeps (carries-its-number .recall-words bs) (λ (x : Recalled). x .frame) unrecalled _ _ (λ n. refl);
   recall-either = λ bs. either-alone bs (keepsWords bs);
-  make-corrections = λ h es c. keeps (carries-its-number .make-corrections h es c) (λ (x : Made). x .frame) refusedMade _ _ (λ n. refl);
+  lists = λ l h es c. keeps (carries-its-number .lists l .make h es c) (λ (x : Made). x .frame) refusedMade _ _ (λ n. refl);
   make-observations = λ e h a os c. keeps (carries-its-number .make-observations e h a os c) (λ (x : Made). x .frame) refusedMade _ _ (λ n. refl);
   make-generals = λ h a gs c. keeps (carries-its-number .make-generals h a gs c) (λ (x : Made). x .frame) refusedMade _ _ (λ n. refl);
   make-general-null = λ h n s. keeps (carries-its-number .make-general-null h n s) (λ (x : Made). x .frame) refusedMade _ _ (λ n. refl);
-  make-healths = λ h es c. keeps (carries-its-number .make-healths h es c) (λ (x : Made). x .frame) refusedMade _ _ (λ n. refl);
   make-position = λ h p. keeps (carries-its-number .make-position h p) (λ (x : Made). x .frame) refusedMade _ _ (λ n. refl);
   make-null = λ h n. keeps (carries-its-number .make-null h n) (λ (x : Made). x .frame) refusedMade _ _ (λ n. refl);
   cut-corrections = λ h es c. keeps (carries-its-number .cut-corrections h es c) (λ (x : Cut). x .frames) refusedCut _ _ (λ n. refl);

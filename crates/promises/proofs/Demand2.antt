@@ -10,25 +10,22 @@ use lib.Seq.{take-at}
 use Rattle.answer.specs.Order.{refuses, answers, NoneApplies}
 use Rattle.answer.proofs.OrderLaws.{order-answers}
 use Rattle.line.specs.Line.{lineBits}
-use Rattle.frame.specs.Layout.{systemOf}
 use Rattle.frame.specs.Frames.{zeroPair, bare}
 use Rattle.frame.specs.Widths.{headerOutside, pairOutside, late}
 use Rattle.frame.specs.declared.Frame.{Frame}
 use Rattle.frame.specs.declared.Layout.the-variants as layout
 use Rattle.stream.specs.Standing.{size, pairBefore, frameAt}
 use Rattle.stream.proofs.Data.{frame-within, frame-full}
-use Rattle.record_fields.specs.Coding.{frameBits, entryIn, Each}
+use Rattle.record_fields.specs.Coding.{Each}
 use Rattle.record_stages.specs.Stages.{otherLayout, refusedMade, doneMade, saysCount, saysMade}
-use Rattle.record_corrections.specs.Corrections.{coding, outOfRange, countCorrections, correctionAt, makeCorrections, saysCorrectionRead, Typed}
-use Rattle.record_healths.specs.Healths.{countHealths, healthAt, makeHealths, saysHealthRead}
+use Rattle.record_stages.specs.Lists.{ListLayout, saidAt, counted, entryAt, made}
 use Rattle.record_positions.specs.Positions.{readPosition, makePosition, saysPositionRead}
 use Rattle.record_nulls.specs.Nulls.{readNull, makeNull, saysNullRead}
 use Rattle.record_texts.specs.Texts.{readText, makeText}
 use Rattle.record_stages.specs.declared.Made.{Made}
 use Rattle.record_stages.proofs.StageLaws.{done-apart}
 use Rattle.record_stages.proofs.ListCode.{told-some-few}
-use Rattle.record_laws.proofs.CorrectionTrips.{entry-late, corrections-made-read, corrections-read-made, corrections-read, corrections-held}
-use Rattle.record_laws.proofs.HealthTrips.{healths-made-read, healths-read-made, healths-read, healths-held}
+use Rattle.record_laws.proofs.PlainLists.{OwedList, lists-made-read, lists-read-made, lists-read, lists-held}
 use Rattle.record_laws.proofs.PositionTrips.{position-made-read, position-read-made, position-read, position-held}
 use Rattle.record_laws.proofs.NullTrips.{null-made-read, null-read-made, null-read, null-held, null-n}
 use Rattle.record_laws.proofs.TextTrips.{text-made-read}
@@ -41,8 +38,10 @@ use Rattle.journal.proofs.RoundTrip.{recall-record, keep-recalled}
 use Rattle.writer.specs.Answer.{saysWritten}
 use Rattle.writer.specs.OneFrame.{WritesBack}
 use Rattle.writer.proofs.Wrote.{writes-back, unseen-answer, unseen-bytes}
-use Rattle.promises.specs.Demand2.{Remade, ofCorrections, ofHealths, ofObservations, ofGenerals, ofGeneralNull, ofPosition, ofNull, ofText}
-use Rattle.promises.specs.Demand2.{WhatIsRead, ReadsBackEqual, MadeAnew, ItsOwnBits, Demand2}
+use Rattle.promises.specs.RecordLayouts.{listOf}
+use Rattle.promises.specs.Demand2.{Remade, ofList, ofObservations, ofGenerals, ofGeneralNull, ofPosition, ofNull, ofText}
+use Rattle.promises.specs.Demand2.{ListIsRead, WhatIsRead, ReadsBackEqual, MadeAnew, ItsOwnBits, Demand2}
+use Rattle.promises.proofs.RecordLayouts.{fifteen, owed-of}
 use Rattle.promises.proofs.CarriesItsNumber.{carries-its-number, says-inj, none-told}
 use Rattle.record_observations.specs.declared.Edition.the-variants.{Gost}
 use Rattle.record_observations.specs.Observations.{countObservations, readEpoch, observationAt, makeObservations, saysEpochRead, saysObservationRead}
@@ -57,29 +56,31 @@ use Rattle.record_laws.proofs.GeneralLaws.{most-small}
 use Rattle.record_laws.proofs.GeneralTrips.{generals-made-read, generals-read, generals-held}
 use Rattle.record_laws.proofs.GeneralAgain.{generals-read-made}
 use Rattle.record_laws.proofs.GeneralNullTrips.{general-null-made-read, general-null-read-made, general-null-read, general-null-held, general-null-is}
-use Rattle.promises.proofs.RecordTypes.{fifteen}
-use Rattle.promises.proofs.ReadersTold.{correction-told, health-told, epoch-told, observation-told, position-told, null-told}
-use Rattle.promises.proofs.ReadersTold.{held-says, epoch-says, observation-says}
+use Rattle.promises.proofs.ReadersTold.{epoch-told, observation-told, position-told, null-told}
+use Rattle.promises.proofs.ReadersTold.{epoch-says, observation-says}
 use Rattle.promises.proofs.GeneralsOfRtcm.{generals-of-rtcm}
 use Rattle.promises.proofs.GeneralsBack.{generals-back, general-null-back, head-told, general-told, general-null-told, general-says}
 use Rattle.promises.proofs.NumbersOfRtcm.{count-told}
 use Rattle.promises.proofs.ThoseOfRtcm.{gps-parity-rule, frames-of-rtcm, records-of-rtcm}
 use Rattle.promises.proofs.PairBeside.{made-told, pair-beside}
-use Rattle.promises.proofs.ReadsBack.{corrections-back, healths-back, observations-back, position-back, null-back, text-back, what-can-be-sent}
+use Rattle.promises.proofs.ReadsBack.{list-back, observations-back, position-back, null-back, text-back, what-can-be-sent}
 
 -- ---- which frames are read
+
+list-is-read : (L : ListLayout) → OwedList L → ListIsRead L
+list-is-read L o = record {
+  count = λ f c. (λ e. lists-held L o f c (count-told (counted L f) c e), λ h. ap saysCount (lists-read L o f c h .counts));
+  entry = λ f c i h l. ap (L .says) (lists-read L o f c h .entries i l) ∙ said (L .late (saidAt L f i)) (saidAt L f i);
+}
+  where
+    said : (b : Bool) (e : L .Entry) → L .says (cond b (L .refused 10) (L .entry e)) ≡ cond b (refuses 10) (answers e)
+    said true e = o .says-refused 10
+    said false e = o .says-entry e
 
 pub what-is-read : WhatIsRead
 what-is-read = record {
   types = fifteen;
-  corrections = λ f c. (λ e. corrections-held f c (count-told (countCorrections f) c e), λ h. ap saysCount (corrections-read f c h .counts));
-  correction = λ f c i h l.
-      let s = systemOf (f .header .kind) in
-      let e = entryIn (coding s) i (frameBits f) in
-      ap saysCorrectionRead (corrections-read f c h .entries i l) ∙ held-says (outOfRange s e) e
-      ∙ ap (λ b. cond b (refuses 10) (answers e)) (entry-late s i (frameBits f));
-  healths = λ f c. (λ e. healths-held f c (count-told (countHealths f) c e), λ h. ap saysCount (healths-read f c h .counts));
-  health = λ f c i h l. ap saysHealthRead (healths-read f c h .entries i l);
+  lists = λ l. list-is-read (listOf l) (owed-of l);
   observations = λ f c. (λ e. observations-held f c (count-told (countObservations f) c e), λ h. ap saysCount (observations-read Gost f c h .counts));
   epoch = λ f c h. ap saysEpochRead (observations-read Gost f c h .epoch) ∙ epoch-says (lateTime (epochIn f)) (epochIn f);
   observation = λ e f c i h l.
@@ -134,13 +135,11 @@ recall-front f buffer rest k full e = (
 
 pub reads-back-equal : ReadsBackEqual
 reads-back-equal = record {
-  corrections = λ h es c d f many typed e.
-      let at-most = told-some-few c 18 (none-told (carries-its-number .make-corrections h es c) f e .1 .1 .1 .0) .1 in
-      corrections-back h es c d f
-      (corrections-made-read h es c d f (omega (arith, at-most, many)) (each-take Typed c es typed) (made-told (makeCorrections h es c) f e));
-  healths = λ h es c d f many e.
-      let at-most = told-some-few c 31 (none-told (carries-its-number .make-healths h es c) f e .1 .1 .1 .0) .1 in
-      healths-back h es c d f (healths-made-read h es c d f (omega (arith, at-most, many)) (made-told (makeHealths h es c) f e));
+  lists = λ l h es c d f many typed e.
+      let L = listOf l in
+      let at-most = told-some-few c (L .most) (none-told (carries-its-number .lists l .make h es c) f e .1 .1 .1 .0) .1 in
+      list-back L (owed-of l) h es c d f
+      (lists-made-read L (owed-of l) h es c d f (omega (arith, at-most, many)) (each-take (L .Typed) c es typed) (made-told (made L h es c) f e));
   observations = λ x h a os c d f many typed e.
       let at-most = told-some-few c 15 (none-told (carries-its-number .make-observations x h a os c) f e .1 .1 .1 .0) .1 in
       observations-back x h a os c d f
@@ -175,15 +174,12 @@ in-time wrong f g rest = go (headerOutside (f .header)) wrong (late (f .header .
 
 -- every record made anew is the frame that was read, all but its pair, and its Z count can be sent
 again : (f : Frame) (m : Made) → length (f .words) ≡ 31 → Remade f m → (m ≡ doneMade (bare f)) × (late (f .header .z) ≡ false)
-unfolding makeCorrections makeHealths makeObservations makeGenerals makeGeneralNull makePosition makeNull makeText
-again f m full (ofCorrections es c d l n e s q) =
-    let made = corrections-read-made f es c d full l (count-told (countCorrections f) c n)
-    (λ i h. correction-told (correctionAt f i) (getD es i d) (e i h)) s in
-    (q ∙ made, in-time (otherLayout layout.Correction (f .header .kind)) f (bare f) _ made)
-again f m full (ofHealths es c d l n e q) =
-    let made = healths-read-made f es c d full l (count-told (countHealths f) c n)
-    (λ i h. health-told (healthAt f i) (getD es i d) (e i h)) in
-    (q ∙ made, in-time (otherLayout layout.Health (f .header .kind)) f (bare f) _ made)
+unfolding makeObservations makeGenerals makeGeneralNull makePosition makeNull makeText
+again f m full (ofList l es c d many n e s q) =
+    let L = listOf l in
+    let anew = lists-read-made L (owed-of l) f es c d full many (count-told (counted L f) c n)
+    (λ i h. owed-of l .says-told (entryAt L f i) (getD es i d) (e i h)) s in
+    (q ∙ anew, in-time (otherLayout (L .asked) (f .header .kind)) f (bare f) _ anew)
 again f m full (ofObservations x a os c d l n h e q) =
     let made = observations-read-made x f a os c d full l (count-told (countObservations f) c n) (epoch-told (readEpoch f) a h)
     (λ i j. observation-told (observationAt x f i) (getD os i d) (e i j)) in

@@ -18,6 +18,7 @@ pub mod GeneralCalls
 pub mod JournalCalls
 pub mod MenderCalls
 pub mod SeasonCalls
+pub mod RecordLayouts
 pub mod CarriesItsNumber
 pub mod Owning
 pub mod ChangesNeither
@@ -25,7 +26,6 @@ pub mod Demand1
 pub mod ParityOfRtcm
 pub mod NumbersOfRtcm
 pub mod ThoseOfRtcm
-pub mod RecordTypes
 pub mod ReadersTold
 pub mod Sending
 pub mod GeneralsBack

@@ -21,10 +21,10 @@ use Rattle.record_fields.specs.Coding.{frameBits}
 use Rattle.record_laws.proofs.ListTrips.{CountRead, count-read}
 use Rattle.record_texts.proofs.TextCode.{length-le, some-words}
 use Rattle.record_stages.specs.Stages.{readOrder, saysCount, entriesHeld}
+use Rattle.record_stages.specs.Lists.{ListLayout, codingOf, widthOf, counted}
 use Rattle.record_corrections.specs.Corrections as corrections
 use Rattle.record_corrections.specs.Corrections.{countCorrections}
-use Rattle.record_healths.specs.Healths as healths
-use Rattle.record_healths.specs.Healths.{countHealths}
+use Rattle.record_healths.specs.Healths.{healthLayout, countHealths}
 use Rattle.record_nulls.specs.declared.NullRead.the-variants as null
 use Rattle.record_nulls.specs.Nulls.{tooMany, readNull, saysNullRead}
 use Rattle.record_texts.specs.Texts.{lengthIn, textOrder, readText}
@@ -90,6 +90,9 @@ pub count-told : (x : Count) (c : ℕ) → saysCount x ≡ answers c → x ≡ c
 count-told (count.Of b) c e = ap count.Of (says-inj e)
 count-told (count.Refused n) c e = absurd (refuses-apart n c e)
 
+pub lists-fit : (L : ListLayout) (f : Frame) (c : ℕ) → saysCount (counted L f) ≡ answers c → f .n ≡ (c * widthOf L (f .header) + 23) / 24
+lists-fit L f c e = sym (count-read (L .asked) (codingOf L (f .header)) f c (count-told (counted L f) c e) .up)
+
 pub corrections-fit : (f : Frame) (c k : ℕ) → saysCount (countCorrections f) ≡ answers c
     → ((c ≡ 3 * k) ↔ (f .n ≡ 5 * k)) × ((c ≡ 3 * k + 1) ↔ (f .n ≡ 5 * k + 2)) × ((c ≡ 3 * k + 2) ↔ (f .n ≡ 5 * k + 4))
 unfolding countCorrections
@@ -104,9 +107,9 @@ corrections-fit f c k e = by (f .n) (r .held) (r .up)
 
 pub healths-fit : (f : Frame) (c : ℕ) → saysCount (countHealths f) ≡ answers c → f .n ≡ c
 unfolding countHealths
-healths-fit f c e = let r = count-read layout.Health (healths.coding (systemOf (f .header .kind))) f c (count-told (countHealths f) c e) in by (f .n) (r .up)
+healths-fit f c e = by (f .n) (lists-fit healthLayout f c e)
   where
-    by : (n : ℕ) → (c * 24 + 23) / 24 ≡ n → n ≡ c
+    by : (n : ℕ) → n ≡ (c * 24 + 23) / 24 → n ≡ c
     by n up = omega arith
 
 pub null-fit : (f : Frame) (n : ℕ) → saysNullRead (readNull f) ≡ answers n → (f .n ≡ n) × (n ≤ 1)

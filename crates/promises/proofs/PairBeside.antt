@@ -20,8 +20,7 @@ use Rattle.record_stages.specs.declared.Made.{Made}
 use Rattle.record_stages.specs.declared.Making.{Making}
 use Rattle.record_stages.specs.declared.Making.the-variants as making
 use Rattle.record_stages.proofs.StageLaws.{done-apart, done-frame}
-use Rattle.record_corrections.specs.Corrections as corrections
-use Rattle.record_healths.specs.Healths as healths
+use Rattle.record_stages.specs.Lists.{codingOf, listOrder}
 use Rattle.record_observations.specs.Editions.{quantityOf}
 use Rattle.record_observations.specs.Observations as observations
 use Rattle.record_generals.specs.Generals.{makeGenerals}
@@ -31,6 +30,7 @@ use Rattle.record_nulls.specs.Nulls as nulls
 use Rattle.record_texts.specs.Texts as texts
 use Rattle.journal.proofs.RoundTrip as journal
 use Rattle.writer.proofs.Wrote as writer
+use Rattle.promises.specs.RecordLayouts.{listOf}
 use Rattle.promises.specs.Demand2.{PairBeside}
 use Rattle.promises.proofs.CarriesItsNumber.{says-inj}
 use Rattle.promises.proofs.GeneralsBack.{generalChecks, generalWordsOf, nullChecks, nullWordsOf}
@@ -50,17 +50,13 @@ made-bare cs h ws f e = subst (λ g. bare g ≡ g) same (unfold framed afterPair
     same = done-frame (order-told refusedMade (doneMade (framed h ws)) (doneMade f) (λ n. done-apart n f) cs (made-told _ f e) .1)
 
 pub pair-beside : PairBeside
-unfolding corrections.makeCorrections healths.makeHealths observations.makeObservations makeGenerals makeGeneralNull positions.makePosition
+unfolding observations.makeObservations makeGenerals makeGeneralNull positions.makePosition
     nulls.makeNull texts.makeText frameWith frameAfter
 pair-beside = record {
   written = λ k f c buffer p o. (writer.unseen-answer k f p o c buffer, writer.unseen-bytes k f p o c buffer);
   kept = λ k f buffer p o. (journal.unseen-answer k f p o buffer, journal.unseen-bytes k f p o buffer);
-  corrections = λ h es c f e.
-      made-bare (makeOrder layout.Correction h ((wrongCount 18 c, 12) ∷ (anyOf (corrections.outOfRange (systemOf (h .kind))) (take c es), 10) ∷ [])) h
-      (wordsIn corrections.fill (entryBits (corrections.coding (systemOf (h .kind))) (take c es))) f e;
-  healths = λ h es c f e.
-      made-bare (makeOrder layout.Health h ((wrongCount 31 c, 12) ∷ (anyOf (healths.outOfRange (systemOf (h .kind))) (take c es), 10) ∷ [])) h
-      (wordsIn healths.fill (entryBits (healths.coding (systemOf (h .kind))) (take c es))) f e;
+  lists = λ l h es c f e.
+      let L = listOf l in made-bare (listOrder L h es c) h (wordsIn (L .pattern) (entryBits (codingOf L h) (take c es))) f e;
   observations = λ e h a os c f s.
       made-bare (makeOrder layout.Observation h
       ((wrongCount 15 c, 12) ∷ (observations.epochOut a || anyOf (observations.outOfRange e (quantityOf (h .kind))) (take c os), 10) ∷ [])) h

@@ -4,14 +4,6 @@ use mathlib.Core.Bool.{Bool, true, false, cond}
 use Prim.Native.Nat.{ℕ}
 use Rattle.answer.specs.Order.{refuses, answers}
 use Rattle.answer.proofs.OrderLaws.{refuses-apart}
-use Rattle.record_corrections.specs.Corrections.{saysCorrectionRead}
-use Rattle.record_corrections.specs.declared.Correction.{Correction}
-use Rattle.record_corrections.specs.declared.CorrectionRead.{CorrectionRead}
-use Rattle.record_corrections.specs.declared.CorrectionRead.the-variants as correction
-use Rattle.record_healths.specs.Healths.{saysHealthRead}
-use Rattle.record_healths.specs.declared.SatelliteHealth.{SatelliteHealth}
-use Rattle.record_healths.specs.declared.HealthRead.{HealthRead}
-use Rattle.record_healths.specs.declared.HealthRead.the-variants as health
 use Rattle.record_observations.specs.Observations.{saysEpochRead, saysObservationRead}
 use Rattle.record_observations.specs.declared.Epoch.{Epoch}
 use Rattle.record_observations.specs.declared.Observation.{Observation}
@@ -30,14 +22,6 @@ use Rattle.promises.proofs.CarriesItsNumber.{says-inj}
 
 -- ---- what a reader says, and its answer
 
-pub correction-told : (x : CorrectionRead) (e : Correction) → saysCorrectionRead x ≡ answers e → x ≡ correction.Entry e
-correction-told (correction.Entry a) e h = ap correction.Entry (says-inj h)
-correction-told (correction.Refused n) e h = absurd (refuses-apart n e h)
-
-pub health-told : (x : HealthRead) (e : SatelliteHealth) → saysHealthRead x ≡ answers e → x ≡ health.Entry e
-health-told (health.Entry a) e h = ap health.Entry (says-inj h)
-health-told (health.Refused n) e h = absurd (refuses-apart n e h)
-
 pub epoch-told : (x : EpochRead) (a : Epoch) → saysEpochRead x ≡ answers a → x ≡ epoch.At a
 epoch-told (epoch.At b) a h = ap epoch.At (says-inj h)
 epoch-told (epoch.Refused n) a h = absurd (refuses-apart n a h)
@@ -55,10 +39,6 @@ null-told (null.Null m) n h = ap null.Null (says-inj h)
 null-told (null.Refused m) n h = absurd (refuses-apart m n h)
 
 -- ---- held to a range, in the table's terms
-
-pub held-says : (b : Bool) (e : Correction) → saysCorrectionRead (cond b (correction.Refused 10) (correction.Entry e)) ≡ cond b (refuses 10) (answers e)
-held-says true e = refl
-held-says false e = refl
 
 pub epoch-says : (b : Bool) (a : Epoch) → saysEpochRead (cond b (epoch.Refused 10) (epoch.At a)) ≡ cond b (refuses 10) (answers a)
 epoch-says true a = refl

@@ -1,13 +1,12 @@
 -- Every record that can be sent is made, written, and reads back from the line, layout by layout. Assumes nothing.
-use mathlib.Core.Path.{_≡_, ap, _∙_}
+use mathlib.Core.Path.{_≡_, refl, sym, ap, subst, _∙_}
 use mathlib.Core.Bool.{false, _||_}
 use mathlib.Core.List.{List, [], _∷_, _++_}
-use Prim.Native.Nat.{ℕ}
-use lib.ListN.{length, take, replicate}
-use Rattle.answer.specs.Order.{Says}
-use Rattle.bits.specs.Rows.{wordsIn}
+use Prim.Native.Nat.{ℕ, _*_}
+use lib.ListN.{length, take, getD, replicate}
+use Rattle.bits.specs.Rows.{wordsIn, FillAfter}
 use Rattle.frame.specs.Frames.{afterPair}
-use Rattle.frame.specs.Widths.{anyOf, pairOutside, outside}
+use Rattle.frame.specs.Widths.{anyOf, pairOutside}
 use Rattle.frame.specs.declared.Header.{Header}
 use Rattle.frame.specs.declared.Carried.{Carried}
 use Rattle.frame.specs.declared.Frame.{Frame}
@@ -16,52 +15,38 @@ use Rattle.frame.specs.Layout.{systemOf}
 use Rattle.frame.proofs.FrameLaws.{after-inside}
 use Rattle.record_fields.specs.Coding.{frameBits, entryBits, frameWith, frameAfter}
 use Rattle.record_stages.specs.Stages.{wrongCount, makeOrder, saysCount}
-use Rattle.record_corrections.specs.declared.Correction.{Correction}
-use Rattle.record_healths.specs.declared.SatelliteHealth.{SatelliteHealth}
 use Rattle.record_observations.specs.declared.Edition.{Edition}
 use Rattle.record_observations.specs.declared.Epoch.{Epoch}
 use Rattle.record_observations.specs.declared.Observation.{Observation}
 use Rattle.record_positions.specs.declared.Position.{Position}
-use Rattle.record_corrections.specs.Corrections as corrections
-use Rattle.record_healths.specs.Healths as healths
+use Rattle.record_stages.specs.Lists.{ListLayout, codingOf, widthOf, listOrder, ListMade}
 use Rattle.record_observations.specs.Editions.{quantityOf}
 use Rattle.record_observations.specs.Observations as observations
 use Rattle.record_positions.specs.Positions as positions
 use Rattle.record_nulls.specs.Nulls as nulls
 use Rattle.record_texts.specs.Texts as texts
-use Rattle.record_laws.proofs.PairLaws.{corrections-count, correction-entry, healths-count, health-entry, position-same, null-same, text-count, text-left}
+use Rattle.record_laws.proofs.PairLaws.{position-same, null-same, text-count, text-left}
 use Rattle.record_laws.proofs.PairLaws.{observations-count, epoch-same, observation-entry}
-use Rattle.record_laws.proofs.CorrectionTrips.{corrections-sent}
-use Rattle.record_laws.proofs.HealthTrips.{healths-sent}
+use Rattle.record_laws.proofs.PlainLists.{OwedList, lists-sent, list-count, list-entry}
 use Rattle.record_laws.proofs.ObservationTrips.{observations-sent}
 use Rattle.record_laws.proofs.PositionTrips.{position-sent}
 use Rattle.record_laws.proofs.NullTrips.{null-sent}
 use Rattle.record_laws.proofs.TextTrips.{text-sent}
-use Rattle.promises.specs.ReadsBack.{ListBack, CorrectionsBack, HealthsBack, ObservationsBack, PositionBack, NullBack, TextBack, WhatCanBeSent}
+use Rattle.promises.specs.RecordLayouts.{listOf}
+use Rattle.promises.specs.ReadsBack.{PlainBack, ObservationsBack, PositionBack, NullBack, TextBack, WhatCanBeSent}
+use Rattle.promises.proofs.RecordLayouts.{owed-of}
 use Rattle.promises.proofs.Sending.{sent-reads-back}
 use Rattle.promises.proofs.GeneralsBack.{generals-written, general-null-written}
 
 -- ---- what was made reads back, in the table's terms
 
-pub corrections-back : (h : Header) (es : List Correction) (c : ℕ) (d : Correction) (f : Frame) → corrections.CorrectionsMade h es c d f
-    → CorrectionsBack h es c d f
-unfolding corrections.countCorrections corrections.correctionAt
-corrections-back h es c d f m = record {
+pub list-back : (L : ListLayout) → OwedList L → (h : Header) (es : List (L .Entry)) (c : ℕ) (d : L .Entry) (f : Frame) → ListMade L h es c d f
+    → PlainBack L h es c d f
+list-back L o h es c d f m = record {
   header = m .header;
   inside = m .inside;
   counted = ap saysCount (m .counts);
-  each = λ i l. ap corrections.saysCorrectionRead (m .entries i l);
-  n = m .n;
-  fill = m .fill;
-}
-
-pub healths-back : (h : Header) (es : List SatelliteHealth) (c : ℕ) (d : SatelliteHealth) (f : Frame) → healths.HealthsMade h es c d f → HealthsBack h es c d f
-unfolding healths.countHealths healths.healthAt
-healths-back h es c d f m = record {
-  header = m .header;
-  inside = m .inside;
-  counted = ap saysCount (m .counts);
-  each = λ i l. ap healths.saysHealthRead (m .entries i l);
+  each = λ i l. ap (L .says) (m .entries i l) ∙ o .says-entry (getD es i d);
   n = m .n;
   fill = m .fill;
 }
@@ -96,29 +81,19 @@ text-back h t f m = record {
 -- ---- and after any pair too: no reader of records looks at it
 
 module _ (k : Carried) (p : pairOutside k ≡ false) where
-  list-unseen : {A : Type 0} (count : Frame → Says ℕ) (entry : Frame → ℕ → Says A) (width pattern : ℕ)
-      → ((f : Frame) → outside f ≡ false → count (afterPair k f) ≡ count f)
-      → ((f : Frame) → outside f ≡ false → (i : ℕ) → entry (afterPair k f) i ≡ entry f i)
-      → (h : Header) (es : List A) (c : ℕ) (d : A) (f : Frame) → ListBack count entry width pattern h es c d f
-      → ListBack count entry width pattern h es c d (afterPair k f)
-  unfolding frameBits afterPair
-  list-unseen count entry width pattern counts entries h es c d f b = record {
-    header = b .header;
+  list-unseen : (L : ListLayout) (h : Header) (es : List (L .Entry)) (c : ℕ) (d : L .Entry) (f : Frame) → PlainBack L h es c d f
+      → PlainBack L h es c d (afterPair k f)
+  list-unseen L h es c d f b = record {
+    header = same .0 ∙ b .header;
     inside = after-inside k f p (b .inside);
-    counted = counts f (b .inside) ∙ b .counted;
-    each = λ i l. entries f (b .inside) i ∙ b .each i l;
-    n = b .n;
-    fill = b .fill;
+    counted = ap saysCount (list-count L k f p (b .inside)) ∙ b .counted;
+    each = λ i l. ap (L .says) (list-entry L k f p (b .inside) i) ∙ b .each i l;
+    n = same .1 .0 ∙ b .n;
+    fill = subst (FillAfter (L .pattern) (c * widthOf L h)) (sym (same .1 .1)) (b .fill);
   }
-
-  corrections-unseen : (h : Header) (es : List Correction) (c : ℕ) (d : Correction) (f : Frame) → CorrectionsBack h es c d f
-      → CorrectionsBack h es c d (afterPair k f)
-  corrections-unseen = list-unseen _ _ 40 0xAAAAAA (λ f o. ap saysCount (corrections-count k f p o))
-      (λ f o i. ap corrections.saysCorrectionRead (correction-entry k f p o i))
-
-  healths-unseen : (h : Header) (es : List SatelliteHealth) (c : ℕ) (d : SatelliteHealth) (f : Frame) → HealthsBack h es c d f
-      → HealthsBack h es c d (afterPair k f)
-  healths-unseen = list-unseen _ _ 24 0 (λ f o. ap saysCount (healths-count k f p o)) (λ f o i. ap healths.saysHealthRead (health-entry k f p o i))
+    where
+      same : (afterPair k f .header ≡ f .header) × ((afterPair k f .n ≡ f .n) × (frameBits (afterPair k f) ≡ frameBits f))
+      same = unfold frameBits afterPair in (refl, (refl, refl))
 
   observations-unseen : (e : Edition) (h : Header) (a : Epoch) (os : List Observation) (c : ℕ) (d : Observation) (f : Frame)
       → ObservationsBack e h a os c d f → ObservationsBack e h a os c d (afterPair k f)
@@ -164,22 +139,14 @@ module _ (k : Carried) (p : pairOutside k ≡ false) where
 
 -- THE SENTENCE, layout by layout
 pub what-can-be-sent : WhatCanBeSent
-unfolding corrections.makeCorrections healths.makeHealths observations.makeObservations positions.makePosition nulls.makeNull texts.makeText
+unfolding observations.makeObservations positions.makePosition nulls.makeNull texts.makeText
     frameWith frameAfter
 what-can-be-sent = record {
-  corrections = λ h es c d typed s.
-      let sent = corrections-sent h es c d typed s in
-      sent-reads-back h
-      (makeOrder layout.Correction h ((wrongCount 18 c, 12) ∷ (anyOf (corrections.outOfRange (systemOf (h .kind))) (take c es), 10) ∷ []))
-      (wordsIn corrections.fill (entryBits (corrections.coding (systemOf (h .kind))) (take c es)))
-      (corrections.CorrectionsMade h es c d) (CorrectionsBack h es c d) (corrections-back h es c d) (λ k o. corrections-unseen k o h es c d) sent
-      (s .header .hour) (sent .reads .header) (sent .reads .inside);
-  healths = λ h es c d s.
-      let sent = healths-sent h es c d s in
-      sent-reads-back h
-      (makeOrder layout.Health h ((wrongCount 31 c, 12) ∷ (anyOf (healths.outOfRange (systemOf (h .kind))) (take c es), 10) ∷ []))
-      (wordsIn healths.fill (entryBits (healths.coding (systemOf (h .kind))) (take c es)))
-      (healths.HealthsMade h es c d) (HealthsBack h es c d) (healths-back h es c d) (λ k o. healths-unseen k o h es c d) sent
+  lists = λ l h es c d typed s.
+      let L = listOf l in
+      let sent = lists-sent L (owed-of l) h es c d typed s in
+      sent-reads-back h (listOrder L h es c) (wordsIn (L .pattern) (entryBits (codingOf L h) (take c es)))
+      (ListMade L h es c d) (PlainBack L h es c d) (list-back L (owed-of l) h es c d) (λ k o. list-unseen k o L h es c d) sent
       (s .header .hour) (sent .reads .header) (sent .reads .inside);
   observations = λ e h a os c d typed s.
       let sent = observations-sent e h a os c d typed s in

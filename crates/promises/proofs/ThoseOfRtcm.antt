@@ -40,11 +40,12 @@ use Rattle.writer.proofs.Streams.{stream-written}
 use Rattle.record_observations.specs.Editions.{quantityOf, markOf}
 use Rattle.record_observations.specs.Observations.{countObservations}
 use Rattle.record_laws.proofs.ObservationTrips.{observations-held}
+use Rattle.promises.specs.RecordLayouts.{listOf}
 use Rattle.promises.specs.ThoseOfRtcm.{GpsParityRule, FramesOfRtcm, RecordsOfRtcm}
 use Rattle.promises.proofs.CarriesItsNumber.{says-inj, none-told, carries-its-number}
 use Rattle.promises.proofs.ParityOfRtcm.{at-each, from-each, received-rows, computed-rows, sent-back, only-said}
 use Rattle.promises.proofs.NumbersOfRtcm.{says-exactly, said-value, udre-is, cn0-is, signed-above, signed-below}
-use Rattle.promises.proofs.NumbersOfRtcm.{count-told, corrections-fit, healths-fit, null-fit, text-fit}
+use Rattle.promises.proofs.NumbersOfRtcm.{count-told, lists-fit, corrections-fit, healths-fit, null-fit, text-fit}
 
 -- ---- the parity rule
 
@@ -112,6 +113,7 @@ records-of-rtcm = record {
   satellite-n = λ n some few. ap (λ t. cond t 32 n) (ne-eqb n 0 (λ z. omega arith));
   satellite-back = satellite-back;
   satellite-code = code-back;
+  lists-n = λ l. lists-fit (listOf l);
   corrections-n = corrections-fit;
   healths-n = healths-fit;
   observations-n = λ f c e. observations-held f c (count-told (countObservations f) c e) .n;

@@ -1,7 +1,7 @@
 -- DEMAND 1, "A refusal carries its number from the table": a call refuses when a number of its order applies, only then, and with the first of them
 -- (RULES 11). What a call says is its answer in the table's terms. Assumes nothing.
 use mathlib.Core.Path.{_≡_}
-use mathlib.Core.Bool.{Bool, false, not, _||_}
+use mathlib.Core.Bool.{Bool, false, not, _||_, cond}
 use mathlib.Core.List.{List, [], _∷_, _++_, map}
 use Prim.Native.Nat.{ℕ, _^_}
 use lib.IntN.{ℤ}
@@ -20,7 +20,6 @@ use Rattle.frame.specs.declared.Frame.{Frame}
 use Rattle.frame.specs.declared.Layout.{Layout}
 use Rattle.frame.specs.declared.Layout.the-variants as layout
 use Rattle.frame.specs.Layout.{systemOf}
-use Rattle.record_fields.specs.Coding.{frameBits, entryIn}
 use Rattle.reader.specs.Reading.{past, frameWaits, busy, fedBy, fedAllBy, endedBy, takenBy, saysAnswer}
 use Rattle.reader.specs.Rows.{rowsOrder, rowsBy}
 use Rattle.reader.specs.declared.Reader.{Reader}
@@ -31,11 +30,10 @@ use Rattle.journal.specs.Words.{keepWordsOrder, keptWords, recallWordsOrder, re
 use Rattle.journal_moves.specs.Moving.{moveOrder, movedBy, saysMoved}
 use Rattle.journal_moves.specs.declared.Way.the-variants.{New, Old}
 use Rattle.record_fields.specs.declared.Rows.{Rows}
-use Rattle.record_stages.specs.Stages.{wrongCount, otherLayout, misfit, wrongSize, askedOf, countAfter, placeAfter, sizeOf, entryRefusal, madeBy}
+use Rattle.record_stages.specs.Stages.{wrongCount, otherLayout, wrongSize, askedOf, countAfter, placeAfter, sizeOf, entryRefusal, madeBy}
 use Rattle.record_stages.specs.Stages.{misfitAfter, headedOrder}
-use Rattle.record_stages.specs.Stages.{readOrder, entryOrder, makeOrder, madeOrder, saysAsked, saysSize, saysCount, saysPlace, saysMade}
-use Rattle.record_corrections.specs.Corrections as corrections
-use Rattle.record_healths.specs.Healths as healths
+use Rattle.record_stages.specs.Stages.{readOrder, makeOrder, madeOrder, saysAsked, saysSize, saysCount, saysPlace, saysMade}
+use Rattle.record_stages.specs.Lists.{ListLayout, countOrder, atOrder, listOrder, counted, entryAt, made}
 use Rattle.record_observations.specs.Observations as observations
 use Rattle.record_observations.specs.Editions.{quantityOf, markNumber}
 use Rattle.record_observations.specs.Meanings.{frequencyOf, phaseStep, saysFrequency, saysStep}
@@ -52,7 +50,6 @@ use Rattle.record_positions.specs.Positions as positions
 use Rattle.record_nulls.specs.Nulls as nulls
 use Rattle.record_texts.specs.Texts as texts
 use Rattle.record_corrections.specs.declared.Correction.{Correction}
-use Rattle.record_healths.specs.declared.SatelliteHealth.{SatelliteHealth}
 use Rattle.record_positions.specs.declared.Position.{Position}
 use Rattle.profile.specs.Profile.{profileOrder, checkProfile, saysProfile}
 use Rattle.profile.specs.Cutting.{cutOrder, cutCorrections, saysCut}
@@ -67,6 +64,7 @@ use Rattle.mender.specs.Steps.{mendOrder, mendBy, saysMended}
 use Rattle.printing.specs.Printing.{printOrder, printedBy, saysPrinted}
 use Rattle.listing.specs.Listing.{pieceOrder, pieceBy, endOrder, finishBy, lineOrder, linePut}
 use Rattle.listing.specs.declared.Listing.{Listing}
+use Rattle.promises.specs.RecordLayouts.{EachList}
 
 -- the numbers of checks, in their order
 abbrev pub checkNumbers : List Check → List ℕ
@@ -85,6 +83,13 @@ pub record Ordered {A : Type 0} (numbers : List ℕ) (checks : List Check) (s : 
   pub refused : (n : ℕ) → FirstIs checks n → s ≡ refuses n
   pub only : (n : ℕ) → s ≡ refuses n → FirstIs checks n
 
+-- a plain list layout: counting 5, 6, 7, 8; an entry 9 after these, and 10 where reading has it; making 5, 6, 7, 12, 10
+pub record ListOrders (L : ListLayout) : Type 0 where
+  pub count : (f : Frame) → Ordered (5 ∷ 6 ∷ 7 ∷ 8 ∷ []) (countOrder L f) (saysCount (counted L f))
+  pub entry : (f : Frame) (i : ℕ)
+      → Ordered (5 ∷ 6 ∷ 7 ∷ 8 ∷ 9 ∷ cond (L .ranged) (10 ∷ []) []) (atOrder L f i) (L .says (entryAt L f i))
+  pub make : (h : Header) (es : List (L .Entry)) (c : ℕ) → Ordered (5 ∷ 6 ∷ 7 ∷ 12 ∷ 10 ∷ []) (listOrder L h es c) (saysMade (made L h es c))
+
 -- every public function that can refuse; where a number stands twice, two conditions have it
 pub record CarriesItsNumber : Type 0 where
   -- feeding: 5, 3, 2, 1; ending: 5, 3, 2; taking: 5, 4
@@ -94,18 +99,9 @@ pub record CarriesItsNumber : Type 0 where
   pub reader-take : (r : Reader) → Ordered (5 ∷ 4 ∷ []) ((past r, 5) ∷ (not (frameWaits r), 4) ∷ []) (saysAnswer (takenBy r .answer))
   -- reading rows: 5, 5 where a frame is said to wait and none stands, 3, 13
   pub read-rows : (r : Reader) (bytes rows : List ℕ) → Ordered (5 ∷ 5 ∷ 3 ∷ 13 ∷ []) (rowsOrder r rows) (saysAnswer (rowsBy r bytes rows .answer))
+  -- plain lists: counting, an entry, making
+  pub lists : EachList ListOrders
   -- reading a record: 5, 6, 7, 8; 9 of an entry; 10 of a field; 11, then 13 of a text
-  pub count-corrections : (f : Frame)
-      → Ordered (5 ∷ 6 ∷ 7 ∷ 8 ∷ []) (readOrder layout.Correction f (misfit 40 (f .n)) []) (saysCount (corrections.countCorrections f))
-  pub correction-at : (f : Frame) (i : ℕ)
-      → let s = systemOf (f .header .kind) in
-      Ordered (5 ∷ 6 ∷ 7 ∷ 8 ∷ 9 ∷ 10 ∷ [])
-      (entryOrder layout.Correction 40 f i ((corrections.outOfRange s (entryIn (corrections.coding s) i (frameBits f)), 10) ∷ []))
-      (corrections.saysCorrectionRead (corrections.correctionAt f i))
-  pub count-healths : (f : Frame)
-      → Ordered (5 ∷ 6 ∷ 7 ∷ 8 ∷ []) (readOrder layout.Health f (misfit 24 (f .n)) []) (saysCount (healths.countHealths f))
-  pub health-at : (f : Frame) (i : ℕ)
-      → Ordered (5 ∷ 6 ∷ 7 ∷ 8 ∷ 9 ∷ []) (entryOrder layout.Health 24 f i []) (healths.saysHealthRead (healths.healthAt f i))
   pub count-observations : (f : Frame)
       → Ordered (5 ∷ 6 ∷ 7 ∷ 8 ∷ []) (readOrder layout.Observation f (misfitAfter 24 48 (f .n)) []) (saysCount (observations.countObservations f))
   pub read-epoch : (f : Frame)
@@ -138,14 +134,6 @@ pub record CarriesItsNumber : Type 0 where
   pub read-text : (f : Frame) (buffer : List ℕ)
       → Ordered (5 ∷ 6 ∷ 7 ∷ 8 ∷ 11 ∷ 13 ∷ []) (texts.textOrder f buffer) (saysCount (texts.readText f buffer))
   -- making a frame: 5, 6, 7, 12; 10 of a field; 11 of a text
-  pub make-corrections : (h : Header) (es : List Correction) (c : ℕ)
-      → Ordered (5 ∷ 6 ∷ 7 ∷ 12 ∷ 10 ∷ [])
-      (makeOrder layout.Correction h ((wrongCount 18 c, 12) ∷ (anyOf (corrections.outOfRange (systemOf (h .kind))) (take c es), 10) ∷ []))
-      (saysMade (corrections.makeCorrections h es c))
-  pub make-healths : (h : Header) (es : List SatelliteHealth) (c : ℕ)
-      → Ordered (5 ∷ 6 ∷ 7 ∷ 12 ∷ 10 ∷ [])
-      (makeOrder layout.Health h ((wrongCount 31 c, 12) ∷ (anyOf (healths.outOfRange (systemOf (h .kind))) (take c es), 10) ∷ []))
-      (saysMade (healths.makeHealths h es c))
   pub make-observations : (e : Edition) (h : Header) (a : Epoch) (os : List Observation) (c : ℕ)
       → Ordered (5 ∷ 6 ∷ 7 ∷ 12 ∷ 10 ∷ [])
       (makeOrder layout.Observation h

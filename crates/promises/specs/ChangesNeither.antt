@@ -20,8 +20,7 @@ use Rattle.journal.specs.Words.{keptWords, heldWords, recalledWords, recalledEi
 use Rattle.journal_moves.specs.Moving.{movedBy, movedTo, saysMoved}
 use Rattle.journal_moves.specs.declared.Way.{Way}
 use Rattle.record_stages.specs.Stages.{saysCount, saysMade}
-use Rattle.record_corrections.specs.Corrections.{makeCorrections}
-use Rattle.record_healths.specs.Healths.{makeHealths}
+use Rattle.record_stages.specs.Lists.{ListLayout, made}
 use Rattle.record_observations.specs.Observations.{makeObservations}
 use Rattle.record_observations.specs.declared.Edition.{Edition}
 use Rattle.record_observations.specs.declared.Epoch.{Epoch}
@@ -34,7 +33,6 @@ use Rattle.record_positions.specs.Positions.{makePosition}
 use Rattle.record_nulls.specs.Nulls.{makeNull}
 use Rattle.record_texts.specs.Texts.{readText, bufferAfter, makeText}
 use Rattle.record_corrections.specs.declared.Correction.{Correction}
-use Rattle.record_healths.specs.declared.SatelliteHealth.{SatelliteHealth}
 use Rattle.record_positions.specs.declared.Position.{Position}
 use Rattle.profile.specs.Cutting.{noFrames, cutCorrections, saysCut}
 use Rattle.season_reports.specs.Reports.{addedBy, journalAdded, saysAdded, saysJournal}
@@ -45,6 +43,7 @@ use Rattle.mender.specs.Steps.{mendBy, bytesTo, outputTo, saysMended}
 use Rattle.mender.specs.declared.Step.{Step}
 use Rattle.mender.specs.declared.Step.the-variants.{End}
 use Rattle.listing.specs.declared.Listing.{Listing}
+use Rattle.promises.specs.RecordLayouts.{EachList}
 
 -- where the call refuses, what it leaves is what was there
 abbrev pub Keeps : {A B : Type 0} → Says A → B → B → Type 0
@@ -75,6 +74,10 @@ pub record ChangesNeither : Type 0 where
   pub finish : (l : Listing) (room : ℕ) → Keeps (saysAnswer (finishBy l room .answer)) (finishBy l room .listing) l
   pub finish-output : (l : Listing) (out : List ℕ) → Keeps (saysAnswer (finishBy l (length out) .answer)) (finishText l out) out
 
+-- a refusal to make a list, with the blank frame
+abbrev pub BlankRefused : ListLayout → Type 0
+BlankRefused L = (h : Header) (es : List (L .Entry)) (c : ℕ) → Keeps (saysMade (made L h es c)) (made L h es c .frame) blank
+
 -- a refusal is its number and nothing more (RULES 10): what else its answer has room for is zeros and a blank frame, which every call that is given
 -- it refuses with 5
 pub record NumberAlone : Type 0 where
@@ -86,13 +89,12 @@ pub record NumberAlone : Type 0 where
   pub recall : (bs : List ℕ) → Keeps (saysRecalled (recalledBy bs)) (recalledBy bs .frame) blank
   pub recall-words : (bs : List ℕ) → Keeps (saysRecalled (recalledWords bs)) (recalledWords bs .frame) blank
   pub recall-either : (bs : List ℕ) → Keeps (saysRecalled (recalledEither bs)) (recalledEither bs .frame) blank
-  pub make-corrections : (h : Header) (es : List Correction) (c : ℕ) → Keeps (saysMade (makeCorrections h es c)) (makeCorrections h es c .frame) blank
+  pub lists : EachList BlankRefused
   pub make-observations : (e : Edition) (h : Header) (a : Epoch) (os : List Observation) (c : ℕ)
       → Keeps (saysMade (makeObservations e h a os c)) (makeObservations e h a os c .frame) blank
   pub make-generals : (h : Header) (a : GeneralHead) (gs : List General) (c : ℕ)
       → Keeps (saysMade (makeGenerals h a gs c)) (makeGenerals h a gs c .frame) blank
   pub make-general-null : (h : Header) (n s : ℕ) → Keeps (saysMade (makeGeneralNull h n s)) (makeGeneralNull h n s .frame) blank
-  pub make-healths : (h : Header) (es : List SatelliteHealth) (c : ℕ) → Keeps (saysMade (makeHealths h es c)) (makeHealths h es c .frame) blank
   pub make-position : (h : Header) (p : Position) → Keeps (saysMade (makePosition h p)) (makePosition h p .frame) blank
   pub make-null : (h : Header) (n : ℕ) → Keeps (saysMade (makeNull h n)) (makeNull h n .frame) blank
   pub make-text : (h : Header) (t : List ℕ) → Keeps (saysMade (makeText h t)) (makeText h t .frame) blank

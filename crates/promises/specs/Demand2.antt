@@ -16,22 +16,16 @@ use Rattle.frame.specs.declared.Header.{Header}
 use Rattle.frame.specs.declared.Carried.{Carried}
 use Rattle.frame.specs.declared.Frame.{Frame}
 use Rattle.frame.specs.declared.Layout.the-variants as layout
-use Rattle.frame.specs.Layout.{systemOf}
 use Rattle.frame.specs.Widths.{anyOf, pairOutside, outside}
 use Rattle.stream.specs.Standing.{size, Stands, pairBefore, frameAt}
-use Rattle.record_fields.specs.Coding.{frameBits, entryIn, Each}
+use Rattle.record_fields.specs.Coding.{frameBits, Each}
 use Rattle.record_stages.specs.declared.Made.{Made}
-use Rattle.record_corrections.specs.declared.Correction.{Correction}
-use Rattle.record_healths.specs.declared.SatelliteHealth.{SatelliteHealth}
 use Rattle.record_observations.specs.declared.Edition.{Edition}
 use Rattle.record_observations.specs.declared.Epoch.{Epoch}
 use Rattle.record_observations.specs.declared.Observation.{Observation}
 use Rattle.record_positions.specs.declared.Position.{Position}
 use Rattle.record_stages.specs.Stages.{otherLayout, saysCount, saysMade}
-use Rattle.record_corrections.specs.Corrections.{countCorrections, correctionAt, makeCorrections, StandardFill}
-use Rattle.record_corrections.specs.Corrections.{Typed, saysCorrectionRead, HoldsCorrections, coding as correctionCoding}
-use Rattle.record_corrections.specs.Issues.{lateTb}
-use Rattle.record_healths.specs.Healths.{countHealths, healthAt, makeHealths, saysHealthRead, HoldsHealths, coding as healthCoding}
+use Rattle.record_stages.specs.Lists.{ListLayout, saidAt, counted, entryAt, made, StandardFill, HoldsList}
 use Rattle.record_observations.specs.Editions.{quantityOf}
 use Rattle.record_observations.specs.Observations.{countObservations, readEpoch, observationAt, makeObservations, saysEpochRead, saysObservationRead}
 use Rattle.record_observations.specs.Observations.{HoldsObservations, epochIn, lateTime, satelliteIn, retoldRead}
@@ -50,27 +44,24 @@ use Rattle.journal.specs.Journal.{keptBy, heldBy, recalledBy, saysKept, saysRec
 use Rattle.writer.specs.Sending.{carriedOn}
 use Rattle.writer.specs.Answer.{writtenBy, writtenTo, saysWritten}
 use Rattle.writer.specs.OneFrame.{itsBits}
+use Rattle.promises.specs.RecordLayouts.{recordTypes, PlainList, listOf, EachList}
 use Rattle.promises.specs.ThoseOfRtcm.{GpsParityRule, FramesOfRtcm, RecordsOfRtcm}
 use Rattle.promises.specs.GeneralsOfRtcm.{GeneralsOfRtcm}
 use Rattle.promises.specs.GeneralsBack.{GeneralsBack, GeneralNullBack}
-use Rattle.promises.specs.ReadsBack.{CorrectionsBack, HealthsBack, ObservationsBack, PositionBack, NullBack, TextBack, WhatCanBeSent}
+use Rattle.promises.specs.ReadsBack.{PlainBack, ObservationsBack, PositionBack, NullBack, TextBack, WhatCanBeSent}
 
--- THE FIFTEEN TYPES that have a record
-abbrev pub recordTypes : List ℕ
-recordTypes = 1 ∷ 9 ∷ 31 ∷ 34 ∷ 3 ∷ 32 ∷ 5 ∷ 33 ∷ 6 ∷ 16 ∷ 36 ∷ 18 ∷ 19 ∷ 41 ∷ 42 ∷ []
+-- a plain list layout: which frames have a count, and what is said of each entry below it
+pub record ListIsRead (L : ListLayout) : Type 0 where
+  pub count : (f : Frame) (c : ℕ) → (saysCount (counted L f) ≡ answers c) ↔ HoldsList L f c
+  pub entry : (f : Frame) (c i : ℕ) → HoldsList L f c → i < c
+      → let e = saidAt L f i in L .says (entryAt L f i) ≡ cond (L .late e) (refuses 10) (answers e)
 
 -- WHICH FRAMES ARE READ, whatever their fill: those that are for the layout with exactly these N; and what is read is what their bits say, or 10
 -- for a correction whose tb is over 119, for observations whose time is over 599999, and for satellite 0 of types 41 and 42
 pub record WhatIsRead : Type 0 where
-  -- a type number has a layout other than plain exactly when it is one of the fifteen
+  -- a type number has a layout other than plain exactly when it is one of those that have a record
   pub types : (kind : ℕ) → otherLayout layout.Plain kind ≡ anyOf (eqb kind) recordTypes
-  pub corrections : (f : Frame) (c : ℕ) → (saysCount (countCorrections f) ≡ answers c) ↔ HoldsCorrections f c
-  pub correction : (f : Frame) (c i : ℕ) → HoldsCorrections f c → i < c
-      → let s = systemOf (f .header .kind) in let e = entryIn (correctionCoding s) i (frameBits f) in
-      saysCorrectionRead (correctionAt f i) ≡ cond (lateTb (e .issue)) (refuses 10) (answers e)
-  pub healths : (f : Frame) (c : ℕ) → (saysCount (countHealths f) ≡ answers c) ↔ HoldsHealths f c
-  pub health : (f : Frame) (c i : ℕ) → HoldsHealths f c → i < c
-      → saysHealthRead (healthAt f i) ≡ answers (entryIn (healthCoding (systemOf (f .header .kind))) i (frameBits f))
+  pub lists : EachList ListIsRead
   pub observations : (f : Frame) (c : ℕ) → (saysCount (countObservations f) ≡ answers c) ↔ HoldsObservations f c
   pub epoch : (f : Frame) (c : ℕ) → HoldsObservations f c
       → saysEpochRead (readEpoch f) ≡ cond (lateTime (epochIn f)) (refuses 10) (answers (epochIn f))
@@ -92,13 +83,16 @@ pub record WhatIsRead : Type 0 where
   pub no-other : (f : Frame) (buffer : List ℕ) (c : ℕ) → saysCount (readText f buffer) ≡ answers c
       → ((zeros : ℕ) × HoldsText f (textIn f) zeros) × (length (textIn f) ≡ c)
 
+-- a plain list that is made reads back
+abbrev pub ListReadsBack : ListLayout → Type 0
+ListReadsBack L =
+    (h : Header) (es : List (L .Entry)) (c : ℕ) (d : L .Entry) (f : Frame) → length es ≡ L .most → Each (L .Typed) es
+    → saysMade (made L h es c) ≡ answers f → PlainBack L h es c d f
+
 -- "A record we write reads back equal": header, count and every entry, within the widths, N worked out, standard fill. An array of entries has the
 -- most that its type allows; `Typed` is what the types of the fields say.
 pub record ReadsBackEqual : Type 0 where
-  pub corrections : (h : Header) (es : List Correction) (c : ℕ) (d : Correction) (f : Frame) → length es ≡ 18 → Each Typed es
-      → saysMade (makeCorrections h es c) ≡ answers f → CorrectionsBack h es c d f
-  pub healths : (h : Header) (es : List SatelliteHealth) (c : ℕ) (d : SatelliteHealth) (f : Frame) → length es ≡ 31
-      → saysMade (makeHealths h es c) ≡ answers f → HealthsBack h es c d f
+  pub lists : EachList ListReadsBack
   pub observations : (e : Edition) (h : Header) (a : Epoch) (os : List Observation) (c : ℕ) (d : Observation) (f : Frame) → length os ≡ 15
       → Each observations.Typed os → saysMade (makeObservations e h a os c) ≡ answers f → ObservationsBack e h a os c d f
   pub generals : (h : Header) (a : GeneralHead) (gs : List General) (c : ℕ) (d : General) (f : Frame) → length gs ≡ 22
@@ -119,12 +113,10 @@ pub record ReadsBackEqual : Type 0 where
 
 -- THE RECORD OF f IS READ, and m is the answer to making it anew under the same header
 pub data Remade (f : Frame) (m : Made) : Type 0 where
-  -- types 1, 9, 31 and 34: the count and every entry, with standard fill
-  ofCorrections : (es : List Correction) (c : ℕ) (d : Correction) → c ≤ length es → saysCount (countCorrections f) ≡ answers c
-      → ((i : ℕ) → i < c → saysCorrectionRead (correctionAt f i) ≡ answers (getD es i d)) → StandardFill f c → m ≡ makeCorrections (f .header) es c → Remade f m
-  -- types 5 and 33: the count and every entry
-  ofHealths : (es : List SatelliteHealth) (c : ℕ) (d : SatelliteHealth) → c ≤ length es → saysCount (countHealths f) ≡ answers c
-      → ((i : ℕ) → i < c → saysHealthRead (healthAt f i) ≡ answers (getD es i d)) → m ≡ makeHealths (f .header) es c → Remade f m
+  -- a plain list: the count and every entry, with standard fill
+  ofList : (l : PlainList) (es : List (listOf l .Entry)) (c : ℕ) (d : listOf l .Entry) → c ≤ length es → saysCount (counted (listOf l) f) ≡ answers c
+      → ((i : ℕ) → i < c → listOf l .says (entryAt (listOf l) f i) ≡ answers (getD es i d)) → StandardFill (listOf l) f c
+      → m ≡ made (listOf l) (f .header) es c → Remade f m
   -- types 18 and 19, read and made in one edition: the count, the head and every satellite
   ofObservations : (e : Edition) (a : Epoch) (os : List Observation) (c : ℕ) (d : Observation) → c ≤ length os → saysCount (countObservations f) ≡ answers c
       → saysEpochRead (readEpoch f) ≡ answers a → ((i : ℕ) → i < c → saysObservationRead (observationAt e f i) ≡ answers (getD os i d))
@@ -165,8 +157,7 @@ pub record PairBeside : Type 0 where
       → (writtenBy (afterPair k f) c buffer ≡ writtenBy f c buffer) × (writtenTo (afterPair k f) c buffer ≡ writtenTo f c buffer)
   pub kept : (k : Carried) (f : Frame) (buffer : List ℕ) → pairOutside k ≡ false → outside f ≡ false
       → (keptBy (afterPair k f) buffer ≡ keptBy f buffer) × (heldBy (afterPair k f) buffer ≡ heldBy f buffer)
-  pub corrections : (h : Header) (es : List Correction) (c : ℕ) (f : Frame) → saysMade (makeCorrections h es c) ≡ answers f → bare f ≡ f
-  pub healths : (h : Header) (es : List SatelliteHealth) (c : ℕ) (f : Frame) → saysMade (makeHealths h es c) ≡ answers f → bare f ≡ f
+  pub lists : EachList (λ L. (h : Header) (es : List (L .Entry)) (c : ℕ) (f : Frame) → saysMade (made L h es c) ≡ answers f → bare f ≡ f)
   pub observations : (e : Edition) (h : Header) (a : Epoch) (os : List Observation) (c : ℕ) (f : Frame) → saysMade (makeObservations e h a os c) ≡ answers f
       → bare f ≡ f
   pub generals : (h : Header) (a : GeneralHead) (gs : List General) (c : ℕ) (f : Frame) → saysMade (makeGenerals h a gs c) ≡ answers f → bare f ≡ f

@@ -7,6 +7,7 @@ pub mod GeneralCalls
 pub mod JournalCalls
 pub mod MenderCalls
 pub mod SeasonCalls
+pub mod RecordLayouts
 pub mod CarriesItsNumber
 pub mod ChangesNeither
 pub mod ThoseOfRtcm

@@ -13,15 +13,12 @@ use Rattle.frame.specs.declared.Frame.{Frame}
 use Rattle.stream.specs.Standing.{frameAt}
 use Rattle.record_fields.specs.Coding.{frameBits, Each}
 use Rattle.record_stages.specs.declared.Made.{Made}
-use Rattle.record_corrections.specs.declared.Correction.{Correction}
-use Rattle.record_healths.specs.declared.SatelliteHealth.{SatelliteHealth}
 use Rattle.record_observations.specs.declared.Edition.{Edition}
 use Rattle.record_observations.specs.declared.Epoch.{Epoch}
 use Rattle.record_observations.specs.declared.Observation.{Observation}
 use Rattle.record_positions.specs.declared.Position.{Position}
 use Rattle.record_stages.specs.Stages.{saysCount, saysMade}
-use Rattle.record_corrections.specs.Corrections.{countCorrections, correctionAt, makeCorrections, saysCorrectionRead, Typed, SendableCorrections}
-use Rattle.record_healths.specs.Healths.{countHealths, healthAt, makeHealths, saysHealthRead, SendableHealths}
+use Rattle.record_stages.specs.Lists.{ListLayout, widthOf, counted, entryAt, made, SendableList}
 use Rattle.record_observations.specs.Observations.{countObservations, readEpoch, observationAt, makeObservations, saysEpochRead, saysObservationRead}
 use Rattle.record_observations.specs.Observations.{SendableObservations}
 use Rattle.record_observations.specs.Observations as observations
@@ -38,6 +35,7 @@ use Rattle.record_texts.specs.Texts.{readText, bufferAfter, makeText, SendableT
 use Rattle.writer.specs.Answer.{writtenBy, writtenTo, saysWritten}
 use Rattle.writer.specs.OneFrame.{lineAfter, Wrote}
 use Rattle.frame.specs.declared.Carried.{Carried}
+use Rattle.promises.specs.RecordLayouts.{EachList}
 use Rattle.promises.specs.GeneralsBack.{GeneralsBack, GeneralNullBack}
 
 -- ---- WHAT READS BACK of a frame: its header and its record; it is within its widths, N is worked out, the fill is standard
@@ -52,11 +50,8 @@ pub record ListBack {A : Type 0} (count : Frame → Says ℕ) (entry : Frame →
   pub n : f .n ≡ (c * width + 23) / 24
   pub fill : FillAfter pattern (c * width) (frameBits f)
 
-abbrev pub CorrectionsBack : Header → List Correction → ℕ → Correction → Frame → Type 0
-CorrectionsBack = ListBack (λ f. saysCount (countCorrections f)) (λ f i. saysCorrectionRead (correctionAt f i)) 40 0xAAAAAA
-
-abbrev pub HealthsBack : Header → List SatelliteHealth → ℕ → SatelliteHealth → Frame → Type 0
-HealthsBack = ListBack (λ f. saysCount (countHealths f)) (λ f i. saysHealthRead (healthAt f i)) 24 0
+abbrev pub PlainBack : (L : ListLayout) → Header → List (L .Entry) → ℕ → L .Entry → Frame → Type 0
+PlainBack L h = ListBack (λ f. saysCount (counted L f)) (λ f i. L .says (entryAt L f i)) (widthOf L h) (L .pattern) h
 
 -- a head and satellites, read in the edition in which they were made; there is no fill
 pub record ObservationsBack (e : Edition) (h : Header) (a : Epoch) (os : List Observation) (c : ℕ) (d : Observation) (f : Frame) : Type 0 where
@@ -108,14 +103,15 @@ pub record WrittenAndRead (m : Made) (Reads : Frame → Type 0) (c : Carried) (b
 abbrev pub ReadsBack : Made → (Frame → Type 0) → Type 0
 ReadsBack m Reads = (c : Carried) (buffer : List ℕ) → c .d29 ≤ 1 → c .d30 ≤ 1 → 165 ≤ length buffer → WrittenAndRead m Reads c buffer
 
+-- every list of a plain list layout that can be sent
+abbrev pub ListSent : ListLayout → Type 0
+ListSent L =
+    (h : Header) (es : List (L .Entry)) (c : ℕ) (d : L .Entry) → Each (L .Typed) (take c es) → SendableList L h es c d
+    → ReadsBack (made L h es c) (PlainBack L h es c d)
+
 -- EVERY RECORD THAT CAN BE SENT; `Typed` is what the types of the fields say
 pub record WhatCanBeSent : Type 0 where
-  -- types 1, 9, 31 and 34
-  pub corrections : (h : Header) (es : List Correction) (c : ℕ) (d : Correction) → Each Typed (take c es) → SendableCorrections h es c d
-      → ReadsBack (makeCorrections h es c) (CorrectionsBack h es c d)
-  -- types 5 and 33
-  pub healths : (h : Header) (es : List SatelliteHealth) (c : ℕ) (d : SatelliteHealth) → SendableHealths h es c d
-      → ReadsBack (makeHealths h es c) (HealthsBack h es c d)
+  pub lists : EachList ListSent
   -- types 18 and 19, in each edition
   pub observations : (e : Edition) (h : Header) (a : Epoch) (os : List Observation) (c : ℕ) (d : Observation) → Each observations.Typed (take c os)
       → SendableObservations e h a os c d → ReadsBack (makeObservations e h a os c) (ObservationsBack e h a os c d)

@@ -4,7 +4,7 @@ use mathlib.Core.Path.{_≡_}
 use mathlib.Core.Logic.{_↔_, _⊎_}
 use mathlib.Core.Bool.{Bool, true, false, not}
 use mathlib.Core.List.{List, [], _∷_, _++_, map, List·Memᴰ}
-use Prim.Native.Nat.{ℕ, suc, _+_, _-_, _*_, _^_, _≤_, _<_}
+use Prim.Native.Nat.{ℕ, suc, _+_, _-_, _*_, _/_, _^_, _≤_, _<_}
 use lib.IntN.{ℤ, pos, negℤ, natAbs, _-ℤ_, _*ℤ_}
 use lib.Signed.{mag}
 use lib.Dec.{eqb}
@@ -28,6 +28,7 @@ use Rattle.frame.specs.declared.Frame.{Frame}
 use Rattle.frame.specs.declared.System.the-variants.{Gps, Glonass}
 use Rattle.stream.specs.Standing.{size, Stands, frameAt}
 use Rattle.record_stages.specs.Stages.{saysCount}
+use Rattle.record_stages.specs.Lists.{widthOf, counted}
 use Rattle.record_corrections.specs.Corrections.{countCorrections}
 use Rattle.record_corrections.specs.declared.Correction.{Correction}
 use Rattle.record_corrections.specs.declared.Issue.the-variants.{Iod, Age}
@@ -51,6 +52,7 @@ use Rattle.writer.specs.Answer.{writtenBy, saysWritten}
 use Rattle.writer.specs.OneFrame.{Wrote, itsBits, WritesBack}
 use Rattle.writer.specs.Streams.{AllWritable, streamBytes, StreamWritten}
 use Rattle.frame.specs.declared.Carried.{Carried}
+use Rattle.promises.specs.RecordLayouts.{EachList}
 
 -- "the GPS parity rule". A window is a word with the two bits before it.
 pub record GpsParityRule : Type 0 where
@@ -115,6 +117,8 @@ pub record RecordsOfRtcm : Type 0 where
   pub satellite-n : (n : ℕ) → 1 ≤ n → n ≤ 31 → satelliteOf n ≡ n
   pub satellite-back : (s : ℕ) → 0 < s → s ≤ 32 → satelliteOf (satelliteCode s) ≡ s
   pub satellite-code : (n : ℕ) → n < 32 → satelliteCode (satelliteOf n) ≡ n
+  -- N of a plain list is the words that its bits take, rounded up
+  pub lists-n : EachList (λ L. (f : Frame) (c : ℕ) → saysCount (counted L f) ≡ answers c → f .n ≡ (c * widthOf L (f .header) + 23) / 24)
   -- 3k satellites take 5k words, 3k + 1 take 5k + 2, 3k + 2 take 5k + 4: every count is one of these, so N is
   pub corrections-n : (f : Frame) (c k : ℕ) → saysCount (countCorrections f) ≡ answers c
       → ((c ≡ 3 * k) ↔ (f .n ≡ 5 * k)) × ((c ≡ 3 * k + 1) ↔ (f .n ≡ 5 * k + 2)) × ((c ≡ 3 * k + 2) ↔ (f .n ≡ 5 * k + 4))

@@ -1,27 +1,25 @@
 -- Types 1, 9, 31 and 34, over the system: the layout as data, what its codes mean, and the answers in their orders. Assumes nothing.
-use mathlib.Core.Bool.{Bool}
+use mathlib.Core.Bool.{Bool, true}
 use mathlib.Core.List.{List, [], _∷_}
-use Prim.Native.Nat.{ℕ, _*_, _^_, _≤_, _<_}
+use Prim.Native.Nat.{ℕ, _^_, _≤_, _<_}
 use lib.Signed.{mag}
 use lib.ListN.{getD}
 use Rattle.answer.specs.Order.{Says, refuses, answers}
-use Rattle.bits.specs.Rows.{FillAfter}
 use Rattle.bits.specs.Signed.{signed, code}
 use Rattle.frame.specs.declared.Header.{Header}
 use Rattle.frame.specs.declared.Frame.{Frame}
 use Rattle.frame.specs.declared.Layout.the-variants as layout
 use Rattle.frame.specs.declared.System.{System}
-use Rattle.frame.specs.Layout.{systemOf}
-use Rattle.record_fields.specs.Coding.{Coding, frameBits}
+use Rattle.record_fields.specs.Coding.{Coding}
 use Rattle.record_fields.specs.Tables.{row, codesOf, rowOut}
 use Rattle.record_fields.specs.Satellites.{satelliteOf}
 use Rattle.record_stages.specs.declared.Count.{Count}
 use Rattle.record_stages.specs.declared.Made.{Made}
-use Rattle.record_stages.specs.Lists.{listCount, listRanged, heldTo, listMade, MadeReads, Sendable, Holding, ListRead}
+use Rattle.record_stages.specs.Lists.{ListLayout, counted, entryAt, made, SendableList, HoldsList}
 use Rattle.record_corrections.specs.declared.Correction.{Correction}
 use Rattle.record_corrections.specs.declared.CorrectionRead.{CorrectionRead}
 use Rattle.record_corrections.specs.declared.CorrectionRead.the-variants as read
-use Rattle.record_corrections.specs.Issues.{issueOf, issueFirst, issueOthers, lastMost, IssueTyped, IssueInRange}
+use Rattle.record_corrections.specs.Issues.{issueOf, issueFirst, issueOthers, lastMost, lateTb, IssueTyped, IssueInRange}
 
 -- THE LAYOUT of both systems, 40 bits: scale 1, UDRE 2, satellite 5, PRC 16, RRC 8, then 1 and 7 that are the system's own
 abbrev pub widths : List ℕ
@@ -53,10 +51,6 @@ coding s = record { widths = widths; meant = meant s; codes = codes s }
 abbrev pub fill : ℕ
 fill = 0xAAAAAA
 
--- STANDARD FILL of a frame with c entries
-abbrev pub StandardFill : Frame → ℕ → Type 0
-StandardFill f c = FillAfter fill (c * 40) (frameBits f)
-
 -- REFUSAL 10: scale over 1, UDRE over 3, satellite not 1 to 32, the other system's issue, change over 1, tb over 119; any PRC, RRC, IOD may be sent
 abbrev pub least : List ℕ
 least = 0 ∷ 0 ∷ 1 ∷ []
@@ -66,28 +60,6 @@ most s = 1 ∷ 3 ∷ 32 ∷ 65535 ∷ 255 ∷ 1 ∷ lastMost s ∷ []
 
 abbrev pub outOfRange : System → Correction → Bool
 outOfRange s e = rowOut least (most s) (numbers s e)
-
--- ---- the answers; a frame's system is that of its type
-
--- COUNT: 5, 6, 7, 8
-unfoldable pub countCorrections : Frame → Count
-countCorrections f = listCount layout.Correction (coding (systemOf (f .header .kind))) f
-
--- ENTRY: 5, 6, 7, 8, 9, 10
-unfoldable pub correctionAt : Frame → ℕ → CorrectionRead
-correctionAt f =
-    let s = systemOf (f .header .kind) in
-    listRanged layout.Correction (coding s) (outOfRange s) read.Refused read.Entry f
-
--- MAKING: 5, 6, 7, 12, 10; at most 18 entries
-unfoldable pub makeCorrections : Header → List Correction → ℕ → Made
-makeCorrections h = let s = systemOf (h .kind) in listMade layout.Correction (coding s) fill 18 (outOfRange s) h
-
--- ---- in the table's terms
-
-abbrev pub saysCorrectionRead : CorrectionRead → Says Correction
-saysCorrectionRead (read.Entry e) = answers e
-saysCorrectionRead (read.Refused n) = refuses n
 
 -- ---- what the round trip says
 
@@ -105,19 +77,47 @@ pub record InRange (s : System) (e : Correction) : Type 0 where
   pub most : e .satellite ≤ 32
   pub issue : IssueInRange s (e .issue)
 
--- made, then read; the header's type has the system
-abbrev pub CorrectionsMade : Header → List Correction → ℕ → Correction → Frame → Type 0
-CorrectionsMade h = MadeReads (coding (systemOf (h .kind))) fill countCorrections correctionAt read.Entry h
+-- in the table's terms
+abbrev pub saysCorrectionRead : CorrectionRead → Says Correction
+saysCorrectionRead (read.Entry e) = answers e
+saysCorrectionRead (read.Refused n) = refuses n
 
--- c corrections that can be sent: 1 to 18
+-- THE LAYOUT: at most 18 entries; reading refuses with 10 too, which of what bits can say is a tb over 119
+abbrev pub correctionLayout : ListLayout
+correctionLayout = record {
+  Entry = Correction;
+  Read = CorrectionRead;
+  refused = read.Refused;
+  entry = read.Entry;
+  says = saysCorrectionRead;
+  asked = layout.Correction;
+  coding = coding;
+  pattern = fill;
+  most = 18;
+  out = outOfRange;
+  ranged = true;
+  late = λ e. lateTb (e .issue);
+  Typed = Typed;
+  InRange = InRange;
+}
+
+-- ---- the answers
+
+-- COUNT: 5, 6, 7, 8
+unfoldable pub countCorrections : Frame → Count
+countCorrections = counted correctionLayout
+
+-- ENTRY: 5, 6, 7, 8, 9, 10
+unfoldable pub correctionAt : Frame → ℕ → CorrectionRead
+correctionAt = entryAt correctionLayout
+
+-- MAKING: 5, 6, 7, 12, 10
+unfoldable pub makeCorrections : Header → List Correction → ℕ → Made
+makeCorrections = made correctionLayout
+
+-- c corrections that can be sent, and a frame that holds c corrections: 1 to 18
 abbrev pub SendableCorrections : Header → List Correction → ℕ → Correction → Type 0
-SendableCorrections h = Sendable layout.Correction 18 (InRange (systemOf (h .kind))) h
+SendableCorrections = SendableList correctionLayout
 
--- a frame that holds c corrections, and what is read of it: each entry, or 10 where its tb is over 119
 abbrev pub HoldsCorrections : Frame → ℕ → Type 0
-HoldsCorrections f = Holding layout.Correction (coding (systemOf (f .header .kind))) 18 f
-
-abbrev pub ReadsCorrections : Frame → ℕ → Type 0
-ReadsCorrections f =
-    let s = systemOf (f .header .kind) in
-    ListRead (coding s) countCorrections correctionAt (heldTo (outOfRange s) read.Refused read.Entry) f
+HoldsCorrections = HoldsList correctionLayout

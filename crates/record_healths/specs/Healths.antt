@@ -1,5 +1,5 @@
 -- Types 5 and 33, over the system: the layout as data, what its codes mean, and the answers in their orders. Assumes nothing.
-use mathlib.Core.Bool.{Bool}
+use mathlib.Core.Bool.{Bool, false}
 use mathlib.Core.List.{List, [], _∷_}
 use Prim.Native.Nat.{ℕ, _^_, _≤_, _<_}
 use lib.ListN.{getD}
@@ -8,13 +8,12 @@ use Rattle.frame.specs.declared.Header.{Header}
 use Rattle.frame.specs.declared.Frame.{Frame}
 use Rattle.frame.specs.declared.Layout.the-variants as layout
 use Rattle.frame.specs.declared.System.{System}
-use Rattle.frame.specs.Layout.{systemOf}
 use Rattle.record_fields.specs.Coding.{Coding}
 use Rattle.record_fields.specs.Tables.{row, codesOf, rowOut}
 use Rattle.record_fields.specs.Satellites.{satelliteOf}
 use Rattle.record_stages.specs.declared.Count.{Count}
 use Rattle.record_stages.specs.declared.Made.{Made}
-use Rattle.record_stages.specs.Lists.{listCount, listEntry, listMade, MadeReads, Sendable, Holding, ListRead}
+use Rattle.record_stages.specs.Lists.{ListLayout, counted, entryAt, made, HoldsList}
 use Rattle.record_healths.specs.declared.SatelliteHealth.{SatelliteHealth}
 use Rattle.record_healths.specs.declared.HealthRead.{HealthRead}
 use Rattle.record_healths.specs.declared.HealthRead.the-variants as read
@@ -64,28 +63,6 @@ most = 1 ∷ 32 ∷ 1 ∷ 7 ∷ 31 ∷ 1 ∷ 1 ∷ 1 ∷ 15 ∷ 3 ∷ []
 abbrev pub outOfRange : System → SatelliteHealth → Bool
 outOfRange s e = rowOut least most (numbers s e)
 
--- ---- the answers; a frame's system is that of its type
-
--- COUNT: 5, 6, 7, 8
-unfoldable pub countHealths : Frame → Count
-countHealths f = listCount layout.Health (coding (systemOf (f .header .kind))) f
-
--- ENTRY: 5, 6, 7, 8, 9
-unfoldable pub healthAt : Frame → ℕ → HealthRead
-healthAt f = listEntry layout.Health (coding (systemOf (f .header .kind))) read.Refused read.Entry f
-
--- MAKING: 5, 6, 7, 12, 10; at most 31 entries
-unfoldable pub makeHealths : Header → List SatelliteHealth → ℕ → Made
-makeHealths h = let s = systemOf (h .kind) in listMade layout.Health (coding s) fill 31 (outOfRange s) h
-
--- ---- in the table's terms
-
-abbrev pub saysHealthRead : HealthRead → Says SatelliteHealth
-saysHealthRead (read.Entry e) = answers e
-saysHealthRead (read.Refused n) = refuses n
-
--- ---- what the round trip says
-
 -- IN RANGE: every field within its width, satellite 1 to 32, the system's own condition
 pub record InRange (s : System) (e : SatelliteHealth) : Type 0 where
   pub reserved : e .reserved < 2 ^ 1
@@ -100,17 +77,44 @@ pub record InRange (s : System) (e : SatelliteHealth) : Type 0 where
   pub some : 0 < e .satellite
   pub few : e .satellite ≤ 32
 
--- made, then read; the header's type has the system
-abbrev pub HealthsMade : Header → List SatelliteHealth → ℕ → SatelliteHealth → Frame → Type 0
-HealthsMade h = MadeReads (coding (systemOf (h .kind))) fill countHealths healthAt read.Entry h
+-- in the table's terms
+abbrev pub saysHealthRead : HealthRead → Says SatelliteHealth
+saysHealthRead (read.Entry e) = answers e
+saysHealthRead (read.Refused n) = refuses n
 
--- c healths that can be sent: 1 to 31
-abbrev pub SendableHealths : Header → List SatelliteHealth → ℕ → SatelliteHealth → Type 0
-SendableHealths h = Sendable layout.Health 31 (InRange (systemOf (h .kind))) h
+-- THE LAYOUT: at most 31 entries; every entry that bits can say is in range, and reading has no 10
+abbrev pub healthLayout : ListLayout
+healthLayout = record {
+  Entry = SatelliteHealth;
+  Read = HealthRead;
+  refused = read.Refused;
+  entry = read.Entry;
+  says = saysHealthRead;
+  asked = layout.Health;
+  coding = coding;
+  pattern = fill;
+  most = 31;
+  out = outOfRange;
+  ranged = false;
+  late = λ e. false;
+  Typed = λ e. Unit {0};
+  InRange = InRange;
+}
 
--- a frame that holds c healths, and what is read of it
+-- ---- the answers
+
+-- COUNT: 5, 6, 7, 8
+unfoldable pub countHealths : Frame → Count
+countHealths = counted healthLayout
+
+-- ENTRY: 5, 6, 7, 8, 9
+unfoldable pub healthAt : Frame → ℕ → HealthRead
+healthAt = entryAt healthLayout
+
+-- MAKING: 5, 6, 7, 12, 10
+unfoldable pub makeHealths : Header → List SatelliteHealth → ℕ → Made
+makeHealths = made healthLayout
+
+-- a frame that holds c healths: 1 to 31
 abbrev pub HoldsHealths : Frame → ℕ → Type 0
-HoldsHealths f = Holding layout.Health (coding (systemOf (f .header .kind))) 31 f
-
-abbrev pub ReadsHealths : Frame → ℕ → Type 0
-ReadsHealths f = ListRead (coding (systemOf (f .header .kind))) countHealths healthAt read.Entry f
+HoldsHealths = HoldsList healthLayout

@@ -1,40 +1,30 @@
--- Types 5 and 33, once over the system: what the layout owes; what can be sent is made, made then read, read then made; what a frame holds is
--- read. Assumes nothing.
-use mathlib.Core.Path.{_≡_, refl, ap, ap₂, _∙_}
+-- Types 5 and 33, once over the system: what the layout owes. Assumes nothing.
+use mathlib.Core.Path.{_≡_, refl, ap₂}
 use mathlib.Core.Bool.{Bool, true, false, cond}
 use mathlib.Core.List.{List}
 use Prim.Native.Nat.{ℕ, _+_, _*_, _/_, _%_, _^_, _≤_, _<_}
 use native.Mathlib.Omega.{arith}
 use lib.Dec.{ltb}
-use lib.ListN.{length, take, getD}
+use lib.ListN.{getD}
 use borrow.Author.Tests.{le-ltb, ltb-false}
+use Rattle.answer.specs.Order.{answers}
+use Rattle.answer.proofs.OrderLaws.{refuses-apart}
 use Rattle.bits.specs.Fields.{Fit}
-use Rattle.frame.specs.Frames.{bare}
-use Rattle.frame.specs.declared.Header.{Header}
-use Rattle.frame.specs.declared.Frame.{Frame}
-use Rattle.frame.specs.declared.Layout.the-variants as layout
 use Rattle.frame.specs.declared.System.{System}
 use Rattle.frame.specs.declared.System.the-variants.{Gps, Glonass}
-use Rattle.frame.specs.Layout.{systemOf}
-use Rattle.record_fields.specs.Coding.{frameWith}
 use Rattle.record_fields.specs.Tables.{row}
 use Rattle.record_fields.proofs.Faithful.{Faithful, Fine}
 use Rattle.record_fields.proofs.TableRound.{Below, placesFrom, numbersOf, tables-faithful, tables-left}
 use Rattle.record_fields.proofs.TableLaws.{row-fine, row-told}
 use Rattle.record_fields.proofs.SatelliteLaws.{satellite-back}
-use Rattle.record_stages.specs.declared.Count.the-variants as count
-use Rattle.record_stages.specs.Stages.{entriesHeld, doneMade, IsMade}
-use Rattle.record_stages.specs.Lists.{listCount, listEntry, MadeReads}
 use Rattle.record_healths.specs.declared.Condition.{Condition}
 use Rattle.record_healths.specs.declared.Condition.the-variants.{Code, Data}
 use Rattle.record_healths.specs.declared.SatelliteHealth.{SatelliteHealth}
 use Rattle.record_healths.specs.declared.HealthRead.{HealthRead}
 use Rattle.record_healths.specs.declared.HealthRead.the-variants as read
 use Rattle.record_healths.specs.Conditions.{conditionOf, dataNumber, conditionNumber, ConditionInRange}
-use Rattle.record_healths.specs.Healths.{widths, meant, coding, fill, least, most, numbers, outOfRange, countHealths, healthAt, makeHealths}
-use Rattle.record_healths.specs.Healths.{HealthsMade, InRange, SendableHealths, HoldsHealths, ReadsHealths}
-use Rattle.record_laws.proofs.ListTrips.{list-held, made-then-read, read-then-made, each-any, no-fill}
-use Rattle.record_laws.proofs.SentLaws.{list-made, list-told, list-read}
+use Rattle.record_healths.specs.Healths.{widths, meant, coding, least, most, numbers, outOfRange, saysHealthRead, InRange, healthLayout}
+use Rattle.record_laws.proofs.PlainLists.{OwedList}
 
 -- ---- the three health bits: all that the systems don't share
 
@@ -155,78 +145,22 @@ module _ (s : System) where
   in-range : (vs : List ℕ) → Fit widths vs → outOfRange s (meant s vs) ≡ false
   in-range vs f = tables-left least widths least most (meant s) (numbers s) (omega arith) again vs f
 
-sized : (c : ℕ) → 0 < c → c ≤ 31 → (c * 24 ≤ 744) × (entriesHeld 24 ((c * 24 + 23) / 24) ≡ c)
-sized c l h = (omega arith, omega arith)
+-- what a reader says, and its answer
+says-told : (x : HealthRead) (e : SatelliteHealth) → saysHealthRead x ≡ answers e → x ≡ read.Entry e
+says-told (read.Entry a) e q = cc
+says-told (read.Refused n) e q = absurd (refuses-apart n e q)
 
--- ---- the theorems
-
--- MADE, THEN READ: header, count, every entry, the widths, N
-pub healths-made-read : (h : Header) (es : List SatelliteHealth) (c : ℕ) (d : SatelliteHealth) (f : Frame) → c ≤ length es
-    → makeHealths h es c ≡ doneMade f → HealthsMade h es c d f
-unfolding makeHealths countHealths healthAt
-healths-made-read h es c d f l e = record {
-  header = r .header;
-  inside = r .inside;
-  counts = r .counts;
-  entries = λ i j. ap (λ x. at (systemOf (x .kind)) i) (r .header) ∙ r .entries i j;
-  n = r .n;
-  fill = r .fill;
+pub healths-owed : OwedList healthLayout
+healths-owed = record {
+  says-refused = λ n. refl;
+  says-entry = λ e. refl;
+  says-told = says-told;
+  faithful = faithful;
+  room = λ s c few. omega arith;
+  told = λ s c some few. omega arith;
+  bounded = λ s n l. omega arith;
+  range-fine = λ s e t r. range-fine s e r;
+  range-told = range-told;
+  read-late = in-range;
+  quiet = λ q e. refl;
 }
-  where
-    at : System → ℕ → HealthRead
-    at s i = listEntry layout.Health (coding s) read.Refused read.Entry f i
-
-    s : System
-    s = systemOf (h .kind)
-
-    r : MadeReads (coding s) fill (listCount layout.Health (coding s)) (listEntry layout.Health (coding s) read.Refused read.Entry) read.Entry h es c d f
-    r =
-        made-then-read layout.Health (coding s) fill 31 (outOfRange s) (λ e. false) read.Refused read.Entry (λ e. Unit {0}) (faithful s) sized
-        (λ e t o. refl) h es c d f l (each-any (λ e. Unit {0}) (λ e. tt) (take c es)) e
-
--- READ, THEN MADE: a frame whose count and entries read is made again from them, all but its pair; it has no fill
-pub healths-read-made : (f : Frame) (es : List SatelliteHealth) (c : ℕ) (d : SatelliteHealth) → length (f .words) ≡ 31 → c ≤ length es
-    → countHealths f ≡ count.Of c → ((i : ℕ) → i < c → healthAt f i ≡ read.Entry (getD es i d))
-    → makeHealths (f .header) es c ≡ doneMade (bare f)
-unfolding makeHealths countHealths healthAt
-healths-read-made f es c d full l n e =
-    let s = systemOf (f .header .kind) in
-    read-then-made layout.Health (coding s) fill 31 (outOfRange s) (λ e. false) read.Refused read.Entry (λ e. Unit {0}) (faithful s) sized
-    (λ vs f r. in-range s vs f) (λ n h. omega arith) apart (λ a b q. cc) f es c d full l n e
-    (no-fill layout.Health (coding s) fill f c full n (λ m. omega arith))
-  where
-    apart : (n : ℕ) (e : SatelliteHealth) → read.Refused n ≡ read.Entry e → ⊥
-    apart n e q = let z : _≡_ {A = ℕ} 0 1 = cc in omega arith
-
--- SENT: what can be sent is made, not refused, and reads back
-pub healths-sent : (h : Header) (es : List SatelliteHealth) (c : ℕ) (d : SatelliteHealth) → SendableHealths h es c d
-    → IsMade (makeHealths h es c) (HealthsMade h es c d)
-unfolding makeHealths
-healths-sent h es c d s =
-    let y = systemOf (h .kind) in
-    let done = list-made layout.Health (coding y) fill 31 (outOfRange y) (InRange y) (range-fine y) h es c d s in
-    record {
-      frame = frameWith fill (coding y) h (take c es);
-      done = done;
-      reads = healths-made-read h es c d (frameWith fill (coding y) h (take c es)) (s .there) done;
-    }
-
--- and only what can be sent is made
-pub healths-told : (h : Header) (es : List SatelliteHealth) (c : ℕ) (d : SatelliteHealth) (f : Frame) → c ≤ length es
-    → makeHealths h es c ≡ doneMade f → SendableHealths h es c d
-unfolding makeHealths
-healths-told h =
-    let s = systemOf (h .kind) in
-    list-told layout.Health (coding s) fill 31 (outOfRange s) (InRange s) (range-told s) h
-
--- READ: of a frame that holds c healths the count and every entry are read, not refused
-pub healths-read : (f : Frame) (c : ℕ) → HoldsHealths f c → ReadsHealths f c
-unfolding countHealths healthAt
-healths-read f c k =
-    let r = list-read layout.Health (coding (systemOf (f .header .kind))) 31 (λ e. false) read.Refused read.Entry (λ c l h. sized c l h .1) f c k in
-    record { counts = r .counts; entries = r .entries }
-
--- and a count is read of no other frame
-pub healths-held : (f : Frame) (c : ℕ) → countHealths f ≡ count.Of c → HoldsHealths f c
-unfolding countHealths
-healths-held f = list-held layout.Health (coding (systemOf (f .header .kind))) 31 (λ n h. omega arith) f

@@ -2,6 +2,7 @@ pub mod SentLaws
 pub mod PairLaws
 pub mod ListTrips
 pub mod HeadedTrips
+pub mod PlainLists
 pub mod CorrectionTrips
 pub mod HealthTrips
 pub mod PositionTrips

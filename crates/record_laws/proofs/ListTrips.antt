@@ -6,22 +6,20 @@ use mathlib.Core.List.{List, [], _∷_, map}
 use Prim.Native.Nat.{ℕ, zero, suc, _+_, _*_, _/_, _≤_, _<_}
 use native.Mathlib.Nat.{zero-add}
 use native.Mathlib.Omega.{arith}
-use lib.ListN.{length, take, drop, getD, length-take, drop-of-length-le}
+use lib.ListN.{length, take, getD, length-take}
 use lib.Seq.{getD-take}
 use borrow.Author.Tests.{leb-false}
 use Rattle.answer.specs.Order.{NoneApplies}
 use Rattle.answer.proofs.OrderLaws.{order-answers, order-told}
 use Rattle.bits.specs.Fields.{span, Fit}
-use Rattle.bits.specs.Bits.{bits}
-use Rattle.bits.specs.Rows.{dataBits, rowsAt, fillOf, FillAfter}
+use Rattle.bits.specs.Rows.{rowsAt, FillAfter}
 use Rattle.bits.proofs.FieldLaws.{fits-fields}
-use Rattle.bits.proofs.WordLaws.{length-data}
-use Rattle.frame.specs.Frames.{framed, bare, dataWords}
+use Rattle.frame.specs.Frames.{framed, bare}
 use Rattle.frame.specs.Widths.{anyOf, outside, late}
 use Rattle.frame.specs.declared.Header.{Header}
 use Rattle.frame.specs.declared.Frame.{Frame}
 use Rattle.frame.specs.declared.Layout.{Layout}
-use Rattle.frame.proofs.FrameLaws.{header-within, n-within, length-data as length-data-words}
+use Rattle.frame.proofs.FrameLaws.{header-within, n-within}
 use Rattle.frame.proofs.WidthLaws.{both-false}
 use Rattle.record_fields.specs.Coding.{Coding, frameBits, entryIn, frameWith, Each}
 use Rattle.record_fields.proofs.Round.{made-n, made-inside, made-fill, made-entry, entries-read, made-again}
@@ -86,27 +84,6 @@ list-held asked k most bounded f c e = record {
   where
     r : CountRead asked k f c
     r = count-read asked k f c e
-
--- entries that end with a word leave nothing to fill
-pub no-fill : {A : Type 0} (asked : Layout) (k : Coding A) (pattern : ℕ) (f : Frame) (c : ℕ) → length (f .words) ≡ 31
-    → listCount asked k f ≡ count.Of c
-    → ((n : ℕ) → 24 * n ≤ entriesHeld (span (k .widths)) n * span (k .widths)) → FillAfter pattern (c * span (k .widths)) (frameBits f)
-unfolding frameBits fillOf
-no-fill asked k pattern f c full n whole = none ∙ sym (ap (λ l. take (length l) (bits 24 pattern)) none)
-  where
-    r : CountRead asked k f c
-    r = count-read asked k f c n
-
-    none : drop (c * span (k .widths)) (dataBits (dataWords f)) ≡ []
-    none =
-        drop-of-length-le (dataBits (dataWords f)) {i = c * span (k .widths)}
-        (omega (
-          arith,
-          length-data (dataWords f),
-          length-data-words f (r .inside) full,
-          subst (λ m. 24 * f .n ≤ m * span (k .widths)) (r .held)
-              (whole (f .n)),
-        ))
 
 -- entries of their types that no check refuses
 pub each-fine : {A : Type 0} (out : A → Bool) (Typed : A → Type 0) (es : List A) → Each Typed es → anyOf out es ≡ false → Each (Fine Typed out) es

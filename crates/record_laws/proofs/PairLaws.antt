@@ -1,4 +1,4 @@
--- No reader of records looks at a frame's carried pair, but for its width. Assumes nothing.
+-- No reader of records looks at a frame's carried pair, but for its width; of plain lists that is said in PlainLists. Assumes nothing.
 use mathlib.Core.Path.{_≡_, sym, _∙_}
 use mathlib.Core.Bool.{false}
 use mathlib.Core.List.{List}
@@ -9,8 +9,6 @@ use Rattle.frame.specs.declared.Carried.{Carried}
 use Rattle.frame.specs.declared.Frame.{Frame}
 use Rattle.frame.proofs.FrameLaws.{after-inside}
 use Rattle.record_fields.specs.Coding.{frameBits}
-use Rattle.record_corrections.specs.Corrections.{countCorrections, correctionAt}
-use Rattle.record_healths.specs.Healths.{countHealths, healthAt}
 use Rattle.record_positions.specs.Positions.{readPosition}
 use Rattle.record_nulls.specs.Nulls.{readNull}
 use Rattle.record_observations.specs.declared.Edition.{Edition}
@@ -22,22 +20,6 @@ use Rattle.record_texts.specs.Texts.{readText, bufferAfter}
 module _ (k : Carried) (f : Frame) (p : pairOutside k ≡ false) (o : outside f ≡ false) where
   same : outside (afterPair k f) ≡ outside f
   same = after-inside k f p o ∙ sym o
-
-  pub corrections-count : countCorrections (afterPair k f) ≡ countCorrections f
-  unfolding countCorrections afterPair
-  corrections-count = rw same
-
-  pub correction-entry : (i : ℕ) → correctionAt (afterPair k f) i ≡ correctionAt f i
-  unfolding correctionAt frameBits afterPair
-  correction-entry i = rw same
-
-  pub healths-count : countHealths (afterPair k f) ≡ countHealths f
-  unfolding countHealths afterPair
-  healths-count = rw same
-
-  pub health-entry : (i : ℕ) → healthAt (afterPair k f) i ≡ healthAt f i
-  unfolding healthAt frameBits afterPair
-  health-entry i = rw same
 
   pub position-same : readPosition (afterPair k f) ≡ readPosition f
   unfolding readPosition frameBits afterPair

@@ -59,6 +59,8 @@ use Rattle.rtcm2.specs.Positions as positions
 use Rattle.rtcm2.specs.Nulls as nulls
 use Rattle.rtcm2.specs.Texts as texts
 use Rattle.rtcm2.specs.Orders.{headerWith}
+use Rattle.record_laws.proofs.ListTrips.{each-any}
+use Rattle.promises.specs.RecordLayouts.{ofCorrections, ofHealths}
 use Rattle.promises.specs.ReadsBack.{ListBack}
 use Rattle.promises.proofs.CarriesItsNumber.{carries-its-number, says-inj, none-told}
 use Rattle.promises.proofs.Demand2.{reads-back-equal}
@@ -195,6 +197,7 @@ module _ (kind station z sequence code : ℕ) where
   H = headerWith kind station z sequence code
 
   pub library-reads-back : LibraryReadsBack kind station z sequence code
+  unfolding correction.makeCorrections correction.countCorrections correction.correctionAt health.makeHealths health.countHealths health.healthAt
   library-reads-back = record {
     make-corrections = λ rows b.
         let s = systemOf kind in
@@ -207,8 +210,8 @@ module _ (kind station z sequence code : ℕ) where
         (λ t i l m. omega (arith, count-held (rowSize (correction-bytes.row t)) l)) correction.makeCorrections 18 40 0xAAAAAA _ _ rows b
         kind station z sequence code (λ n e r. record { counts = r .counts; answered = r .answered; each = r .each }) (corrections-framed H es c)
         (λ f e. (
-          told-some-few c 18 (none-told (carries-its-number .make-corrections H es c) f e .1 .1 .1 .0) .1,
-          reads-back-equal .corrections H es c (entryOf (correction-bytes.row s) []) f many typed e,
+          told-some-few c 18 (none-told (carries-its-number .lists ofCorrections .make H es c) f e .1 .1 .1 .0) .1,
+          reads-back-equal .lists ofCorrections H es c (entryOf (correction-bytes.row s) []) f many typed e,
         ));
     make-healths = λ rows b.
         let s = systemOf kind in
@@ -218,8 +221,9 @@ module _ (kind station z sequence code : ℕ) where
         (λ t i l m. omega (arith, count-held (rowSize (health-bytes.row t)) l)) health.makeHealths 31 24 0 _ _ rows b
         kind station z sequence code (λ n e r. record { counts = r .counts; answered = r .answered; each = r .each }) (healths-framed H es c)
         (λ f e. (
-          told-some-few c 31 (none-told (carries-its-number .make-healths H es c) f e .1 .1 .1 .0) .1,
-          reads-back-equal .healths H es c (entryOf (health-bytes.row s) []) f (length-entries (health-bytes.row s) 31 rows) e,
+          told-some-few c 31 (none-told (carries-its-number .lists ofHealths .make H es c) f e .1 .1 .1 .0) .1,
+          reads-back-equal .lists ofHealths H es c (entryOf (health-bytes.row s) []) f (length-entries (health-bytes.row s) 31 rows)
+              (each-any (λ x. Unit {0}) (λ x. tt) es) e,
         ));
     make-observations = λ e f s t rows b.
         observations-back kind station z sequence code e (record { frequency = f; smoothing = s; time = t }) rows b;

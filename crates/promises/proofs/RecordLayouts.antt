@@ -1,4 +1,4 @@
--- A type number has a layout other than plain exactly when it is one of the fifteen. Assumes nothing.
+-- A type number has a layout other than plain exactly when it is one of the fifteen, and each plain list layout has what a layout owes. Assumes nothing.
 use mathlib.Core.Path.{_≡_, refl}
 use mathlib.Core.Bool.{Bool, true, false, not, _||_, cond}
 use Prim.Native.Nat.{ℕ}
@@ -8,7 +8,14 @@ use Rattle.frame.specs.Widths.{anyOf}
 use Rattle.frame.specs.declared.Layout.{Layout}
 use Rattle.frame.specs.declared.Layout.the-variants as layout
 use Rattle.record_stages.specs.Stages.{isOf, otherLayout}
-use Rattle.promises.specs.Demand2.{recordTypes}
+use Rattle.record_laws.proofs.PlainLists.{OwedList}
+use Rattle.record_laws.proofs.CorrectionTrips.{corrections-owed}
+use Rattle.record_laws.proofs.HealthTrips.{healths-owed}
+use Rattle.promises.specs.RecordLayouts.{recordTypes, PlainList, ofCorrections, ofHealths, listOf}
+
+pub owed-of : (l : PlainList) → OwedList (listOf l)
+owed-of ofCorrections = corrections-owed
+owed-of ofHealths = healths-owed
 
 -- type number by type number, in the order of the decision
 pub fifteen : (kind : ℕ) → otherLayout layout.Plain kind ≡ anyOf (eqb kind) recordTypes
