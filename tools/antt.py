@@ -9,10 +9,10 @@ WORD = re.compile(r"λ|→|[(){},;]|[^\s(){},;λ→]+")
 
 @dataclass
 class Field:
-    """A field of a record. Where the record is over a list layout, `over` is what it calls that."""
+    """A field of a record. Where the record is over a value, `over` is what it calls that, and its type."""
     file: Path
     record: str
-    over: str
+    over: tuple
     name: str
     words: list
     scope: dict
@@ -50,12 +50,12 @@ def words_of(text):
 def read_fields(file):
     """The fields of a file's public records."""
     text = file.read_text(encoding="utf-8")
-    scope, record, over, found = scope_of(text), "", "", []
+    scope, record, over, found = scope_of(text), "", ("", ""), []
     for line in text.splitlines():
-        started = re.match(r"pub record (\S+)(?: \((\w+) : ListLayout\))?", line)
+        started = re.match(r"pub record (\S+)(?: \((\w+) : (\w+)\))?", line)
         field = re.match(r"  pub (\S+) : (.*)", line)
         if started:
-            record, over = started.group(1), started.group(2) or ""
+            record, over = started.group(1), started.group(2, 3)
         elif field and record:
             found.append(Field(file, record, over, field.group(1), words_of(field.group(2)), scope))
         elif re.match(r"      ", line) and found:

@@ -11,9 +11,13 @@ ROOTS = ("Demands", "Library")
 
 NOW = "denote.Ref.now"
 
-# the list layouts stand in one definition; `EachList R` says the record R of each of them, and their calls are definitions of LISTS at the layout
-LAYOUTS, LAYOUT_OF, EACH = "crates/promises/specs/RecordLayouts.antt", "listOf", "EachList"
-LISTS = "Rattle.record_stages.specs.Lists."
+# what is promised of lists is said over a value of these types: where the values stand, by which definition, and what says a record of each of them
+LISTS = {
+    "ListLayout": ("crates/promises/specs/RecordLayouts.antt", "listOf", "EachList"),
+    "LibraryList": ("crates/rtcm2_promises/specs/LibraryLists.antt", "libraryListOf", "EachLibraryList"),
+}
+# the answers to a layout's calls are definitions of this file at the layout
+ANSWERS = "Rattle.record_stages.specs.Lists."
 
 
 def own_name(file, name):
@@ -49,10 +53,10 @@ class Promises:
     def __init__(self, root):
         self.root = Path(root)
         self.calls, self.orders, self.keeps = {}, [], []
-        self.layouts = read_clauses(self.root / LAYOUTS, LAYOUT_OF)
+        self.lists = {kind: read_clauses(self.root / file, name) for kind, (file, name, _) in LISTS.items()}
         self.instances = {}
         for file in sorted(self.root.glob("crates/*/specs/*.antt")):
-            self.instances.update(read_instances(file, LISTS))
+            self.instances.update(read_instances(file, ANSWERS))
         for field in self.promised():
             head = field.words[0]
             if head in ("Answered", "AnsweredLent"):
@@ -68,7 +72,7 @@ class Promises:
             proofs += "\n".join(file.read_text(encoding="utf-8") for file in sorted((crate / "proofs").rglob("*.antt")))
         proved = [root for root in ROOTS if re.search(rf"^pub \S+ : {root}$", proofs, re.MULTILINE)]
         self.unproved = sorted(set(ROOTS) - set(proved))
-        over = {field.record for field in fields if field.over}
+        over = {field.record: LISTS[field.over[1]][2] for field in fields if field.over[1] in LISTS}
         reached, left = set(), proved
         while left:
             reached.add(left.pop())
@@ -87,8 +91,9 @@ class Promises:
 
     def add_law(self, field):
         names, laws = antt.conclusion(field)
-        if field.over:
-            laws = [antt.put_in(law, {field.over: layout}) for layout in self.layouts for law in laws]
+        name, kind = field.over
+        if kind in LISTS:
+            laws = [antt.put_in(law, {name: value}) for value in self.lists[kind] for law in laws]
         for law in laws:
             law = antt.unfolded(law, self.instances)
             head = law[1].split(".")[-1]
@@ -123,8 +128,8 @@ class Promises:
 
 
 def said_in(words, over):
-    """The words of a field, but records over a list layout only where the field says them of each."""
-    return {word for before, word in zip(["", *words], words) if word not in over or before == EACH}
+    """The words of a field, but records over a list only where the field says them of each."""
+    return {word for before, word in zip(["", *words], words) if word not in over or before == over[word]}
 
 
 def without_number(answer):

@@ -8,6 +8,7 @@ pub mod LineLaws
 pub mod LineOrders
 pub mod LineTaking
 pub mod MakeOrders
+pub mod ListOrders
 pub mod ObservationOrders
 pub mod GeneralLaws
 pub mod GeneralOrders

@@ -4,11 +4,10 @@ use mathlib.Core.Path.{_≡_, refl, ap, _∙_}
 use mathlib.Core.Bool.{Bool, true, false, not}
 use mathlib.Core.List.{List, [], _∷_, _++_}
 use Prim.Native.Nat.{ℕ, zero, suc, _+_, _*_, _/_, _%_, _≤_}
-use native.Mathlib.Nat.{mul-le-mul-right}
 use native.Mathlib.Omega.{arith}
 use lib.Dec.{ltb, eqb}
 use lib.IntN.{ℤ}
-use lib.ListN.{length, take, drop, replicate, length-take, length-replicate}
+use lib.ListN.{length, drop, replicate, length-replicate}
 use borrow.Author.Tests.{ltb-false}
 use Rattle.answer.specs.Order.{Says, refuses, answers, Check, inOrder, NoneApplies}
 use Rattle.answer.proofs.OrderLaws.{order-map, says-order}
@@ -19,7 +18,6 @@ use Rattle.frame.specs.declared.Frame.{Frame}
 use Rattle.frame.specs.declared.Header.{Header}
 use Rattle.frame.specs.declared.Layout.{Layout}
 use Rattle.frame.specs.declared.Layout.the-variants as layout
-use Rattle.frame.specs.declared.System.{System}
 use Rattle.frame.specs.Layout.{systemOf}
 use Rattle.frame.proofs.FrameLaws.{framed-inside}
 use Rattle.frame.proofs.WidthLaws.{both-false}
@@ -29,24 +27,21 @@ use Rattle.journal.specs.declared.Kept.the-variants as kept
 use Rattle.journal.proofs.WordLaws.{length-words, fit-words}
 use Rattle.record_fields.specs.Coding.{Coding, frameWith}
 use Rattle.record_fields.proofs.Round.{made-inside}
-use Rattle.record_stages.specs.Stages.{wrongCount, makeOrder, refusedMade, doneMade, saysMade}
+use Rattle.record_stages.specs.Stages.{makeOrder, refusedMade, doneMade, saysMade}
 use Rattle.record_stages.specs.declared.Made.{Made}
-use Rattle.record_stages.proofs.ListCode.{told-some-few}
 use Rattle.record_positions.specs.Positions as position
 use Rattle.record_positions.specs.declared.Position.{Position}
 use Rattle.record_nulls.specs.Nulls as null
 use Rattle.record_texts.specs.Texts as text
-use Rattle.rtcm2_rows.specs.Rows.{rowSize, countOf, entriesFrom}
 use Rattle.rtcm2.specs.Header.{headed, saysHeaded}
 use Rattle.rtcm2.specs.declared.header.Headed.the-variants as of
 use Rattle.rtcm2.specs.Answer.{andThen}
 use Rattle.rtcm2.specs.Frames.{keptTo, wordsSaid, keepSaid}
-use Rattle.rtcm2.specs.Rows.{madeOf}
 use Rattle.rtcm2.specs.Positions as positions
 use Rattle.rtcm2.specs.Nulls as nulls
 use Rattle.rtcm2.specs.Texts as texts
-use Rattle.rtcm2.specs.Orders.{shortFor, headerWith, madeOrder, listChecks, textChecks}
-use Rattle.rtcm2.specs.Orders.{listFrame, listOrder, positionFrame, positionMadeOrder}
+use Rattle.rtcm2.specs.Orders.{shortFor, headerWith, madeOrder, textChecks}
+use Rattle.rtcm2.specs.Orders.{positionFrame, positionMadeOrder}
 use Rattle.rtcm2.specs.Orders.{nullFrame, nullMadeOrder, textFrame, textMadeOrder, wordsFrame, keptOrder}
 use Rattle.rtcm2.proofs.Orders.{after-order, pass-five}
 
@@ -100,36 +95,10 @@ module _ (kind station z sequence code : ℕ) (buffer : List ℕ) where
   module _ {A : Type 0} (asked : Layout) (k : Coding A) (pattern : ℕ) (es : List A) (more : List Check) (make : Header → Made)
       (is : make H ≡ inOrder (makeOrder asked H more) refusedMade (doneMade (frameWith pattern k H es)))
       (fits : NoneApplies more → length es * span (k .widths) ≤ 744) where
-    entries-order : keptTo (andThen (headed kind station z sequence code) (λ h. saysMade (make h))) buffer
+    pub entries-order : keptTo (andThen (headed kind station z sequence code) (λ h. saysMade (make h))) buffer
         ≡ inOrder (madeOrder kind station z sequence code asked more (frameWith pattern k H es) buffer) refuses
         (answers (3 * frameWith pattern k H es .n + 9))
     entries-order = make-order asked more (frameWith pattern k H es) make is (λ none. made-inside k pattern H es (none .0) (fits (none .1 .1 .1)))
-
-  -- a list of at most so many entries
-  few : {A : Type 0} (es : List A) (c most : ℕ) → wrongCount most c ≡ false → length (take c es) ≤ most
-  few es c most e = omega (arith, told-some-few c most e .1, length-take c es)
-
-  -- ---- a list whose entries come as rows of bytes: 5, 6, 7, 12, 10, 13
-
-  module _ {A : Type 0} (asked : Layout) (row k : System → Coding A) (pattern most : ℕ) (out : System → A → Bool) (make : Header → List A → ℕ → Made)
-      (room : most * span (k (systemOf kind) .widths) ≤ 744) (bs : List ℕ) where
-    abbrev s : System
-    s = systemOf kind
-
-    abbrev es : List A
-    es = entriesFrom (row s) most bs
-
-    abbrev c : ℕ
-    c = countOf (rowSize (row s)) (length bs)
-
-    pub list-made : make H es c ≡ inOrder (makeOrder asked H (listChecks most (out s) es c)) refusedMade (doneMade (frameWith pattern (k s) H (take c es)))
-        → keptTo (madeOf row make most (headed kind station z sequence code) bs) buffer
-        ≡ inOrder (listOrder kind station z sequence code asked (row s) (k s) pattern most (out s) bs buffer) refuses
-        (answers (3 * listFrame kind station z sequence code asked (row s) (k s) pattern most (out s) bs .n + 9))
-    list-made is =
-        entries-order asked (k s) pattern (take c es) (listChecks most (out s) es c)
-        (λ h. make h (entriesFrom (row (systemOf (h .kind))) most bs) (countOf (rowSize (row (systemOf (h .kind)))) (length bs))) is
-        (λ none. omega (arith, room, mul-le-mul-right (span (k s .widths)) (few es c most (none .0))))
 
   -- ---- a position: 5, 6, 7, 10, 13
 

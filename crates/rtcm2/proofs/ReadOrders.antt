@@ -4,7 +4,7 @@ use mathlib.Core.Path.{_≡_, refl, sym, ap, _∙_}
 use mathlib.Core.Bool.{Bool, false}
 use mathlib.Core.List.{List, [], _∷_, _++_}
 use Prim.Native.Nat.{ℕ, _+_, _*_}
-use lib.Dec.{ltb, leb}
+use lib.Dec.{ltb}
 use lib.ListN.{length}
 use Rattle.answer.specs.Order.{Says, refuses, answers, Check, inOrder, NoneApplies}
 use Rattle.answer.proofs.OrderLaws.{order-answers, order-append, order-map, says-order}
@@ -17,8 +17,7 @@ use Rattle.journal.specs.Forms.{nByte, wordsAfter}
 use Rattle.journal.specs.Journal.{refusedRecall, recalled, recallOrder, saysRecalled}
 use Rattle.journal.proofs.RoundTrip.{reread}
 use Rattle.record_fields.specs.Coding.{Coding}
-use Rattle.record_stages.specs.Stages.{entriesHeld, misfit, wrongSize, readOrder, countIn, saysCount}
-use Rattle.record_stages.specs.declared.Count.{Count}
+use Rattle.record_stages.specs.Stages.{wrongSize, readOrder, saysCount}
 use Rattle.record_stages.specs.declared.Count.the-variants as count
 use Rattle.record_positions.specs.Positions as position
 use Rattle.record_nulls.specs.Nulls as null
@@ -33,7 +32,7 @@ use Rattle.rtcm2.specs.Rows.{rowTo}
 use Rattle.rtcm2.specs.Positions.{positionSaid}
 use Rattle.rtcm2.specs.Nulls.{nullSaid}
 use Rattle.rtcm2.specs.Texts.{textSaid}
-use Rattle.rtcm2.specs.Orders.{frameFrom, systemFrom, recordChecks, countOrder, entryChecks, entryOrder}
+use Rattle.rtcm2.specs.Orders.{frameFrom, systemFrom, recordChecks}
 use Rattle.rtcm2.specs.Orders.{positionOrder, nullOrder, textReadOrder}
 use Rattle.rtcm2.proofs.Orders.{pass-five}
 
@@ -91,12 +90,6 @@ module _ (bs : List ℕ) (fits : AreBytes bs) where
   abbrev F : Frame
   F = frameFrom bs
 
-  -- COUNT: 14, 15, 16, 15, 16, 6, 7, 8
-  pub list-counted : (asked : Layout) (width : ℕ) (counts : Frame → Count) → counts F ≡ countIn asked width F
-      → andThen (frameSaid bs) (λ f. saysCount (counts f)) ≡ inOrder (countOrder asked width bs) refuses (answers (entriesHeld width (F .n)))
-  list-counted asked width counts is =
-      record-order bs fits asked (misfit width (F .n)) [] saysCount count.Refused (λ n. refl) counts (count.Of (entriesHeld width (F .n))) refl is
-
   -- POSITION: 14, 15, 16, 15, 16, 6, 7, 8, 10
   pub position-order : positionSaid (frameSaid bs) ≡ inOrder (positionOrder bs) refuses (answers (position.positionIn (frameFrom bs)))
   unfolding position.readPosition
@@ -118,14 +111,3 @@ module _ (bs : List ℕ) (fits : AreBytes bs) where
       record-order bs fits layout.Text (text.wrongWords (F .n))
       ((anyOf (text.forbidden (systemFrom bs)) (text.textIn F), 11) ∷ (ltb (length buffer) (text.lengthIn F), 13) ∷ []) saysCount count.Refused (λ n. refl)
       (λ f. text.readText f buffer) (count.Of (text.lengthIn F)) refl refl
-
-  -- ENTRY: 14, 15, 16, 15, 16, 6, 7, 8, 9, its own, and 13 for its row
-  module _ {A B : Type 0} (asked : Layout) (width i : ℕ) (more : List Check) (row : Coding A) (says : B → Says A) (refuse : ℕ → B)
-      (refusal : (n : ℕ) → says (refuse n) ≡ refuses n) (read : Frame → B) (answer : B) {e : A} (ready : says answer ≡ answers e)
-      (is : read F ≡ inOrder (readOrder asked F (misfit width (F .n)) ((leb (entriesHeld width (F .n)) i, 9) ∷ more)) refuse answer) where
-    pub list-entry : (lent : List ℕ)
-        → rowTo row (andThen (frameSaid bs) (λ f. says (read f))) lent ≡ inOrder (entryOrder asked width row bs i more lent) refuses (answers tt)
-    list-entry lent =
-        ap (λ s. rowTo row s lent)
-        (record-order bs fits asked (misfit width (F .n)) ((leb (entriesHeld width (F .n)) i, 9) ∷ more) says refuse refusal read answer ready is)
-        ∙ row-order row (recallOrder bs ++ entryChecks asked width F i more) e lent

@@ -1,17 +1,10 @@
--- Constellation health, types 5 and 33: what counting, reading and making say of the frame or the header that there was. Assumes nothing.
+-- Constellation health, types 5 and 33: a row of bytes, and the list of the library. Assumes nothing.
 use mathlib.Core.List.{List, [], _∷_}
 use Prim.Native.Nat.{ℕ, _+_, _*_, _^_, _<_}
 use lib.ListN.{getD}
-use Rattle.answer.specs.Order.{Says, Check}
-use Rattle.frame.specs.declared.Frame.{Frame}
-use Rattle.frame.specs.declared.Header.{Header}
 use Rattle.frame.specs.declared.System.{System}
 use Rattle.frame.specs.declared.System.the-variants.{Gps, Glonass}
-use Rattle.record_stages.specs.Stages.{saysCount}
-use Rattle.frame.specs.declared.Layout.the-variants as layout
-use Rattle.frame.specs.Layout.{systemOf}
-use Rattle.record_healths.specs.Healths as health
-use Rattle.record_healths.specs.Healths.{countHealths, healthAt, makeHealths, saysHealthRead}
+use Rattle.record_healths.specs.Healths.{healthLayout}
 use Rattle.record_healths.specs.declared.SatelliteHealth.{SatelliteHealth}
 use Rattle.record_healths.specs.declared.Condition.{Condition}
 use Rattle.record_healths.specs.declared.Condition.the-variants.{Code, Data}
@@ -19,9 +12,7 @@ use Rattle.record_healths.specs.Conditions.{conditionOf}
 use Rattle.record_fields.specs.Coding.{Coding}
 use Rattle.record_fields.specs.Tables as fields
 use Rattle.rtcm2_rows.specs.Tables.{rowBy}
-use Rattle.rtcm2.specs.Answer.{andThen}
-use Rattle.rtcm2.specs.Rows.{madeOf}
-use Rattle.rtcm2.specs.Orders.{listOrder}
+use Rattle.rtcm2.specs.Lists.{LibraryList}
 
 -- ---- A ROW: ten numbers of a byte each, in the order of the layout, the three health bits as they are sent
 
@@ -56,24 +47,10 @@ numbers e =
 abbrev pub row : System → Coding SatelliteHealth
 row s = rowBy sizes (meant s) numbers
 
--- ---- what the calls say
+-- ---- THE LIST
 
--- COUNT: the refusal that there was, or 6, 7, 8
-abbrev pub countSaid : Says Frame → Says ℕ
-countSaid said = andThen said (λ f. saysCount (countHealths f))
-
--- ENTRY: the refusal that there was, or 6, 7, 8, 9
-abbrev pub entrySaid : Says Frame → ℕ → Says SatelliteHealth
-entrySaid said i = andThen said (λ f. saysHealthRead (healthAt f i))
-
--- MAKING: the refusal that there was, or 5, 6, 7, 12, 10
-abbrev pub madeSaid : Says Header → List ℕ → Says Frame
-madeSaid = madeOf row makeHealths 31
-
--- in its order: 5, 6, 7, 12, 10, 13
-abbrev pub healthsOrder : (kind station z sequence code : ℕ) → List ℕ → List ℕ → List Check
-healthsOrder kind station z sequence code =
-    let s = systemOf kind in listOrder kind station z sequence code layout.Health (row s) (health.coding s) health.fill 31 (health.outOfRange s)
+abbrev pub healthList : LibraryList
+healthList = record { plain = healthLayout; row = row }
 
 -- ---- entries whose rows say them: every number a byte, and a health of the system
 

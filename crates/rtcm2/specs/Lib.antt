@@ -11,6 +11,7 @@ pub mod Values
 pub mod Window
 pub mod Mending
 pub mod Rows
+pub mod Lists
 pub mod Corrections
 pub mod Healths
 pub mod Observations
@@ -18,4 +19,5 @@ pub mod Generals
 pub mod Beacon
 pub mod Season
 pub mod Orders
+pub mod ListOrders
 pub mod GeneralOrders

@@ -22,8 +22,8 @@ use Rattle.journal.specs.Forms.{wordsAfter}
 use Rattle.journal.specs.Journal.{recallOrder}
 use Rattle.journal.specs.Words.{pairNumbered, carriedIn, dataIn, recallWordsOrder}
 use Rattle.writer.specs.Sending.{lineLength}
-use Rattle.record_fields.specs.Coding.{Coding, frameWith, frameAfter}
-use Rattle.record_stages.specs.Stages.{wrongCount, otherLayout, heldAfter, misfitAfter, entriesHeld, misfit, wrongSize, makeOrder}
+use Rattle.record_fields.specs.Coding.{frameWith, frameAfter}
+use Rattle.record_stages.specs.Stages.{wrongCount, otherLayout, heldAfter, misfitAfter, wrongSize, makeOrder}
 use Rattle.record_positions.specs.Positions as position
 use Rattle.record_nulls.specs.Nulls as null
 use Rattle.record_texts.specs.Texts as text
@@ -95,18 +95,6 @@ restoreOrder words frame = recallWordsOrder words ++ (shortFor (liveFrom words) 
 abbrev pub recordChecks : Layout → Frame → Bool → List Check → List Check
 recordChecks asked f wrongN more = (otherLayout asked (f .header .kind), 6) ∷ (late (f .header .z), 7) ∷ (wrongN, 8) ∷ more
 
--- COUNT: then 6, 7, 8
-abbrev pub countOrder : Layout → ℕ → List ℕ → List Check
-countOrder asked width bs = recallOrder bs ++ recordChecks asked (frameFrom bs) (misfit width (frameFrom bs .n)) []
-
--- ENTRY: then 6, 7, 8, 9, its own, and 13 for its row
-abbrev pub entryChecks : Layout → ℕ → Frame → ℕ → List Check → List Check
-entryChecks asked width f i more = recordChecks asked f (misfit width (f .n)) ((leb (entriesHeld width (f .n)) i, 9) ∷ more)
-
-abbrev pub entryOrder : {A : Type 0} → Layout → ℕ → Coding A → List ℕ → ℕ → List Check → List ℕ → List Check
-entryOrder asked width row bs i more lent =
-    (recallOrder bs ++ entryChecks asked width (frameFrom bs) i more) ++ ((ltb (length lent) (rowSize row), 13) ∷ [])
-
 -- observations have a head of 24 bits, and 48 a satellite: 6, 7, 8, then their own
 abbrev pub observationChecks : Frame → List Check → List Check
 observationChecks f more = recordChecks layout.Observation f (misfitAfter 24 48 (f .n)) more
@@ -161,10 +149,6 @@ profileReadOrder bs = let f = frameFrom bs in recallOrder bs ++ ((late (f .heade
 abbrev pub headerWith : ℕ → ℕ → ℕ → ℕ → ℕ → Header
 headerWith kind station z sequence code = record { kind = kind; station = station; z = z; sequence = sequence; state = stateOf code }
 
--- a list's own: 12, 10
-abbrev pub listChecks : {A : Type 0} → ℕ → (A → Bool) → List A → ℕ → List Check
-listChecks most out es c = (wrongCount most c, 12) ∷ (anyOf out (take c es), 10) ∷ []
-
 -- a text's own: 12, 11
 abbrev pub textChecks : System → List ℕ → List Check
 textChecks s t = (wrongCount 90 (length t), 12) ∷ (anyOf (text.forbidden s) t, 11) ∷ []
@@ -179,14 +163,6 @@ module _ (kind station z sequence code : ℕ) where
   -- MAKING: 5, a health over 7 too, 6, 7, the layout's own, 13
   abbrev pub madeOrder : Layout → List Check → Frame → List ℕ → List Check
   madeOrder asked more f buffer = (ltb 7 code, 5) ∷ makeOrder asked H (more ++ (shortFor f buffer ∷ []))
-
-  -- a list whose entries come as rows of bytes: 12, 10
-  module _ {A : Type 0} (asked : Layout) (row k : Coding A) (pattern most : ℕ) (out : A → Bool) (bs : List ℕ) where
-    abbrev pub listFrame : Frame
-    listFrame = frameWith pattern k H (take (countOf (rowSize row) (length bs)) (entriesFrom row most bs))
-
-    abbrev pub listOrder : List ℕ → List Check
-    listOrder buffer = madeOrder asked (listChecks most out (entriesFrom row most bs) (countOf (rowSize row) (length bs))) listFrame buffer
 
   -- observations, in an edition: 12, 10
   module _ (e : ℕ) (a : Epoch) (bs : List ℕ) where

@@ -3,14 +3,15 @@ ghost use mathlib.Core.Path.{_≡_};
 ghost use lib.ListN.{length};
 ghost use Rattle.frame.specs.Layout.{systemOf};
 ghost use Rattle.frame.specs.declared.System.the-variants.{Gps};
-ghost use Rattle.record_corrections.specs.Corrections.{makeCorrections, saysCorrectionRead};
+ghost use Rattle.record_corrections.specs.Corrections.{makeCorrections};
 ghost use Rattle.rtcm2_rows.specs.Rows.{rowSize, countOf, entriesFrom};
 ghost use Rattle.rtcm2_rows.specs.Corrections.{row};
 ghost use Rattle.rtcm2.specs.Answer.{numberOf, left};
 ghost use Rattle.rtcm2.specs.Header.{headed};
-ghost use Rattle.rtcm2.specs.Frames.{frameSaid, keptTo, heldTo};
+ghost use Rattle.rtcm2.specs.Frames.{frameSaid, keptTo, heldTo, sizeTo};
 ghost use Rattle.rtcm2.specs.Rows.{rowTo, rowHeld};
-ghost use Rattle.rtcm2.specs.Corrections.{countSaid, entrySaid, madeSaid};
+ghost use Rattle.rtcm2.specs.Lists.{countSaid, entrySaid, madeSaid};
+ghost use Rattle.rtcm2.specs.Corrections.{correctionList};
 use crate::header::Headed;
 use frame::Header;
 use frame::Layout;
@@ -21,39 +22,28 @@ use record_stages::Made;
 // How many corrections a frame has. Order 14, 15, 16, 15, 16, then 6, 7, 8.
 #[no_mangle]
 pub extern "C" fn rtcm2_count_corrections(frame: &[u8], count: &mut usize) -> u8
-    ensures { λ r. ⌜ r ≡ numberOf (countSaid (frameSaid (now (frame .entry)))) ⌝ }
-    ensures { λ _. ⌜ now (count .exit) ≡ left (countSaid (frameSaid (now (frame .entry)))) (λ k. k) (now (count .entry)) ⌝ }
+    ensures { λ r. ⌜ r ≡ numberOf (countSaid correctionList (frameSaid (now (frame .entry)))) ⌝ }
+    ensures { λ _. ⌜ now (count .exit) ≡ left (countSaid correctionList (frameSaid (now (frame .entry)))) (λ k. k) (now (count .entry)) ⌝ }
 {
     crate::rows::count_at(Layout::Correction, 0, 40, frame, count)
-}
-
-// A correction as a row at the start of the bytes: the refusal that there was, or 13.
-fn entry_to(read: CorrectionRead, correction: &mut [u8]) -> u8
-    ensures { λ r. ⌜ r ≡ numberOf (rowTo (row Gps) (saysCorrectionRead read) (now (correction .entry))) ⌝ }
-    ensures { λ _. ⌜ now (correction .exit) ≡ rowHeld (row Gps) (saysCorrectionRead read) (now (correction .entry)) ⌝ }
-{
-    match read {
-        CorrectionRead::Entry(entry) => {
-            crate::rows::number_of(rtcm2_rows::correction::put_correction(entry, correction))
-        }
-        CorrectionRead::Refused(number) => number,
-    }
 }
 
 // Correction number `index` of a frame. Order 14, 15, 16, 15, 16, then 6, 7, 8, 9, 10, 13.
 #[no_mangle]
 pub extern "C" fn rtcm2_correction_at(frame: &[u8], index: usize, correction: &mut [u8]) -> u8
-    ensures { λ r. ⌜ r ≡ numberOf (rowTo (row Gps) (entrySaid (frameSaid (now (frame .entry))) index) (now (correction .entry))) ⌝ }
-    ensures { λ _. ⌜ now (correction .exit) ≡ rowHeld (row Gps) (entrySaid (frameSaid (now (frame .entry))) index) (now (correction .entry)) ⌝ }
+    ensures { λ r. ⌜ r ≡ numberOf (rowTo (row Gps) (entrySaid correctionList (frameSaid (now (frame .entry))) index) (now (correction .entry))) ⌝ }
+    ensures { λ _. ⌜ now (correction .exit) ≡ rowHeld (row Gps) (entrySaid correctionList (frameSaid (now (frame .entry))) index) (now (correction .entry)) ⌝ }
 {
     let recalled = journal::recall(frame);
     let answer = recalled.answer;
-    match answer {
-        Found::Record(_) => {
-            let read = record_corrections::correction_at(recalled.frame, index);
-            entry_to(read, correction)
+    if let Found::Refused(number) = answer {
+        return number;
+    }
+    match record_corrections::correction_at(recalled.frame, index) {
+        CorrectionRead::Entry(entry) => {
+            crate::rows::number_of(rtcm2_rows::correction::put_correction(entry, correction))
         }
-        Found::Refused(number) => number,
+        CorrectionRead::Refused(number) => number,
     }
 }
 
@@ -80,10 +70,11 @@ pub extern "C" fn rtcm2_make_corrections(
     frame: &mut [u8],
     length: &mut usize,
 ) -> u8
-    ensures { λ r. ⌜ r ≡ numberOf (keptTo (madeSaid (headed kind station z sequence health) (now (corrections .entry))) (now (frame .entry))) ⌝ }
-    ensures { λ _. ⌜ now (frame .exit) ≡ heldTo (madeSaid (headed kind station z sequence health) (now (corrections .entry))) (now (frame .entry)) ⌝ }
+    ensures { λ r. ⌜ r ≡ numberOf (keptTo (madeSaid correctionList (headed kind station z sequence health) (now (corrections .entry))) (now (frame .entry))) ⌝ }
+    ensures { λ _. ⌜ now (frame .exit)
+        ≡ heldTo (madeSaid correctionList (headed kind station z sequence health) (now (corrections .entry))) (now (frame .entry)) ⌝ }
     ensures { λ _. ⌜ now (length .exit)
-        ≡ left (keptTo (madeSaid (headed kind station z sequence health) (now (corrections .entry))) (now (frame .entry))) (λ k. k) (now (length .entry)) ⌝ }
+        ≡ sizeTo (madeSaid correctionList (headed kind station z sequence health) (now (corrections .entry))) (now (frame .entry)) (now (length .entry)) ⌝ }
 {
     match crate::header::header_of(kind, station, z, sequence, health) {
         Headed::Header(header) => crate::frames::keep_made(

@@ -3,13 +3,14 @@ ghost use mathlib.Core.Path.{_≡_};
 ghost use lib.ListN.{length};
 ghost use Rattle.frame.specs.Layout.{systemOf};
 ghost use Rattle.frame.specs.declared.System.the-variants.{Gps};
-ghost use Rattle.record_healths.specs.Healths.{makeHealths, saysHealthRead};
+ghost use Rattle.record_healths.specs.Healths.{makeHealths};
 ghost use Rattle.rtcm2_rows.specs.Rows.{rowSize, countOf, entriesFrom};
 ghost use Rattle.rtcm2.specs.Answer.{numberOf, left};
 ghost use Rattle.rtcm2.specs.Header.{headed};
-ghost use Rattle.rtcm2.specs.Frames.{frameSaid, keptTo, heldTo};
+ghost use Rattle.rtcm2.specs.Frames.{frameSaid, keptTo, heldTo, sizeTo};
 ghost use Rattle.rtcm2.specs.Rows.{rowTo, rowHeld};
-ghost use Rattle.rtcm2.specs.Healths.{healthBits, numbers, row, countSaid, entrySaid, madeSaid};
+ghost use Rattle.rtcm2.specs.Lists.{countSaid, entrySaid, madeSaid};
+ghost use Rattle.rtcm2.specs.Healths.{healthBits, numbers, row, healthList};
 use crate::header::Headed;
 use frame::Header;
 use frame::Layout;
@@ -27,8 +28,8 @@ const SIZES: [u8; 12] = [1, 1, 1, 1, 1, 1, 1, 1, 1, 1, 0, 0];
 // How many satellites a frame has. Order 14, 15, 16, 15, 16, then 6, 7, 8.
 #[no_mangle]
 pub extern "C" fn rtcm2_count_healths(frame: &[u8], count: &mut usize) -> u8
-    ensures { λ r. ⌜ r ≡ numberOf (countSaid (frameSaid (now (frame .entry)))) ⌝ }
-    ensures { λ _. ⌜ now (count .exit) ≡ left (countSaid (frameSaid (now (frame .entry)))) (λ k. k) (now (count .entry)) ⌝ }
+    ensures { λ r. ⌜ r ≡ numberOf (countSaid healthList (frameSaid (now (frame .entry)))) ⌝ }
+    ensures { λ _. ⌜ now (count .exit) ≡ left (countSaid healthList (frameSaid (now (frame .entry)))) (λ k. k) (now (count .entry)) ⌝ }
 {
     crate::rows::count_at(Layout::Health, 0, 24, frame, count)
 }
@@ -65,34 +66,23 @@ fn row_of(e: SatelliteHealth) -> [u32; 12]
     ]
 }
 
-// A satellite's health as a row at the start of the bytes: the refusal that there was, or 13.
-fn entry_to(read: HealthRead, bytes: &mut [u8]) -> u8
-    ensures { λ r. ⌜ r ≡ numberOf (rowTo (row Gps) (saysHealthRead read) (now (bytes .entry))) ⌝ }
-    ensures { λ _. ⌜ now (bytes .exit) ≡ rowHeld (row Gps) (saysHealthRead read) (now (bytes .entry)) ⌝ }
+// Entry number `index` of a frame. Order 14, 15, 16, 15, 16, then 6, 7, 8, 9, 13.
+#[no_mangle]
+pub extern "C" fn rtcm2_health_at(frame: &[u8], index: usize, bytes: &mut [u8]) -> u8
+    ensures { λ r. ⌜ r ≡ numberOf (rowTo (row Gps) (entrySaid healthList (frameSaid (now (frame .entry))) index) (now (bytes .entry))) ⌝ }
+    ensures { λ _. ⌜ now (bytes .exit) ≡ rowHeld (row Gps) (entrySaid healthList (frameSaid (now (frame .entry))) index) (now (bytes .entry)) ⌝ }
 {
-    match read {
+    let recalled = journal::recall(frame);
+    let answer = recalled.answer;
+    if let Found::Refused(number) = answer {
+        return number;
+    }
+    match record_healths::health_at(recalled.frame, index) {
         HealthRead::Entry(entry) => {
             let numbers = row_of(entry);
             crate::rows::number_of(rtcm2_rows::table::put_numbers(numbers, SIZES, bytes))
         }
         HealthRead::Refused(number) => number,
-    }
-}
-
-// Entry number `index` of a frame. Order 14, 15, 16, 15, 16, then 6, 7, 8, 9, 13.
-#[no_mangle]
-pub extern "C" fn rtcm2_health_at(frame: &[u8], index: usize, bytes: &mut [u8]) -> u8
-    ensures { λ r. ⌜ r ≡ numberOf (rowTo (row Gps) (entrySaid (frameSaid (now (frame .entry))) index) (now (bytes .entry))) ⌝ }
-    ensures { λ _. ⌜ now (bytes .exit) ≡ rowHeld (row Gps) (entrySaid (frameSaid (now (frame .entry))) index) (now (bytes .entry)) ⌝ }
-{
-    let recalled = journal::recall(frame);
-    let answer = recalled.answer;
-    match answer {
-        Found::Record(_) => {
-            let read = record_healths::health_at(recalled.frame, index);
-            entry_to(read, bytes)
-        }
-        Found::Refused(number) => number,
     }
 }
 
@@ -132,10 +122,10 @@ pub extern "C" fn rtcm2_make_healths(
     frame: &mut [u8],
     length: &mut usize,
 ) -> u8
-    ensures { λ r. ⌜ r ≡ numberOf (keptTo (madeSaid (headed kind station z sequence health) (now (healths .entry))) (now (frame .entry))) ⌝ }
-    ensures { λ _. ⌜ now (frame .exit) ≡ heldTo (madeSaid (headed kind station z sequence health) (now (healths .entry))) (now (frame .entry)) ⌝ }
+    ensures { λ r. ⌜ r ≡ numberOf (keptTo (madeSaid healthList (headed kind station z sequence health) (now (healths .entry))) (now (frame .entry))) ⌝ }
+    ensures { λ _. ⌜ now (frame .exit) ≡ heldTo (madeSaid healthList (headed kind station z sequence health) (now (healths .entry))) (now (frame .entry)) ⌝ }
     ensures { λ _. ⌜ now (length .exit)
-        ≡ left (keptTo (madeSaid (headed kind station z sequence health) (now (healths .entry))) (now (frame .entry))) (λ k. k) (now (length .entry)) ⌝ }
+        ≡ sizeTo (madeSaid healthList (headed kind station z sequence health) (now (healths .entry))) (now (frame .entry)) (now (length .entry)) ⌝ }
 {
     match crate::header::header_of(kind, station, z, sequence, health) {
         Headed::Header(header) => crate::frames::keep_made(made_of(header, healths), frame, length),

@@ -1,18 +1,14 @@
 -- Each call's order is a law of its own (rtcm2/proofs); here it has the header's numbers. Assumes nothing.
-use mathlib.Core.Path.{_≡_, refl}
-use mathlib.Core.Bool.{not}
+use mathlib.Core.Path.{_≡_, refl, ap}
+use mathlib.Core.Bool.{Bool, true, false, not, cond}
 use mathlib.Core.List.{List, [], _∷_, _++_}
 use Prim.Native.Nat.{ℕ}
-use native.Mathlib.Omega.{arith}
 use lib.Dec.{ltb}
-use Rattle.answer.specs.Order.{refuses, answers, inOrder}
+use Rattle.answer.specs.Order.{refuses, answers, Check, inOrder}
 use Rattle.answer.proofs.OrderLaws.{says-order}
 use Rattle.bits.specs.Bits.{isNonzero}
 use Rattle.line.specs.Line.{isData}
-use Rattle.frame.specs.Layout.{systemOf}
-use Rattle.frame.specs.declared.Frame.{Frame}
-use Rattle.frame.specs.declared.Header.{Header}
-use Rattle.frame.specs.declared.Layout.the-variants as layout
+use Rattle.frame.specs.Widths.{anyOf}
 use Rattle.frame.specs.declared.System.the-variants.{Gps}
 use Rattle.reader.specs.Reading.{busy, steppedBy, fedBy}
 use Rattle.reader.specs.Rows.{rowsOrder}
@@ -27,15 +23,7 @@ use Rattle.record_values.proofs.GeneralLaws.{general-prc-says, delay-says, use-
 use Rattle.reader.specs.declared.Candidate.{Candidate}
 use Rattle.rtcm2_state.specs.State.{stateIn, putChecks, storedBy, saysStored}
 use Rattle.rtcm2_state.specs.declared.Stored.the-variants as stored
-use Rattle.record_fields.specs.Coding.{Coding, frameBits, entryIn}
-use Rattle.record_stages.specs.Stages.{countIn}
-use Rattle.record_stages.specs.Lists.{listEntry, listRanged, listMade}
-use Rattle.record_corrections.specs.Corrections as correction-list
-use Rattle.record_corrections.specs.declared.Correction.{Correction}
-use Rattle.record_corrections.specs.declared.CorrectionRead.the-variants as correction-read
-use Rattle.record_healths.specs.Healths as health-list
-use Rattle.record_healths.specs.declared.SatelliteHealth.{SatelliteHealth}
-use Rattle.record_healths.specs.declared.HealthRead.the-variants as health-read
+use Rattle.record_fields.specs.Coding.{Coding}
 use Rattle.rtcm2_rows.specs.Rows.{putOrder, putBy, saysPut}
 use Rattle.rtcm2_rows.specs.Tables.{tableRow}
 use Rattle.rtcm2_rows.specs.declared.row.Put.the-variants as put
@@ -45,10 +33,10 @@ use Rattle.rtcm2_rows.specs.Generals as general
 use Rattle.rtcm2.proofs.ObservationOrders as orders
 use Rattle.rtcm2.proofs.GeneralOrders as generals
 use Rattle.rtcm2.specs.Generals.{headOf}
-use Rattle.rtcm2.specs.Corrections as corrections
-use Rattle.rtcm2.specs.Healths as healths
+use Rattle.rtcm2.specs.Lists.{LibraryList}
 use Rattle.rtcm2.specs.Line.{fedIn}
 use Rattle.rtcm2.specs.Orders as in-order
+use Rattle.rtcm2.specs.ListOrders as list-order
 use Rattle.rtcm2.specs.GeneralOrders as general-order
 use Rattle.rtcm2.proofs.LineOrders.{held-order, start-order, counts-order, feed-all-order, read-order, end-order}
 use Rattle.rtcm2.proofs.LineTaking.{take-order}
@@ -56,11 +44,13 @@ use Rattle.rtcm2.proofs.SendOrders.{open-order, write-order}
 use Rattle.rtcm2.proofs.WordsOrders.{keep-words-order, restore-order}
 use Rattle.rtcm2.proofs.ReadOrders as reads
 use Rattle.rtcm2.proofs.MakeOrders as makes
+use Rattle.rtcm2.proofs.ListOrders as lists
 use Rattle.rtcm2.proofs.BeaconOrders.{profile-order, cut-order}
 use Rattle.rtcm2.proofs.ValueOrders.{limit-order, general-limit-order}
-use Rattle.promises.specs.CarriesItsNumber.{Ordered}
+use Rattle.promises.specs.CarriesItsNumber.{checkNumbers, outsideTable, Ordered}
 use Rattle.promises.proofs.CarriesItsNumber.{ordered, carries-its-number}
-use Rattle.rtcm2_promises.specs.CarriesItsNumber.{LibraryNumbers}
+use Rattle.rtcm2_promises.specs.CarriesItsNumber.{afterRecord, ListNumbers, LibraryNumbers}
+use Rattle.rtcm2_promises.proofs.LibraryLists.{Owed, each-list}
 
 -- FEED: 5 for bytes that hold no state, 5, 3, 2, 1
 feed-order : (state : List ℕ) (byte : ℕ) → fedIn state byte
@@ -72,37 +62,27 @@ feed-order state byte =
     (λ n. record { answer = Refused n; reader = stateIn state }) (record { answer = Done; reader = steppedBy (stateIn state) byte })
     (λ n. refl) refl refl
 
--- ---- lists, by their definitions
+-- ---- the three calls on a list
 
-counts-corrections : (f : Frame) → correction-list.countCorrections f ≡ countIn layout.Correction 40 f
-unfolding correction-list.countCorrections
-counts-corrections f = refl
+-- 10 where reading has it
+range-numbers : (b x y : Bool) → _≡_ {A = List ℕ} (checkNumbers (cond b ((x, 10) ∷ []) [] ++ ((y, 13) ∷ []))) (cond b (10 ∷ 13 ∷ []) (13 ∷ []))
+range-numbers true x y = refl
+range-numbers false x y = refl
 
-reads-correction : (f : Frame) (i : ℕ) → let s = systemOf (f .header .kind) in
-    correction-list.correctionAt f i
-    ≡ listRanged layout.Correction (correction-list.coding s) (correction-list.outOfRange s) correction-read.Refused correction-read.Entry f i
-unfolding correction-list.correctionAt
-reads-correction f i = refl
+range-table : (b : Bool) → anyOf outsideTable (afterRecord (6 ∷ 7 ∷ 8 ∷ 9 ∷ cond b (10 ∷ 13 ∷ []) (13 ∷ []))) ≡ false
+range-table true = refl
+range-table false = refl
 
-makes-corrections : (h : Header) (es : List Correction) (c : ℕ) → let s = systemOf (h .kind) in
-    correction-list.makeCorrections h es c
-    ≡ listMade layout.Correction (correction-list.coding s) correction-list.fill 18 (correction-list.outOfRange s) h es c
-unfolding correction-list.makeCorrections
-makes-corrections h es c = refl
-
-counts-healths : (f : Frame) → health-list.countHealths f ≡ countIn layout.Health 24 f
-unfolding health-list.countHealths
-counts-healths f = refl
-
-reads-health : (f : Frame) (i : ℕ)
-    → health-list.healthAt f i ≡ listEntry layout.Health (health-list.coding (systemOf (f .header .kind))) health-read.Refused health-read.Entry f i
-unfolding health-list.healthAt
-reads-health f i = refl
-
-makes-healths : (h : Header) (es : List SatelliteHealth) (c : ℕ) → let s = systemOf (h .kind) in
-    health-list.makeHealths h es c ≡ listMade layout.Health (health-list.coding s) health-list.fill 31 (health-list.outOfRange s) h es c
-unfolding health-list.makeHealths
-makes-healths h es c = refl
+list-numbers : (L : LibraryList) → Owed L → ListNumbers L
+list-numbers L o = record {
+  count = λ bs fits. ordered (list-order.countOrder L bs) _ (lists.count-order L (o .plain) bs fits) refl refl;
+  entry = λ bs fits i lent.
+      ordered (list-order.entryOrder L bs i lent) _ (lists.entry-order L (o .plain) bs fits i lent)
+      (ap (λ ns. afterRecord (6 ∷ 7 ∷ 8 ∷ 9 ∷ ns)) (range-numbers (L .plain .ranged) _ _)) (range-table (L .plain .ranged));
+  make = λ kind station z sequence code bs buffer.
+      ordered (list-order.listOrder L kind station z sequence code bs buffer) _
+      (lists.list-made L (o .plain) kind station z sequence code bs buffer) refl refl;
+}
 
 -- an entry as a row of bytes: 13
 pub put-ordered : {A : Type 0} (row : Coding A) (lent : List ℕ) → Ordered (13 ∷ []) (putOrder row lent) (saysPut (putBy row lent))
@@ -128,31 +108,7 @@ library-numbers = record {
   recall = λ bs. ordered (recallOrder bs) _ (reads.recall-order bs) refl refl;
   keep-words = λ bs fits d29 d30 words. ordered (in-order.keepWordsOrder bs d29 d30 words) _ (keep-words-order bs fits d29 d30 words) refl refl;
   recall-words = λ bs frame. ordered (in-order.restoreOrder bs frame) _ (restore-order bs frame) refl refl;
-  count-corrections = λ bs fits.
-      ordered (in-order.countOrder layout.Correction 40 bs) _
-      (reads.list-counted bs fits layout.Correction 40 correction-list.countCorrections (counts-corrections (in-order.frameFrom bs))) refl refl;
-  correction-at = λ bs fits i lent.
-      ordered (in-order.entryOrder layout.Correction 40 (correction.row Gps) bs i (corrections.correctionChecks bs i) lent) _
-      (reads.list-entry bs fits layout.Correction 40 i (corrections.correctionChecks bs i) (correction.row Gps) correction-list.saysCorrectionRead
-      correction-read.Refused (λ n. refl) (λ f. correction-list.correctionAt f i) (correction-read.Entry (corrections.correctionIn bs i)) refl
-      (reads-correction (in-order.frameFrom bs) i) lent) refl refl;
-  make-corrections = λ kind station z sequence code bs buffer.
-      ordered (corrections.correctionsOrder kind station z sequence code bs buffer) _
-      (makes.list-made kind station z sequence code buffer layout.Correction correction.row correction-list.coding correction-list.fill 18
-      correction-list.outOfRange correction-list.makeCorrections (omega arith) bs
-      (makes-corrections (in-order.headerWith kind station z sequence code) _ _)) refl refl;
-  count-healths = λ bs fits.
-      ordered (in-order.countOrder layout.Health 24 bs) _
-      (reads.list-counted bs fits layout.Health 24 health-list.countHealths (counts-healths (in-order.frameFrom bs))) refl refl;
-  health-at = λ bs fits i lent.
-      ordered (in-order.entryOrder layout.Health 24 (healths.row Gps) bs i [] lent) _
-      (reads.list-entry bs fits layout.Health 24 i [] (healths.row Gps) health-list.saysHealthRead health-read.Refused (λ n. refl)
-      (λ f. health-list.healthAt f i) (health-read.Entry (entryIn (health-list.coding (in-order.systemFrom bs)) i (frameBits (in-order.frameFrom bs)))) refl
-      (reads-health (in-order.frameFrom bs) i) lent) refl refl;
-  make-healths = λ kind station z sequence code bs buffer.
-      ordered (healths.healthsOrder kind station z sequence code bs buffer) _
-      (makes.list-made kind station z sequence code buffer layout.Health healths.row health-list.coding health-list.fill 31
-      health-list.outOfRange health-list.makeHealths (omega arith) bs (makes-healths (in-order.headerWith kind station z sequence code) _ _)) refl refl;
+  lists = each-list list-numbers;
   count-observations = λ bs fits. ordered (in-order.observationsCounted bs) _ (orders.observations-counted bs fits) refl refl;
   read-epoch = λ bs fits. ordered (in-order.epochOrder bs) _ (orders.epoch-order bs fits) refl refl;
   observation-at = λ e bs fits i lent. ordered (in-order.observationOrder e bs i lent) _ (orders.observation-row-order bs fits e i lent) refl refl;

@@ -27,10 +27,9 @@ use Rattle.journal.specs.Journal.{keptBy, saysKept}
 use Rattle.frame.specs.Frames.{afterPair}
 use native.Mathlib.Omega.{arith}
 use Rattle.rtcm2.specs.Rows.{rowTo, rowHeld}
-use Rattle.rtcm2.specs.Corrections as corrections
+use Rattle.rtcm2.specs.Lists.{LibraryList, entrySaid, madeSaid}
 use Rattle.rtcm2.specs.Observations as observations
 use Rattle.rtcm2.specs.Generals as generals
-use Rattle.rtcm2.specs.Healths as healths
 use Rattle.rtcm2.specs.Positions as positions
 use Rattle.rtcm2.specs.Beacon.{recordsOf, cutSaid, keptAll, heldAll, sizeAll}
 use Rattle.rtcm2.specs.Nulls as nulls
@@ -39,7 +38,8 @@ use Rattle.rtcm2.specs.Texts as texts
 use Rattle.promises.specs.ChangesNeither.{Keeps}
 use Rattle.promises.proofs.CarriesItsNumber.{ordered}
 use Rattle.promises.proofs.ChangesNeither.{keeps, changes-neither}
-use Rattle.rtcm2_promises.specs.ChangesNeither.{LibraryKeeps}
+use Rattle.rtcm2_promises.specs.ChangesNeither.{ListKeeps, LibraryKeeps}
+use Rattle.rtcm2_promises.proofs.LibraryLists.{each-list}
 use Rattle.rtcm2_promises.proofs.CarriesItsNumber.{put-ordered, put-stored}
 
 -- what is answered of a value is refused where the value was
@@ -74,6 +74,14 @@ entry-keeps row (refuses m) lent = λ n e. refl
 -- a frame that is made or kept, and its length
 made-keeps : (s : Says Frame) (frame : List ℕ) (size : ℕ) → Keeps (keptTo s frame) (heldTo s frame) frame × Keeps (keptTo s frame) (sizeTo s frame size) size
 made-keeps s frame size = (frame-keeps s frame, λ n e. rw e)
+
+-- the three calls on a list
+list-keeps : (L : LibraryList) → ListKeeps L
+list-keeps L = record {
+  count = λ frame count n e. rw e;
+  entry = λ frame i. entry-keeps (L .row Gps) (entrySaid L (frameSaid frame) i);
+  make = λ kind station z sequence code rows. made-keeps (madeSaid L (headed kind station z sequence code) rows);
+}
 
 -- frames that are cut and kept, and their length
 cut-keeps : (s : Says (List Frame)) (frames : List ℕ) (size : ℕ)
@@ -112,12 +120,7 @@ library-keeps = record {
   keep-words = λ frame d29 d30 words size. (words-keeps (frameSaid frame) d29 d30 words, λ n e. rw e);
   recall-words = λ words frame d29 d30 read size.
       (back-keeps (liveSaid words) frame, λ n e. rw e, λ n e. rw e, λ n e. rw e, λ n e. rw e);
-  count-corrections = λ frame count n e. rw e;
-  correction-at = λ frame i. entry-keeps (correction.row Gps) (corrections.entrySaid (frameSaid frame) i);
-  make-corrections = λ kind station z sequence code rows. made-keeps (corrections.madeSaid (headed kind station z sequence code) rows);
-  count-healths = λ frame count n e. rw e;
-  health-at = λ frame i. entry-keeps (healths.row Gps) (healths.entrySaid (frameSaid frame) i);
-  make-healths = λ kind station z sequence code rows. made-keeps (healths.madeSaid (headed kind station z sequence code) rows);
+  lists = each-list (λ L o. list-keeps L);
   count-observations = λ frame count n e. rw e;
   read-epoch = λ frame f s t. (λ n e. rw e, λ n e. rw e, λ n e. rw e);
   observation-at = λ e frame i. entry-keeps observation.row (observations.entrySaid e (frameSaid frame) i);

@@ -37,7 +37,7 @@ use Rattle.rtcm2.specs.Orders.{headerWith}
 use Rattle.rtcm2.proofs.MakeOrders.{headed-order}
 use Rattle.promises.proofs.CarriesItsNumber.{says-inj}
 use Rattle.rtcm2_promises.specs.CutsBack.{RecallsAll, CutBack, LibraryCutsBack}
-use Rattle.rtcm2_promises.proofs.ReadsBack.{correction-typed}
+use Rattle.rtcm2_promises.proofs.LibraryLists.{correction-typed}
 
 -- the records of frames that can be kept, one after the other, are recalled
 recalls-all : (fs : List Frame) (rest : List ℕ) → Each Whole fs → Each (λ f. bare f ≡ f) fs → RecallsAll fs (recordsOf fs ++ rest)

@@ -2,7 +2,7 @@
 use mathlib.Core.Path.{_≡_, sym, _∙_}
 use mathlib.Core.List.{List}
 use Prim.Native.Nat.{ℕ}
-use Rattle.answer.specs.Order.{answers, Check, inOrder}
+use Rattle.answer.specs.Order.{answers, Check, inOrder, NoneApplies}
 use Rattle.answer.proofs.OrderLaws.{order-told}
 use Rattle.frame.specs.Frames.{framed}
 use Rattle.frame.specs.declared.Frame.{Frame}
@@ -12,7 +12,14 @@ use Rattle.record_stages.specs.declared.Made.{Made}
 use Rattle.record_stages.proofs.StageLaws.{done-apart, done-frame}
 use Rattle.promises.proofs.PairBeside.{made-told}
 
+module _ (cs : List Check) (made : Frame) (m : Made) (is : m ≡ inOrder cs refusedMade (doneMade made)) (f : Frame) (e : saysMade m ≡ answers f) where
+  told : NoneApplies cs × (doneMade made ≡ doneMade f)
+  told = order-told refusedMade (doneMade made) (doneMade f) (λ n. done-apart n f) cs (sym is ∙ made-told m f e)
+
+  -- nothing applied to what was made
+  pub made-none : NoneApplies cs
+  made-none = told .0
+
 pub framed-by : (cs : List Check) (h : Header) (ws : List ℕ) (m : Made) → m ≡ inOrder cs refusedMade (doneMade (framed h ws))
     → (f : Frame) → saysMade m ≡ answers f → (words : List ℕ) × (framed h words ≡ f)
-framed-by cs h ws m is f e =
-    (ws, done-frame (order-told refusedMade (doneMade (framed h ws)) (doneMade f) (λ n. done-apart n f) cs (sym is ∙ made-told m f e) .1))
+framed-by cs h ws m is f e = (ws, done-frame (told cs (framed h ws) m is f e .1))

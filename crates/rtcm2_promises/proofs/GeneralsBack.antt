@@ -23,7 +23,8 @@ use Rattle.record_generals.specs.Generals as general
 use Rattle.record_generals.specs.GeneralNulls as general-null
 use Rattle.rtcm2_rows.specs.Rows.{rowSize, countOf, entryOf, entriesFrom}
 use Rattle.rtcm2_rows.specs.Generals as general-bytes
-use Rattle.rtcm2_rows.proofs.RowLaws.{count-held, length-entries}
+use Rattle.rtcm2_rows.proofs.RowLaws.{length-entries}
+use Rattle.rtcm2_rows.proofs.Trips.{row-again}
 use Rattle.rtcm2_rows.proofs.GeneralRows.{faithful}
 use Rattle.rtcm2.specs.Frames.{frameSaid}
 use Rattle.rtcm2.specs.Header.{headed}
@@ -76,7 +77,7 @@ module _ (h : Header) (a : GeneralHead) (rows : List ℕ) (b : AreBytes rows) wh
 
     general-rows-back : RowsBack general-bytes.row rows (saysCount (general.countGenerals f)) (λ i. general.saysGeneralRead (general.generalAt f i))
     general-rows-back =
-        rows-back general-bytes.row general-bytes.Typed faithful refl (λ i l m. omega (arith, count-held (rowSize general-bytes.row) l)) 22 rows b
+        rows-back general-bytes.row (row-again general-bytes.row general-bytes.Typed faithful refl) 22 rows b
         (saysCount (general.countGenerals f)) (λ i. general.saysGeneralRead (general.generalAt f i)) few (back .counted) (back .each)
 
 module _ (kind station z sequence code : ℕ) where

@@ -2,6 +2,7 @@
 use Rattle.rtcm2_promises.specs.Library.{Library}
 use Rattle.rtcm2_promises.proofs.LibraryCalls.{library-calls}
 use Rattle.rtcm2_promises.proofs.LibraryRecords.{library-records}
+use Rattle.rtcm2_promises.proofs.LibraryLists.{library-lists}
 use Rattle.rtcm2_promises.proofs.LibraryGenerals.{library-generals}
 use Rattle.rtcm2_promises.proofs.CarriesItsNumber.{library-numbers}
 use Rattle.rtcm2_promises.proofs.ChangesNeither.{library-keeps}
@@ -20,6 +21,7 @@ pub library : Library
 library = record {
   calls = library-calls;
   records = library-records;
+  lists = library-lists;
   generals = library-generals;
   carries = library-numbers;
   changes = library-keeps;

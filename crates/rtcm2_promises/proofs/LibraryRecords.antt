@@ -28,37 +28,6 @@ library-records = record {
     leaves = λ κs a z e p. p .1;
     ends = rtcm2_rows.table.put_numbers.Met.met;
   };
-  count-corrections = record {
-    asks-nothing = λ κs a. tt;
-    settles = λ κs a z e p. p .0;
-    leaves = λ κs a z e p. p .1;
-    ends = rtcm2.correction.rtcm2_count_corrections.Met.met;
-  };
-  correction-at = record {
-    asks-nothing = λ κs a. tt;
-    settles = λ κs a z e p. p .0;
-    leaves = λ κs a z e p. p .1;
-    ends = rtcm2.correction.rtcm2_correction_at.Met.met;
-  };
-  make-corrections = record {
-    asks-nothing = λ κs a. tt;
-    settles = λ κs a z e p. p .0;
-    leaves = λ κs a z e p. two-places (p .1);
-    ends = rtcm2.correction.rtcm2_make_corrections.Met.met;
-  };
-  count-healths = record {
-    asks-nothing = λ κs a. tt;
-    settles = λ κs a z e p. p .0;
-    leaves = λ κs a z e p. p .1;
-    ends = rtcm2.health.rtcm2_count_healths.Met.met;
-  };
-  health-at = record { asks-nothing = λ κs a. tt; settles = λ κs a z e p. p .0; leaves = λ κs a z e p. p .1; ends = rtcm2.health.rtcm2_health_at.Met.met };
-  make-healths = record {
-    asks-nothing = λ κs a. tt;
-    settles = λ κs a z e p. p .0;
-    leaves = λ κs a z e p. two-places (p .1);
-    ends = rtcm2.health.rtcm2_make_healths.Met.met;
-  };
   count-observations = record {
     asks-nothing = λ κs a. tt;
     settles = λ κs a z e p. p .0;

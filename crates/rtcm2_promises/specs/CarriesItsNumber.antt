@@ -1,13 +1,12 @@
 -- DEMAND 1 of the library for C and Rust, "A refusal carries its number from the table": each call refuses exactly when a number of the order that
 -- include/rtcm2.h gives applies, and with the first that does. Where a number stands twice, two conditions have it. Assumes nothing.
-use mathlib.Core.Bool.{not}
+use mathlib.Core.Bool.{not, cond}
 use mathlib.Core.List.{List, [], _∷_, _++_}
 use Prim.Native.Nat.{ℕ}
 use lib.Dec.{ltb}
 use lib.IntN.{ℤ}
 use Rattle.bits.specs.Fields.{AreBytes}
 use Rattle.line.specs.Line.{isData}
-use Rattle.frame.specs.declared.Layout.the-variants as layout
 use Rattle.frame.specs.declared.System.the-variants.{Gps}
 use Rattle.reader.specs.Reading.{busy}
 use Rattle.reader.specs.Rows.{rowsOrder}
@@ -27,10 +26,9 @@ use Rattle.rtcm2.specs.Line.{startedIn, countsIn, fedIn, fedAllIn, rowsIn, ende
 use Rattle.rtcm2.specs.Send.{openSaid, writeSaid}
 use Rattle.rtcm2.specs.Words.{wordsKept, liveSaid, backSaid}
 use Rattle.rtcm2.specs.Rows.{rowTo}
-use Rattle.rtcm2.specs.Corrections as corrections
+use Rattle.rtcm2.specs.Lists.{LibraryList, countSaid, entrySaid, madeSaid}
 use Rattle.rtcm2.specs.Observations as observations
 use Rattle.rtcm2.specs.Generals as generals
-use Rattle.rtcm2.specs.Healths as healths
 use Rattle.rtcm2.specs.Positions as positions
 use Rattle.rtcm2.specs.Beacon.{profileSaid, cutSaid, keptAll}
 use Rattle.rtcm2.specs.Nulls as nulls
@@ -43,8 +41,10 @@ use Rattle.rtcm2.specs.Window.{remainderSaid}
 use Rattle.mender.specs.Steps.{mendOrder}
 use Rattle.rtcm2.specs.Mending.{mendSaid}
 use Rattle.rtcm2.specs.Orders as in-order
+use Rattle.rtcm2.specs.ListOrders as list-order
 use Rattle.rtcm2.specs.GeneralOrders as general-order
 use Rattle.promises.specs.CarriesItsNumber.{Ordered}
+use Rattle.rtcm2_promises.specs.LibraryLists.{EachLibraryList}
 
 -- a call that is given a frame: 14, 15, 16, 15, 16, the last for two reasons, then these
 abbrev pub afterRecord : List ℕ → List ℕ
@@ -53,6 +53,17 @@ afterRecord numbers = 14 ∷ 15 ∷ 16 ∷ 15 ∷ 16 ∷ 16 ∷ numbers
 -- a call that makes a frame of a layout: 5, a health over 7 too, 6, 7, then these
 abbrev pub afterHeader : List ℕ → List ℕ
 afterHeader numbers = 5 ∷ 5 ∷ 6 ∷ 7 ∷ numbers
+
+-- the three calls on a list; an entry that is read has 10 where the list has it
+pub record ListNumbers (L : LibraryList) : Type 0 where
+  pub count : (bs : List ℕ) → AreBytes bs
+      → Ordered (afterRecord (6 ∷ 7 ∷ 8 ∷ [])) (list-order.countOrder L bs) (countSaid L (frameSaid bs))
+  pub entry : (bs : List ℕ) → AreBytes bs → (i : ℕ) (lent : List ℕ)
+      → Ordered (afterRecord (6 ∷ 7 ∷ 8 ∷ 9 ∷ cond (L .plain .ranged) (10 ∷ 13 ∷ []) (13 ∷ []))) (list-order.entryOrder L bs i lent)
+      (rowTo (L .row Gps) (entrySaid L (frameSaid bs) i) lent)
+  pub make : (kind station z sequence code : ℕ) (bs buffer : List ℕ)
+      → Ordered (afterHeader (12 ∷ 10 ∷ 13 ∷ [])) (list-order.listOrder L kind station z sequence code bs buffer)
+      (keptTo (madeSaid L (headed kind station z sequence code) bs) buffer)
 
 -- every exported function but the one that answers a constant, and those that put a state or an entry in bytes. The orders of
 -- `stops` and `remainder` are empty: they never refuse.
@@ -79,26 +90,9 @@ pub record LibraryNumbers : Type 0 where
   pub keep-words : (bs : List ℕ) → AreBytes bs → (d29 d30 : ℕ) (words : List ℕ)
       → Ordered (afterRecord (5 ∷ 13 ∷ [])) (in-order.keepWordsOrder bs d29 d30 words) (wordsKept (frameSaid bs) d29 d30 words)
   pub recall-words : (bs frame : List ℕ) → Ordered (afterRecord (17 ∷ 13 ∷ [])) (in-order.restoreOrder bs frame) (backSaid (liveSaid bs) frame)
-  -- record_corrections
-  pub count-corrections : (bs : List ℕ) → AreBytes bs
-      → Ordered (afterRecord (6 ∷ 7 ∷ 8 ∷ [])) (in-order.countOrder layout.Correction 40 bs) (corrections.countSaid (frameSaid bs))
-  pub correction-at : (bs : List ℕ) → AreBytes bs → (i : ℕ) (lent : List ℕ)
-      → Ordered (afterRecord (6 ∷ 7 ∷ 8 ∷ 9 ∷ 10 ∷ 13 ∷ []))
-      (in-order.entryOrder layout.Correction 40 (correction.row Gps) bs i (corrections.correctionChecks bs i) lent)
-      (rowTo (correction.row Gps) (corrections.entrySaid (frameSaid bs) i) lent)
-  pub make-corrections : (kind station z sequence code : ℕ) (bs buffer : List ℕ)
-      → Ordered (afterHeader (12 ∷ 10 ∷ 13 ∷ [])) (corrections.correctionsOrder kind station z sequence code bs buffer)
-      (keptTo (corrections.madeSaid (headed kind station z sequence code) bs) buffer)
-  -- constellation health
-  pub count-healths : (bs : List ℕ) → AreBytes bs
-      → Ordered (afterRecord (6 ∷ 7 ∷ 8 ∷ [])) (in-order.countOrder layout.Health 24 bs) (healths.countSaid (frameSaid bs))
-  pub health-at : (bs : List ℕ) → AreBytes bs → (i : ℕ) (lent : List ℕ)
-      → Ordered (afterRecord (6 ∷ 7 ∷ 8 ∷ 9 ∷ 13 ∷ [])) (in-order.entryOrder layout.Health 24 (healths.row Gps) bs i [] lent)
-      (rowTo (healths.row Gps) (healths.entrySaid (frameSaid bs) i) lent)
-  pub make-healths : (kind station z sequence code : ℕ) (bs buffer : List ℕ)
-      → Ordered (afterHeader (12 ∷ 10 ∷ 13 ∷ [])) (healths.healthsOrder kind station z sequence code bs buffer)
-      (keptTo (healths.madeSaid (headed kind station z sequence code) bs) buffer)
-  -- the station's position
+  -- each list of LibraryLists
+  pub lists : EachLibraryList ListNumbers
+  -- observations
   pub count-observations : (bs : List ℕ) → AreBytes bs
       → Ordered (afterRecord (6 ∷ 7 ∷ 8 ∷ [])) (in-order.observationsCounted bs) (observations.countSaid (frameSaid bs))
   pub read-epoch : (bs : List ℕ) → AreBytes bs
@@ -111,6 +105,7 @@ pub record LibraryNumbers : Type 0 where
       → Ordered (5 ∷ afterHeader (12 ∷ 10 ∷ 13 ∷ []))
       (in-order.observationsOrder kind station z sequence code e (record { frequency = frequency; smoothing = smoothing; time = time }) bs buffer)
       (keptTo (observations.madeSaid e (headed kind station z sequence code) frequency smoothing time bs) buffer)
+  -- the station's position
   pub read-position : (bs : List ℕ) → AreBytes bs
       → Ordered (afterRecord (6 ∷ 7 ∷ 8 ∷ 10 ∷ [])) (in-order.positionOrder bs) (positions.positionSaid (frameSaid bs))
   pub make-position : (kind station z sequence code : ℕ) (x y up : ℤ) (buffer : List ℕ)

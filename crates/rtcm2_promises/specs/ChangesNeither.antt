@@ -1,5 +1,5 @@
 -- DEMAND 1 of the library for C and Rust, ".. and changes neither state nor buffer": after a refusal every place lent to the function holds what it
--- held. What is left there is said as in the function's field of LibraryCalls or LibraryRecords. Assumes nothing.
+-- held. What is left there is said as in the function's field of LibraryCalls, LibraryRecords or LibraryLists. Assumes nothing.
 use mathlib.Core.Bool.{Bool}
 use mathlib.Core.List.{List}
 use Prim.Native.Nat.{ℕ}
@@ -30,10 +30,9 @@ use Rattle.rtcm2.specs.Frames.{frameSaid, keptTo, keepSaid, heldTo, sizeTo}
 use Rattle.rtcm2.specs.Frames.{recallSaid, kindSaid, stationSaid, zCountSaid, sequenceSaid, healthSaid, nSaid, lengthSaid}
 use Rattle.rtcm2.specs.Rows.{rowTo, rowHeld}
 use Rattle.rtcm2.specs.Header.{headed}
-use Rattle.rtcm2.specs.Corrections as corrections
+use Rattle.rtcm2.specs.Lists.{LibraryList, countSaid, entrySaid, madeSaid}
 use Rattle.rtcm2.specs.Observations as observations
 use Rattle.rtcm2.specs.Generals as generals
-use Rattle.rtcm2.specs.Healths as healths
 use Rattle.rtcm2.specs.Positions as positions
 use Rattle.rtcm2.specs.Beacon.{cutSaid, keptAll, heldAll, sizeAll}
 use Rattle.rtcm2.specs.Nulls as nulls
@@ -46,6 +45,15 @@ use Rattle.mender.specs.Run.{onOf}
 use Rattle.mender.specs.Steps.{bytesTo, outputTo}
 use Rattle.rtcm2.specs.Mending.{stepNumber, mendSaid}
 use Rattle.promises.specs.ChangesNeither.{Keeps}
+use Rattle.rtcm2_promises.specs.LibraryLists.{EachLibraryList}
+
+-- the three calls on a list
+pub record ListKeeps (L : LibraryList) : Type 0 where
+  pub count : (frame : List ℕ) (count : ℕ) → let s = countSaid L (frameSaid frame) in Keeps s (left s (λ k. k) count) count
+  pub entry : (frame : List ℕ) (i : ℕ) (lent : List ℕ) → let s = entrySaid L (frameSaid frame) i in
+      Keeps (rowTo (L .row Gps) s lent) (rowHeld (L .row Gps) s lent) lent
+  pub make : (kind station z sequence code : ℕ) (rows frame : List ℕ) (size : ℕ) → let s = madeSaid L (headed kind station z sequence code) rows in
+      Keeps (keptTo s frame) (heldTo s frame) frame × Keeps (keptTo s frame) (sizeTo s frame size) size
 
 -- every function that is lent a place, and each of its places
 pub record LibraryKeeps : Type 0 where
@@ -83,20 +91,8 @@ pub record LibraryKeeps : Type 0 where
   pub recall-words : (words frame : List ℕ) (d29 d30 read size : ℕ) → let s = backSaid (liveSaid words) frame in
       Keeps s (backHeld (liveSaid words) frame) frame × Keeps s (left s d29Back d29) d29 × Keeps s (left s d30Back d30) d30
       × Keeps s (left s readBack read) read × Keeps s (left s lengthBack size) size
-  -- record_corrections
-  pub count-corrections : (frame : List ℕ) (count : ℕ) → let s = corrections.countSaid (frameSaid frame) in Keeps s (left s (λ k. k) count) count
-  pub correction-at : (frame : List ℕ) (i : ℕ) (lent : List ℕ) → let s = corrections.entrySaid (frameSaid frame) i in
-      Keeps (rowTo (entry-corrections.row Gps) s lent) (rowHeld (entry-corrections.row Gps) s lent) lent
-  pub make-corrections : (kind station z sequence code : ℕ) (rows frame : List ℕ) (size : ℕ)
-      → let s = corrections.madeSaid (headed kind station z sequence code) rows in
-      Keeps (keptTo s frame) (heldTo s frame) frame × Keeps (keptTo s frame) (left (keptTo s frame) (λ k. k) size) size
-  -- constellation health
-  pub count-healths : (frame : List ℕ) (count : ℕ) → let s = healths.countSaid (frameSaid frame) in Keeps s (left s (λ k. k) count) count
-  pub health-at : (frame : List ℕ) (i : ℕ) (lent : List ℕ) → let s = healths.entrySaid (frameSaid frame) i in
-      Keeps (rowTo (healths.row Gps) s lent) (rowHeld (healths.row Gps) s lent) lent
-  pub make-healths : (kind station z sequence code : ℕ) (rows frame : List ℕ) (size : ℕ)
-      → let s = healths.madeSaid (headed kind station z sequence code) rows in
-      Keeps (keptTo s frame) (heldTo s frame) frame × Keeps (keptTo s frame) (left (keptTo s frame) (λ k. k) size) size
+  -- each list of LibraryLists
+  pub lists : EachLibraryList ListKeeps
   -- observations
   pub count-observations : (frame : List ℕ) (count : ℕ) → let s = observations.countSaid (frameSaid frame) in Keeps s (left s (λ k. k) count) count
   pub read-epoch : (frame : List ℕ) (frequency smoothing time : ℕ) → let s = observations.epochSaid (frameSaid frame) in

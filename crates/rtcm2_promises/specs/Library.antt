@@ -5,6 +5,7 @@ use lib.ListN.{length}
 use Rattle.rtcm2_state.specs.State.{stateSize}
 use Rattle.rtcm2_promises.specs.LibraryCalls.{LibraryCalls}
 use Rattle.rtcm2_promises.specs.LibraryRecords.{LibraryRecords}
+use Rattle.rtcm2_promises.specs.LibraryLists.{LibraryLists}
 use Rattle.rtcm2_promises.specs.LibraryGenerals.{LibraryGenerals}
 use Rattle.rtcm2_promises.specs.CarriesItsNumber.{LibraryNumbers}
 use Rattle.rtcm2_promises.specs.ChangesNeither.{LibraryKeeps}
@@ -22,6 +23,7 @@ pub record Library : Type 2 where
   -- "Every byte sequence, frame and buffer gets a defined answer." "No call trusts its caller." "Every call ends."
   pub calls : LibraryCalls
   pub records : LibraryRecords
+  pub lists : LibraryLists
   pub generals : LibraryGenerals
   -- "A refusal carries its number from the table .."
   pub carries : LibraryNumbers

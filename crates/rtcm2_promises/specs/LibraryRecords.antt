@@ -1,5 +1,5 @@
--- DEMAND 1 of the library for C and Rust, call by call: entries of records as bytes, and the functions that read and make records. Those of general
--- corrections stand in LibraryGenerals. Assumes nothing.
+-- DEMAND 1 of the library for C and Rust, call by call: entries of records as bytes, and the functions that read and make records. Those of lists
+-- stand in LibraryLists, those of general corrections in LibraryGenerals. Assumes nothing.
 use mathlib.Core.List.{List}
 use Prim.Native.Nat.{ℕ}
 use lib.IntN.{ℤ}
@@ -18,9 +18,7 @@ use Rattle.rtcm2.specs.Nulls.{nullSaid}
 use Rattle.rtcm2.specs.Texts.{textSaid, textAfter}
 use Rattle.rtcm2_rows.specs.Corrections as entry-corrections
 use Rattle.rtcm2_rows.specs.Observations as entry-observations
-use Rattle.rtcm2.specs.Corrections as corrections
 use Rattle.rtcm2.specs.Observations as observations
-use Rattle.rtcm2.specs.Healths as healths
 use Rattle.rtcm2.specs.Positions as positions
 use Rattle.rtcm2.specs.Nulls as nulls
 use Rattle.rtcm2.specs.Texts as texts
@@ -31,16 +29,10 @@ use Rattle.rtcm2_rows.proofs.observation.observations_in
 use Rattle.rtcm2_rows.proofs.observation.put_observation
 use Rattle.rtcm2_rows.proofs.table.rows_in
 use Rattle.rtcm2_rows.proofs.table.put_numbers
-use Rattle.rtcm2.proofs.correction.rtcm2_count_corrections
-use Rattle.rtcm2.proofs.correction.rtcm2_correction_at
-use Rattle.rtcm2.proofs.correction.rtcm2_make_corrections
 use Rattle.rtcm2.proofs.observation.rtcm2_count_observations
 use Rattle.rtcm2.proofs.observation.rtcm2_read_epoch
 use Rattle.rtcm2.proofs.observation.rtcm2_observation_at
 use Rattle.rtcm2.proofs.observation.rtcm2_make_observations
-use Rattle.rtcm2.proofs.health.rtcm2_count_healths
-use Rattle.rtcm2.proofs.health.rtcm2_health_at
-use Rattle.rtcm2.proofs.health.rtcm2_make_healths
 use Rattle.rtcm2.proofs.position.rtcm2_read_position
 use Rattle.rtcm2.proofs.position.rtcm2_make_position
 use Rattle.rtcm2.proofs.null.rtcm2_read_null
@@ -72,41 +64,6 @@ pub record LibraryRecords : Type 2 where
   pub put-numbers : AnsweredLent put_numbers.Reads.Asked put_numbers.Reads.Learnt put_numbers.Statement.statement
       (λ κs (_, (sizes, (bytes, _))). putBy (tableRow sizes) (now bytes))
       (λ κs (_, (_, (bytes, _))). now bytes) (λ κs (numbers, (sizes, (bytes, _))). rowAfter (tableRow sizes) numbers (now bytes))
-  -- rtcm2::correction
-  pub count-corrections : AnsweredLent
-      rtcm2_count_corrections.Reads.Asked rtcm2_count_corrections.Reads.Learnt rtcm2_count_corrections.Statement.statement
-      (λ κs (frame, _). numberOf (corrections.countSaid (frameSaid (now frame))))
-      (λ κs (_, (count, _)). now count)
-      (λ κs (frame, (count, _)). left (corrections.countSaid (frameSaid (now frame))) (λ k. k) (now count))
-  pub correction-at : AnsweredLent rtcm2_correction_at.Reads.Asked rtcm2_correction_at.Reads.Learnt rtcm2_correction_at.Statement.statement
-      (λ κs (frame, (index, (correction, _))).
-      numberOf (rowTo (entry-corrections.row Gps) (corrections.entrySaid (frameSaid (now frame)) index) (now correction)))
-      (λ κs (_, (_, (correction, _))). now correction)
-      (λ κs (frame, (index, (correction, _))). rowHeld (entry-corrections.row Gps) (corrections.entrySaid (frameSaid (now frame)) index) (now correction))
-  pub make-corrections : AnsweredLent {B = List ℕ × ℕ}
-      rtcm2_make_corrections.Reads.Asked rtcm2_make_corrections.Reads.Learnt rtcm2_make_corrections.Statement.statement
-      (λ κs (kind, (station, (z, (sequence, (health, (rows, (frame, _))))))).
-      numberOf (keptTo (corrections.madeSaid (headed kind station z sequence health) (now rows)) (now frame)))
-      (λ κs (_, (_, (_, (_, (_, (_, (frame, (length, _)))))))). (now frame, now length))
-      (λ κs (kind, (station, (z, (sequence, (health, (rows, (frame, (length, _)))))))).
-      let s = corrections.madeSaid (headed kind station z sequence health) (now rows) in
-      (heldTo s (now frame), left (keptTo s (now frame)) (λ k. k) (now length)))
-  -- rtcm2::health
-  pub count-healths : AnsweredLent rtcm2_count_healths.Reads.Asked rtcm2_count_healths.Reads.Learnt rtcm2_count_healths.Statement.statement
-      (λ κs (frame, _). numberOf (healths.countSaid (frameSaid (now frame))))
-      (λ κs (_, (count, _)). now count) (λ κs (frame, (count, _)). left (healths.countSaid (frameSaid (now frame))) (λ k. k) (now count))
-  pub health-at : AnsweredLent rtcm2_health_at.Reads.Asked rtcm2_health_at.Reads.Learnt rtcm2_health_at.Statement.statement
-      (λ κs (frame, (index, (bytes, _))). numberOf (rowTo (healths.row Gps) (healths.entrySaid (frameSaid (now frame)) index) (now bytes)))
-      (λ κs (_, (_, (bytes, _))). now bytes)
-      (λ κs (frame, (index, (bytes, _))). rowHeld (healths.row Gps) (healths.entrySaid (frameSaid (now frame)) index) (now bytes))
-  pub make-healths : AnsweredLent {B = List ℕ × ℕ}
-      rtcm2_make_healths.Reads.Asked rtcm2_make_healths.Reads.Learnt rtcm2_make_healths.Statement.statement
-      (λ κs (kind, (station, (z, (sequence, (health, (rows, (frame, _))))))).
-      numberOf (keptTo (healths.madeSaid (headed kind station z sequence health) (now rows)) (now frame)))
-      (λ κs (_, (_, (_, (_, (_, (_, (frame, (length, _)))))))). (now frame, now length))
-      (λ κs (kind, (station, (z, (sequence, (health, (rows, (frame, (length, _)))))))).
-      let s = healths.madeSaid (headed kind station z sequence health) (now rows) in
-      (heldTo s (now frame), left (keptTo s (now frame)) (λ k. k) (now length)))
   -- rtcm2::observation
   pub count-observations : AnsweredLent
       rtcm2_count_observations.Reads.Asked rtcm2_count_observations.Reads.Learnt rtcm2_count_observations.Statement.statement

@@ -12,20 +12,19 @@ use Rattle.frame.specs.declared.System.the-variants.{Gps}
 use Rattle.record_fields.specs.Coding.{Coding}
 use Rattle.record_positions.specs.Positions as position
 use Rattle.rtcm2_rows.specs.Rows.{rowSize, countOf}
-use Rattle.rtcm2_rows.specs.Corrections as entry-corrections
 use Rattle.rtcm2_rows.specs.Observations as entry-observations
 use Rattle.rtcm2_rows.specs.Generals as entry-generals
 use Rattle.rtcm2.specs.Answer.{andThen}
 use Rattle.rtcm2.specs.Header.{headed}
 use Rattle.rtcm2.specs.Frames.{frameSaid, keptTo, keepSaid, heldTo, recallSaid, kindSaid, stationSaid, zCountSaid, sequenceSaid, healthSaid, nSaid, lengthSaid}
 use Rattle.rtcm2.specs.Rows.{rowTo, rowHeld}
-use Rattle.rtcm2.specs.Corrections as corrections
-use Rattle.rtcm2.specs.Healths as healths
+use Rattle.rtcm2.specs.Lists.{LibraryList, countSaid, entrySaid, madeSaid}
 use Rattle.rtcm2.specs.Observations as observations
 use Rattle.rtcm2.specs.Generals as generals
 use Rattle.rtcm2.specs.Positions as positions
 use Rattle.rtcm2.specs.Nulls as nulls
 use Rattle.rtcm2.specs.Texts as texts
+use Rattle.rtcm2_promises.specs.LibraryLists.{EachLibraryList}
 
 -- the seven numbers that rtcm2_recall leaves
 abbrev pub numbersSaid : List ℕ → Says (ℕ × (ℕ × (ℕ × (ℕ × (ℕ × (ℕ × ℕ))))))
@@ -52,12 +51,15 @@ module _ (kind station z sequence code : ℕ) where
   abbrev pub GivesBack : Says Frame → (List ℕ → Type 0) → Type 0
   GivesBack said Reads = (lent rest : List ℕ) (size : ℕ) → keptTo said lent ≡ answers size → Back size Reads (take size (heldTo said lent) ++ rest)
 
+  -- of a list, whatever rows were given
+  abbrev pub ListGivesBack : LibraryList → Type 0
+  ListGivesBack L = (rows : List ℕ) → AreBytes rows → GivesBack (madeSaid L (headed kind station z sequence code) rows)
+      (λ bytes. RowsBack (L .row Gps) rows (countSaid L (frameSaid bytes)) (entrySaid L (frameSaid bytes)))
+
   -- every function that makes or keeps a frame
   pub record LibraryReadsBack : Type 0 where
-    pub make-corrections : (rows : List ℕ) → AreBytes rows → GivesBack (corrections.madeSaid (headed kind station z sequence code) rows)
-        (λ bytes. RowsBack (entry-corrections.row Gps) rows (corrections.countSaid (frameSaid bytes)) (corrections.entrySaid (frameSaid bytes)))
-    pub make-healths : (rows : List ℕ) → AreBytes rows → GivesBack (healths.madeSaid (headed kind station z sequence code) rows)
-        (λ bytes. RowsBack (healths.row Gps) rows (healths.countSaid (frameSaid bytes)) (healths.entrySaid (frameSaid bytes)))
+    -- of each list the rows
+    pub lists : EachLibraryList ListGivesBack
     -- in one edition: the head, and the rows
     pub make-observations : (e frequency smoothing time : ℕ) (rows : List ℕ) → AreBytes rows
         → GivesBack (observations.madeSaid e (headed kind station z sequence code) frequency smoothing time rows)
