@@ -15,11 +15,36 @@ use borrow.Author.Tests.{lt-ltb, le-ltb}
 use Rattle.bits.specs.Bits.{bits, number}
 use Rattle.bits.proofs.Numbers.{length-bits, bits-mod, bits-append, bits-take, bits-split}
 use Rattle.reader.specs.Cells.{putCells, putFive}
+use Rattle.reader.specs.Five.{sixAt}
 use Rattle.reader.proofs.Pushing.{set-two}
 use Rattle.reader.proofs.PutNext.{pad, cellsOf, halves, put-at, next}
 
 abbrev pub thirty : ℕ → ℕ → ℕ → ℕ → ℕ → ℕ
 thirty a b c d e = (((a * 64 + b) * 64 + c) * 64 + d) * 64 + e
+
+-- thirty bits are made of their sixes
+pub sixes-make : (t : ℕ) → t < 2 ^ 30 → t % 2 ^ 32 ≡ thirty (sixAt 4 t) (sixAt 3 t) (sixAt 2 t) (sixAt 1 t) (sixAt 0 t)
+sixes-make t h =
+    none
+    ∙ ap (λ u. u * 64 + sixAt 0 t) (one
+    ∙ ap (λ u. u * 64 + sixAt 1 t) (two
+    ∙ ap (λ u. u * 64 + sixAt 2 t) (three
+    ∙ ap (λ u. u * 64 + sixAt 3 t) four)))
+  where
+    none : t % 2 ^ 32 ≡ t / 2 ^ 6 * 64 + sixAt 0 t
+    none = omega arith
+
+    one : t / 2 ^ 6 ≡ t / 2 ^ 12 * 64 + sixAt 1 t
+    one = omega arith
+
+    two : t / 2 ^ 12 ≡ t / 2 ^ 18 * 64 + sixAt 2 t
+    two = omega arith
+
+    three : t / 2 ^ 18 ≡ t / 2 ^ 24 * 64 + sixAt 3 t
+    three = omega arith
+
+    four : t / 2 ^ 24 ≡ sixAt 4 t
+    four = omega arith
 
 abbrev pub widePair : ℕ → ℕ → ℕ → ℕ
 widePair c o v = (c % 2 ^ 32 / 2 ^ (32 - o) * 1073741824 + v) * 2 ^ (34 - o) % 2 ^ 64

@@ -1,14 +1,15 @@
 -- Bytes that carry sixes of which all but the last leave nothing that waits: what the loop of `run` goes by. Assumes nothing.
-use mathlib.Core.Path.{_≡_, sym, ap, subst, _∙_}
-use mathlib.Core.Bool.{true, false}
+use mathlib.Core.Path.{_≡_, refl, sym, ap, subst, _∙_}
+use mathlib.Core.Bool.{true, false, and-eq-true-iff}
 use mathlib.Core.List.{List, [], _∷_}
-use Prim.Native.Nat.{ℕ, suc, _+_, _≤_, _<_}
+use Prim.Native.Nat.{ℕ, zero, suc, _+_, _≤_, _<_}
 use native.Mathlib.Numerals.{add-one}
 use native.Mathlib.Omega.{arith}
 use lib.ListN.{length, drop, getD}
 use Rattle.bits.specs.Bits.{number}
 use Rattle.line.specs.Line.{isData, six}
 use Rattle.line.proofs.LineLaws.{six-lt}
+use Rattle.reader.specs.Five.{bytesFrom, allData, sixesIn}
 use Rattle.reader.specs.Reading.{stepCells, stepTo, manyCells, manyTo, SixesAt, Run, spent, runTo}
 use Rattle.reader.specs.declared.Candidate.{Candidate}
 use Rattle.reader.proofs.Accepted.{Accepted, length-step, accepted-step}
@@ -51,41 +52,10 @@ goes-many whole bytes (s ∷ r ∷ ss) cells c used passed g w t q =
     more : suc used + length (r ∷ ss) ≡ used + length (s ∷ r ∷ ss)
     more = omega arith
 
--- five bytes that carry sixes, by their places
-abbrev pub SixAt : List ℕ → ℕ → ℕ → Type 0
-SixAt bytes i n = (isData (getD bytes i 0) ≡ true) × (n ≡ number (six (getD bytes i 0)))
-
-pub five-sixes : (bytes : List ℕ) (at a b d e f : ℕ) → at + 5 ≤ length bytes
-    → SixAt bytes at a → SixAt bytes (at + 1) b → SixAt bytes (at + 2) d → SixAt bytes (at + 3) e → SixAt bytes (at + 4) f
-    → SixesAt bytes at (a ∷ b ∷ d ∷ e ∷ f ∷ [])
-five-sixes bytes at a b d e f h p q r s t = (
-  omega (arith, h),
-  p .0,
-  p .1,
-  bound at a p,
-  let q′ = shift (at + 1) (suc at) b (omega arith) q in (
-    omega (arith, h),
-    q′ .0,
-    q′ .1,
-    bound (suc at) b q′,
-    let r′ = shift (at + 2) (suc (suc at)) d (omega arith) r in (
-      omega (arith, h),
-      r′ .0,
-      r′ .1,
-      bound (suc (suc at)) d r′,
-      let s′ = shift (at + 3) (suc (suc (suc at))) e (omega arith) s in (
-        omega (arith, h),
-        s′ .0,
-        s′ .1,
-        bound (suc (suc (suc at))) e s′,
-        let t′ = shift (at + 4) (suc (suc (suc (suc at)))) f (omega arith) t in (omega (arith, h), t′ .0, t′ .1, bound (suc (suc (suc (suc at)))) f t′, tt),
-      ),
-    ),
-  ),
-)
-  where
-    shift : (i j n : ℕ) → i ≡ j → SixAt bytes i n → SixAt bytes j n
-    shift i j n w c = subst (λ k. SixAt bytes k n) w c
-
-    bound : (i n : ℕ) → SixAt bytes i n → n < 64
-    bound i n c = omega (arith, c .1, six-lt (getD bytes i 0))
+-- bytes that carry line bits carry their sixes
+pub sixes-at : (k : ℕ) (bytes : List ℕ) (at : ℕ) → at + k ≤ length bytes → allData (bytesFrom k bytes at) ≡ true
+    → SixesAt bytes at (sixesIn (bytesFrom k bytes at))
+sixes-at zero bytes at h d = tt
+sixes-at (suc k) bytes at h d =
+    let both = and-eq-true-iff (isData (getD bytes at 0)) (allData (bytesFrom k bytes (suc at))) .0 d in
+    (omega (arith, h), both .0, refl, six-lt (getD bytes at 0), sixes-at k bytes (suc at) (omega (arith, h)) (both .1))

@@ -14,16 +14,9 @@ use Rattle.word.specs.Word.{remainderOf, received, computed, parity, dataOf, pa
 use Rattle.word.specs.Answer.{remainderAt}
 use Rattle.word.proofs.Linearity.{remainder-xor}
 use Rattle.word.proofs.Testing.{six-long}
-use Rattle.reader.proofs.XorMaps.{Sum, self, by-test, s-xor, s-and, s-shr, s-mod, s-shl, s-bit, lin, s-lin}
+use Rattle.reader.proofs.XorMaps.{Sum, self, by-test, s-xor, s-and, s-shr, s-mod, s-shl, up, s-up, s-bit, lin, s-lin}
 
 -- ---- the division
-
--- a number of 64 bits moved up
-abbrev pub up : ℕ → ℕ → ℕ
-up k n = n * 2 ^ k % 2 ^ 64
-
-s-up : (k : ℕ) {a b c : ℕ} → Sum a b c → Sum (up k a) (up k b) (up k c)
-s-up k p = s-mod 64 (s-shl k p)
 
 -- of each half D29* D30* D1 to D24, D27 D28 D29, D25 D26
 abbrev pub turnedRound : ℕ → ℕ

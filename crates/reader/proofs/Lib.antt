@@ -14,6 +14,7 @@ pub mod Ahead
 pub mod Bursts
 pub mod XorMaps
 pub mod Dividing
+pub mod Joining
 pub mod Gathering
 pub mod TakeLaws
 pub mod Glancing

@@ -183,6 +183,13 @@ s-shl k {a} {b} p = record {
     none : (z : ℕ) → z * 2 ^ k ≡ z * 2 ^ k + 0
     none z = omega arith
 
+-- a number of 64 bits moved up
+abbrev pub up : ℕ → ℕ → ℕ
+up k n = n * 2 ^ k % 2 ^ 64
+
+pub s-up : (k : ℕ) {a b c : ℕ} → Sum a b c → Sum (up k a) (up k b) (up k c)
+s-up k p = s-mod 64 (s-shl k p)
+
 -- a bit of it, times m
 no-times : (m : ℕ) → 0 * m ≡ 0
 no-times m = omega arith

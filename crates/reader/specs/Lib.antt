@@ -1,4 +1,5 @@
 pub mod Cells
+pub mod Five
 pub mod Hunting
 pub mod Reading
 pub mod Rows

@@ -12,6 +12,7 @@ use Rattle.frame.specs.Frames.{blank}
 use Rattle.frame.specs.declared.Frame.{Frame}
 use Rattle.stream.specs.Standing.{size, stands, frameAt}
 use Rattle.reader.specs.Cells.{heldBits, roomEnd, pushedCells}
+use Rattle.reader.specs.Five.{sixesOf}
 use Rattle.reader.specs.Hunting.{fresh, huntOf}
 use Rattle.reader.specs.declared.hunt.Halt.{Halt}
 use Rattle.reader.specs.declared.Candidate.{Candidate}
@@ -21,7 +22,7 @@ use Rattle.reader.specs.declared.Answer.the-variants.{Done, Refused}
 use Rattle.reader.specs.declared.checks.Ready.{Ready}
 use Rattle.reader.specs.declared.checks.Ready.the-variants as ready
 use Rattle.reader.specs.declared.advance.Five.{Five}
-use Rattle.reader.specs.declared.advance.Five.the-variants.{Sixes, Fewer}
+use Rattle.reader.specs.declared.advance.Five.the-variants.{Thirty, Fewer}
 use Rattle.reader.specs.declared.Next.{Next}
 use Rattle.reader.specs.declared.FedAll.{FedAll}
 use Rattle.reader.specs.declared.Taken.{Taken}
@@ -104,7 +105,7 @@ later (suc k) = suc k
 
 -- of five bytes that carry sixes the first four bring no frame to its end, and there is room for all
 abbrev pub FiveIn : Candidate → List ℕ → ℕ → Five → Type 0
-FiveIn c bytes at (Sixes a b d e f) = (c .end ≤ 1192) × (c .held + 24 < 32 + 30 * later (c .words)) × SixesAt bytes at (a ∷ b ∷ d ∷ e ∷ f ∷ [])
+FiveIn c bytes at (Thirty t) = (c .end ≤ 1192) × (c .held + 24 < 32 + 30 * later (c .words)) × (t < 2 ^ 30) × SixesAt bytes at (sixesOf t)
 FiveIn c bytes at Fewer = Unit {0}
 
 -- ---- FEED: 5, 3, 2, 1

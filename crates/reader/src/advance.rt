@@ -1,13 +1,16 @@
 // The hunt goes on: by six bits and by bytes.
 ghost use mathlib.Core.Path.{_≡_};
 ghost use mathlib.Core.Bool.{false};
-ghost use mathlib.Core.List.{[], _∷_};
-ghost use Prim.Native.Nat.{_+_, _*_, _≤_, _<_};
+ghost use Prim.Native.Nat.{_+_, _*_, _^_, _≤_, _<_};
 ghost use lib.ListN.{length};
+ghost use Rattle.reader.specs.Five.{sixesOf};
 ghost use Rattle.reader.specs.Reading.{pastOf, movedTo, stepCells, stepTo, manyCells, manyTo, later as laterThan, FiveIn, runTo};
 use crate::Candidate;
 use crate::cells::push;
 use crate::cells::put_five;
+use crate::five::all_data;
+use crate::five::joined;
+use crate::five::thirty_of;
 use crate::hunt::Glanced;
 use crate::hunt::Halt;
 use crate::hunt::glance;
@@ -22,9 +25,9 @@ pub(crate) struct Ran {
     pub passed: usize,
 }
 
-// The sixes of five bytes, or that there are fewer to put in at once.
+// The thirty bits of five bytes, or that there are fewer to put in at once.
 pub(crate) enum Five {
-    Sixes(u32, u32, u32, u32, u32),
+    Thirty(u32),
     Fewer,
 }
 
@@ -95,7 +98,7 @@ fn later(words: usize) -> usize
     words
 }
 
-// The sixes of the next five bytes, where each carries six, the first four bring no frame to its end, and there is room for all.
+// The thirty bits of the next five bytes, where each carries six, the first four bring no frame to its end, and there is room for all.
 fn five_of(c: Candidate, bytes: &[u8], at: usize) -> Five
     requires { ⌜ (at ≤ length (now bytes)) × (c .held ≤ 991) × (c .words ≤ 32) ⌝ }
     ensures { λ r. ⌜ FiveIn c (now (bytes .entry)) at r ⌝ }
@@ -109,41 +112,25 @@ fn five_of(c: Candidate, bytes: &[u8], at: usize) -> Five
     if bytes.len() - at < 5 {
         return Five::Fewer;
     }
-    let one = line::six_of(bytes[at]);
-    let Six::Bits(a) = one else {
+    let five = joined(bytes, at);
+    if !all_data(five) {
         return Five::Fewer;
-    };
-    let two = line::six_of(bytes[at + 1]);
-    let Six::Bits(b) = two else {
-        return Five::Fewer;
-    };
-    let three = line::six_of(bytes[at + 2]);
-    let Six::Bits(d) = three else {
-        return Five::Fewer;
-    };
-    let four = line::six_of(bytes[at + 3]);
-    let Six::Bits(e) = four else {
-        return Five::Fewer;
-    };
-    let five = line::six_of(bytes[at + 4]);
-    let Six::Bits(f) = five else {
-        return Five::Fewer;
-    };
-    Five::Sixes(a, b, d, e, f)
+    }
+    Five::Thirty(thirty_of(five))
 }
 
-// Five times six bits more, of which the first four bring no frame to its end, and the hunt goes on: once, for what five times would find.
-fn burst(cells: &mut [u32; 40], c: Candidate, a: u32, b: u32, d: u32, e: u32, f: u32) -> Candidate
+// Thirty bits more, of whose five sixes the first four bring no frame to its end, and the hunt goes on: once, for what five times would find.
+fn burst(cells: &mut [u32; 40], c: Candidate, thirty: u32) -> Candidate
     requires { ⌜ (length (now cells) ≡ 40) × (c .end ≤ 1192) × (c .held ≤ c .end) × (c .held ≤ 991) × (c .words ≤ 32)
-        × (c .held + 24 < 32 + 30 * laterThan (c .words)) × (a < 64) × (b < 64) × (d < 64) × (e < 64) × (f < 64) ⌝ }
-    ensures { λ r. ⌜ (r ≡ manyTo (now (cells .entry)) c (a ∷ b ∷ d ∷ e ∷ f ∷ []))
-        × (now (cells .exit) ≡ manyCells (now (cells .entry)) c (a ∷ b ∷ d ∷ e ∷ f ∷ [])) ⌝ }
+        × (c .held + 24 < 32 + 30 * laterThan (c .words)) × (thirty < 2 ^ 30) ⌝ }
+    ensures { λ r. ⌜ (r ≡ manyTo (now (cells .entry)) c (sixesOf thirty))
+        × (now (cells .exit) ≡ manyCells (now (cells .entry)) c (sixesOf thirty)) ⌝ }
 {
     let words = c.words;
     let tally = c.tally;
     let held = c.held + 30;
     let end = c.end + 30;
-    put_five(cells, c.end, a, b, d, e, f);
+    put_five(cells, c.end, thirty);
     let left = seek(cells, end, held, words);
     if left < 32 + 30 * words {
         let undecided = Halt {
@@ -180,8 +167,8 @@ pub(crate) fn run(cells: &mut [u32; 40], from: Candidate, bytes: &[u8]) -> Ran
             };
         }
         let ahead = five_of(c, bytes, used);
-        if let Five::Sixes(a, b, d, e, f) = ahead {
-            c = burst(cells, c, a, b, d, e, f);
+        if let Five::Thirty(thirty) = ahead {
+            c = burst(cells, c, thirty);
             used += 5;
         } else {
             let line = line::six_of(bytes[used]);

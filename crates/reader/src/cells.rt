@@ -3,7 +3,8 @@ ghost use mathlib.Core.Path.{_≡_};
 ghost use Prim.Native.Nat.{_+_, _/_, _≤_, _<_, _%_, _^_};
 ghost use lib.ListN.{length, take, drop, getD};
 ghost use Rattle.bits.specs.Bits.{number};
-ghost use Rattle.reader.specs.Cells.{cellBits, pairAt, putCells, putFive, downCells, roomEnd, pushedCells};
+ghost use Rattle.reader.specs.Cells.{cellBits, pairAt, putCells, downCells, roomEnd, pushedCells};
+ghost use Rattle.reader.specs.Five.{putThirty};
 
 // A cell or a window as a wider number.
 pub(crate) fn as_u64(x: u32) -> u64
@@ -53,14 +54,13 @@ fn put(cells: &mut [u32; 40], end: usize, six: u32)
     cells[j + 1] = (both % 4294967296) as u32;
 }
 
-// Five times six bits put in from bit `end` on, as one number: the cells are those that `put` leaves five times.
-pub(crate) fn put_five(cells: &mut [u32; 40], end: usize, a: u32, b: u32, c: u32, d: u32, e: u32)
-    requires { ⌜ (length (now cells) ≡ 40) × (end ≤ 1192) × (a < 64) × (b < 64) × (c < 64) × (d < 64) × (e < 64) ⌝ }
-    ensures { λ _. ⌜ now (cells .exit) ≡ putFive (now (cells .entry)) end a b c d e ⌝ }
+// Thirty bits put in from bit `end` on: the cells are those that `put` leaves five times.
+pub(crate) fn put_five(cells: &mut [u32; 40], end: usize, thirty: u32)
+    requires { ⌜ (length (now cells) ≡ 40) × (end ≤ 1192) × (thirty < 2 ^ 30) ⌝ }
+    ensures { λ _. ⌜ now (cells .exit) ≡ putThirty (now (cells .entry)) end thirty ⌝ }
 {
     let j = end / 32;
     let off = (end % 32) as u32;
-    let thirty = (((a * 64 + b) * 64 + c) * 64 + d) * 64 + e;
     let kept = as_u64(cells[j]) >> (32 - off);
     let both = (kept * 1073741824 + as_u64(thirty)) << (34 - off);
     cells[(end + 24) / 32 + 1] = 0;

@@ -6,6 +6,7 @@ mod advance;
 mod cells;
 pub mod checks;
 pub mod division;
+mod five;
 mod hunt;
 pub mod rows;
 mod taking;

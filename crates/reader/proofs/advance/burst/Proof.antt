@@ -3,10 +3,10 @@ use borrow.Author.Needs.{needs}
 use denote.Ref.{now}
 use mathlib.Core.Path.{_≡_, sym, ap, subst, _∙_}
 use mathlib.Core.Bool.{false}
-use mathlib.Core.List.{[], _∷_}
-use Prim.Native.Nat.{_+_}
+use Prim.Native.Nat.{ℕ, _+_, _<_}
 use native.Mathlib.Omega.{arith}
 use lib.ListN.{length}
+use Rattle.reader.specs.Five.{sixAt, sixesOf}
 use Rattle.reader.specs.Hunting.{huntOf, GlancedAt}
 use Rattle.reader.specs.Reading.{movedTo, manyCells, manyTo}
 use Rattle.reader.specs.declared.hunt.Halt.{Halt}
@@ -22,27 +22,30 @@ module _ (c : tie.After-put-five) where
   abbrev start : tie.Start
   start = c .before .before .before .before .before
 
+  low : (k : ℕ) → sixAt k (start .args .thirty) < 64
+  low k = omega arith
+
   long : length (c .put-five .last .0) ≡ 40
   long =
       let a = start .args in
-      ap length (c .put-five .ensures) ∙ length-five (now (a .cells)) (a .c .end) (a .a) (a .b) (a .d) (a .e) (a .f) ∙ start .pre .0
+      ap length (c .put-five .ensures) ∙ length-five (now (a .cells)) (a .c .end) _ _ _ _ _ ∙ start .pre .0
 
   cells-are : c .put-five .last .0
-      ≡ manyCells (now (start .args .cells)) (start .args .c) (start .args .a ∷ start .args .b ∷ start .args .d ∷ start .args .e ∷ start .args .f ∷ [])
+      ≡ manyCells (now (start .args .cells)) (start .args .c) (sixesOf (start .args .thirty))
   cells-are =
       let a = start .args in
       let p = start .pre in
       c .put-five .ensures
-      ∙ sym (many-cells (now (a .cells)) (a .c) (p .0) (p .1) (p .2) (p .4) (p .5) (a .a) (a .b) (a .d) (a .e) (p .7) (p .8) (p .9) (a .f) (p .10))
+      ∙ sym (many-cells (now (a .cells)) (a .c) (p .0) (p .1) (p .2) (p .4) (p .5) _ _ _ _ (low 3) (low 2) (low 1) _ (low 0))
 
   moved-is : (halt : Halt)
       → halt ≡ huntOf (c .put-five .last .0) (start .args .c .end + 30) (start .args .c .held + 30) (start .args .c .words) false (start .args .c .tally)
       → movedTo (start .args .c .at) (start .args .c .end + 30) (start .args .c .held + 30) halt
-      ≡ manyTo (now (start .args .cells)) (start .args .c) (start .args .a ∷ start .args .b ∷ start .args .d ∷ start .args .e ∷ start .args .f ∷ [])
+      ≡ manyTo (now (start .args .cells)) (start .args .c) (sixesOf (start .args .thirty))
   moved-is halt e =
       let a = start .args in
       let p = start .pre in
-      sym (many-to (now (a .cells)) (a .c) (p .0) (p .1) (p .2) (p .4) (p .5) (a .a) (a .b) (a .d) (a .e) (p .7) (p .8) (p .9) (a .f) (p .10)
+      sym (many-to (now (a .cells)) (a .c) (p .0) (p .1) (p .2) (p .4) (p .5) _ _ _ _ (low 3) (low 2) (low 1) _ (low 0)
       _ (c .put-five .ensures) halt e)
 
 -- ---- the needs

@@ -1,33 +1,19 @@
 -- `five_of` meets its contract: what each byte carries, and the room for it. Assumes nothing.
 use borrow.Author.Needs.{needs}
+use borrow.Author.Tests.{not-false}
 use denote.Ref.{now}
-use mathlib.Core.Path.{sym, _∙_}
+use mathlib.Core.Path.{sym, ap, subst, _∙_}
 use mathlib.Core.List.{List}
 use Prim.Native.Nat.{ℕ, _+_, _*_, _≤_, _<_}
 use native.Mathlib.Omega.{arith}
-use lib.ListN.{length, getD}
-use Rattle.line.proofs.LineLaws.{six-bits}
-use Rattle.reader.specs.Reading.{later}
-use Rattle.reader.proofs.Bursts.{five-sixes}
+use lib.ListN.{length}
+use Rattle.reader.specs.Five.{allData, sixesIn}
+use Rattle.reader.specs.Reading.{SixesAt, later}
+use Rattle.reader.proofs.Bursts.{sixes-at}
 use Rattle.reader.proofs.advance.five_of.Statement.{statement}
 use Rattle.reader.proofs.advance.five_of.Tie as tie
 
--- ---- the places: where each of the five is known, where there are enough bytes, and where there is room
-
-abbrev four : tie.After-five → tie.After-four
-four c = c .before .before .before .before .before
-
-abbrev three : tie.After-four → tie.After-three
-three c = c .before .before .before .before .before
-
-abbrev two : tie.After-three → tie.After-two
-two c = c .before .before .before .before .before
-
-abbrev one : tie.After-two → tie.After-one
-one c = c .before .before .before .before .before
-
-abbrev enough : tie.After-one → tie.Else3
-enough c = c .before .before .before .before
+-- ---- the places: where there are enough bytes, and where there is room
 
 module _ (c : tie.Else3) where
   abbrev asked : tie.After-later
@@ -51,30 +37,20 @@ mul-if2 c = omega (arith, c .later .ensures .1)
 add-if2 : tie.Need-add-if2
 add-if2 c = omega (arith, c .later .ensures .1)
 
-returns-9 : tie.Need-returns-9
-returns-9 c =
-    let p5 = c .before in
-    let p4 = four p5 in
-    let p3 = three p4 in
-    let p2 = two p3 in
-    let p1 = one p2 in
-    let e = enough p1 in
+returns-5 : tie.Need-returns-5
+returns-5 c =
+    let told = c .before .before in
+    let made = told .before in
+    let e = made .before in
     let at = start e .args .at in
-    let first = six-bits (getD (bytes e) at 0) _ (sym (p1 .before .before .six-of .ensures) ∙ p1 .one .given .1) in
-    let second = six-bits (getD (bytes e) (at + 1) 0) _ (sym (p2 .before .before .six-of2 .ensures) ∙ p2 .two .given .1) in
-    let third = six-bits (getD (bytes e) (at + 2) 0) _ (sym (p3 .before .before .six-of3 .ensures) ∙ p3 .three .given .1) in
-    let fourth = six-bits (getD (bytes e) (at + 3) 0) _ (sym (p4 .before .before .six-of4 .ensures) ∙ p4 .four .given .1) in
-    let fifth = six-bits (getD (bytes e) (at + 4) 0) _ (sym (p5 .before .before .six-of5 .ensures) ∙ p5 .five .given .1) in
-    (full e .0, full e .1, five-sixes (bytes e) at _ _ _ _ _ (full e .2) first second third fourth fifth)
+    let same = made .joined .ensures .1 in
+    let all = ap allData (sym same) ∙ sym (told .all-data .ensures) ∙ not-false _ (c .before .if4 .left) in
+    let sixes = c .thirty-of .ensures .1 ∙ ap sixesIn same in
+    (full e .0, full e .1, c .thirty-of .ensures .0, subst (SixesAt (bytes e) at) (sym sixes) (sixes-at 5 (bytes e) at (full e .2) all))
 
 pub five-of-spec : {M : Type 1} → statement M
 five-of-spec =
     tie.close
     (tie.spec (λ c. search needs) (λ c κs. search needs) mul-if2 add-if2 (λ c. search needs) (λ c. search needs)
-    (λ c. search needs) (λ c. search needs) (λ c. search needs) (λ c κs. search needs) (λ c. search needs)
-    (λ c. search needs) (λ c. search needs) (λ c. search needs) (λ c. search needs) (λ c κs. search needs)
-    (λ c. search needs) (λ c. search needs) (λ c. search needs) (λ c. search needs) (λ c. search needs)
-    (λ c κs. search needs) (λ c. search needs) (λ c. search needs) (λ c. search needs) (λ c. search needs)
-    (λ c. search needs) (λ c κs. search needs) (λ c. search needs) (λ c. search needs) (λ c. search needs)
-    (λ c. search needs) (λ c. search needs) (λ c κs. search needs) (λ c. search needs) (λ c. search needs)
-    (λ c. search needs) returns-9)
+    (λ c. search needs) (λ c. search needs) (λ c κs. search needs) (λ c κs. search needs) (λ c. search needs)
+    (λ c κs. search needs) returns-5)

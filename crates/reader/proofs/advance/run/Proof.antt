@@ -83,7 +83,7 @@ burst-requires c κs =
     let k = h .inv .1 in
     let v = subst (FiveIn (h .c) (bytes turn) (h .used)) (there .ahead .given .1) (asked .five-of .ensures) in
     let room = room-free (h .c) k (turn .if1 .left) in
-    (h .inv .0, v .0, k .low, room, k .few, v .1, v .2 .3, v .2 .4 .3, v .2 .4 .4 .3, v .2 .4 .4 .4 .3, v .2 .4 .4 .4 .4 .3)
+    (h .inv .0, v .0, k .low, room, k .few, v .1, v .2)
 
 enough : (c : tie.After-ahead Inv-loop μ-loop)
     → head (c .before .before .before) .loop .used + 5 ≤ length (bytes (c .before .before .before))
@@ -91,7 +91,7 @@ enough c =
     let asked = c .before .before in
     let h = head (asked .before) .loop in
     let v = subst (FiveIn (h .c) (bytes (asked .before)) (h .used)) (c .ahead .given .1) (asked .five-of .ensures) in
-    omega (arith, v .2 .4 .4 .4 .4 .0)
+    omega (arith, v .3 .4 .4 .4 .4 .0)
 
 add-used : tie.Need-add-used Inv-loop μ-loop
 add-used c = omega (arith, enough (c .before .before .before))
@@ -110,10 +110,10 @@ loop-again c =
     let cells = c .burst .ensures .1 in
     let next = c .burst .ensures .0 in
     let quiet =
-    many-quiet (h .cells) (h .c) (h .inv .0) (v .0) (k .low) (k .few) (v .1) _ _ _ _ (v .2 .4 .3) (v .2 .4 .4 .3) (v .2 .4 .4 .4 .3) 0 in
+    many-quiet (h .cells) (h .c) (h .inv .0) (v .0) (k .low) (k .few) (v .1) _ _ _ _ (v .3 .4 .3) (v .3 .4 .4 .3) (v .3 .4 .4 .4 .3) 0 in
     let g =
     goes-many (whole turn) (bytes turn) _ (h .cells) (h .c) (h .used) (h .passed) (record { long = h .inv .0; fine = k; is = h .inv .4 })
-    (turn .if1 .left) (v .2) quiet in (
+    (turn .if1 .left) (v .3) quiet in (
       ap length cells ∙ g .long,
       subst Accepted (sym next) (g .fine),
       omega (arith, enough there),
