@@ -91,7 +91,7 @@ each-fine out Typed [] t e = tt
 each-fine out Typed (x ∷ es) t e =
     let s = both-false (out x) (anyOf out es) e in ((t .0, s .0), each-fine out Typed es (t .1) (s .1))
 
--- `out` refuses an entry when making and `reads` when reading; a layout without a range for reading has `λ e. false`, and its `listEntry`
+-- `out` refuses an entry when making and `reads` when reading; a layout without a range for reading has `λ e. false`
 module _ {A B : Type 0} (asked : Layout) (k : Coding A) (pattern most : ℕ) (out reads : A → Bool) (refuse : ℕ → B) (entry : A → B)
     (Typed : A → Type 0) (law : Faithful k (Fine Typed out))
     (sized : (c : ℕ) → 0 < c → c ≤ most → (c * span (k .widths) ≤ 744) × (entriesHeld (span (k .widths)) ((c * span (k .widths) + 23) / 24) ≡ c)) where

@@ -114,7 +114,7 @@ module _ {A : Type 0} (asked : Layout) (k : Coding A) (pattern most : ℕ) (out 
 
 -- ---- frames that hold a list
 
--- a layout without a range for reading has `λ e. false` for it: `listRanged` is then its `listEntry`, and `heldTo` the entry
+-- a layout without a range for reading has `λ e. false` for it: `heldTo` is then the entry
 module _ {A B : Type 0} (asked : Layout) (k : Coding A) (most : ℕ) (reads : A → Bool) (refuse : ℕ → B) (entry : A → B)
     (held : (c : ℕ) → 0 < c → c ≤ most → entriesHeld (span (k .widths)) ((c * span (k .widths) + 23) / 24) ≡ c) where
   -- READ: its count, and every entry by its range for reading

@@ -104,7 +104,7 @@ module _ (l : Layout) (h w : ℕ) (f : Frame) (i : ℕ) (s : Place) (is : s ≡ 
         ∙ ap (λ n. k .meant (fieldsAt (k .widths) n (frameBits f))) (sym at-is ∙ ap (λ n. h + i * n) (sym size))
 
 -- AN ENTRY BY NUMBER is the layout's: refused, or placed and read there, then held to its range; a layout without a range for reading has
--- `λ x. false` for it, and its `listEntry`
+-- `λ x. false` for it
 module _ {A B : Type 0} (l : Layout) (k : Coding A) (out : A → Bool) (refuse : ℕ → B) (entry : A → B) (f : Frame) (i : ℕ) (s : Place)
     (is : s ≡ placeAfter l 0 (span (k .widths)) f i) where
   abbrev given : A

@@ -27,11 +27,7 @@ module _ {A : Type 0} (asked : Layout) (k : Coding A) where
   abbrev pub listCount : Frame → Count
   listCount f = countIn asked (span (k .widths)) f
 
-  -- ENTRY: 5, 6, 7, 8, 9
-  abbrev pub listEntry : {B : Type 0} → (ℕ → B) → (A → B) → Frame → ℕ → B
-  listEntry refuse entry f i = inOrder (entryOrder asked (span (k .widths)) f i []) refuse (entry (entryIn k i (frameBits f)))
-
-  -- ENTRY of a layout that has a range for reading too: 5, 6, 7, 8, 9, 10
+  -- ENTRY, by a range for reading: 5, 6, 7, 8, 9, 10; of a layout that has none, `λ e. false`
   abbrev pub listRanged : {B : Type 0} → (A → Bool) → (ℕ → B) → (A → B) → Frame → ℕ → B
   listRanged out refuse entry f i =
       inOrder (entryOrder asked (span (k .widths)) f i ((out (entryIn k i (frameBits f)), 10) ∷ [])) refuse (entry (entryIn k i (frameBits f)))
