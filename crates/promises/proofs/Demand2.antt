@@ -41,7 +41,7 @@ use Rattle.writer.proofs.Wrote.{writes-back, unseen-answer, unseen-bytes}
 use Rattle.promises.specs.RecordLayouts.{listOf}
 use Rattle.promises.specs.Demand2.{Remade, ofList, ofObservations, ofGenerals, ofGeneralNull, ofPosition, ofNull, ofText}
 use Rattle.promises.specs.Demand2.{ListIsRead, WhatIsRead, ReadsBackEqual, MadeAnew, ItsOwnBits, Demand2}
-use Rattle.promises.proofs.RecordLayouts.{fifteen, owed-of}
+use Rattle.promises.proofs.RecordLayouts.{record-types, owed-of}
 use Rattle.promises.proofs.CarriesItsNumber.{carries-its-number, says-inj, none-told}
 use Rattle.record_observations.specs.declared.Edition.the-variants.{Gost}
 use Rattle.record_observations.specs.Observations.{countObservations, readEpoch, observationAt, makeObservations, saysEpochRead, saysObservationRead}
@@ -79,7 +79,7 @@ list-is-read L o = record {
 
 pub what-is-read : WhatIsRead
 what-is-read = record {
-  types = fifteen;
+  types = record-types;
   lists = λ l. list-is-read (listOf l) (owed-of l);
   observations = λ f c. (λ e. observations-held f c (count-told (countObservations f) c e), λ h. ap saysCount (observations-read Gost f c h .counts));
   epoch = λ f c h. ap saysEpochRead (observations-read Gost f c h .epoch) ∙ epoch-says (lateTime (epochIn f)) (epochIn f);

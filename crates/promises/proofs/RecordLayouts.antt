@@ -1,4 +1,4 @@
--- A type number has a layout other than plain exactly when it is one of the fifteen, and each plain list layout has what a layout owes. Assumes nothing.
+-- Exactly the types that have a record have a layout other than plain; and each plain list layout has what a layout owes. Assumes nothing.
 use mathlib.Core.Path.{_≡_, refl}
 use mathlib.Core.Bool.{Bool, true, false, not, _||_, cond}
 use Prim.Native.Nat.{ℕ}
@@ -18,9 +18,9 @@ owed-of ofCorrections = corrections-owed
 owed-of ofHealths = healths-owed
 
 -- type number by type number, in the order of the decision
-pub fifteen : (kind : ℕ) → otherLayout layout.Plain kind ≡ anyOf (eqb kind) recordTypes
+pub record-types : (kind : ℕ) → otherLayout layout.Plain kind ≡ anyOf (eqb kind) recordTypes
 unfolding otherLayout layoutOf
-fifteen kind =
+record-types kind =
     go (eqb kind 1) (eqb kind 9) (eqb kind 31) (eqb kind 34) (eqb kind 3) (eqb kind 32) (eqb kind 5) (eqb kind 33) (eqb kind 6) (eqb kind 16)
     (eqb kind 36) (eqb kind 18) (eqb kind 19) (eqb kind 41) (eqb kind 42)
   where

@@ -6,7 +6,7 @@ use Rattle.record_stages.specs.Lists.{ListLayout}
 use Rattle.record_corrections.specs.Corrections.{correctionLayout}
 use Rattle.record_healths.specs.Healths.{healthLayout}
 
--- THE FIFTEEN TYPES that have a record
+-- THE TYPES that have a record
 abbrev pub recordTypes : List ℕ
 recordTypes = 1 ∷ 9 ∷ 31 ∷ 34 ∷ 3 ∷ 32 ∷ 5 ∷ 33 ∷ 6 ∷ 16 ∷ 36 ∷ 18 ∷ 19 ∷ 41 ∷ 42 ∷ []
 
