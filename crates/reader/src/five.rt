@@ -1,4 +1,4 @@
-// Five bytes of the line at once, as one number: their thirty line bits.
+// Five bytes of the line at once, as one number: their thirty line bits. `line::six_of` has the six of one byte, a step for each bit.
 ghost use mathlib.Core.Path.{_≡_};
 ghost use Prim.Native.Nat.{_+_, _^_, _≤_, _<_};
 ghost use lib.ListN.{length};
