@@ -60,7 +60,8 @@ module _ (cells : List ℕ) (end bit k : ℕ) (fails : List ℕ) (len : length f
           e = eqb-true (x % 30) (bit % 30) q
 
           low : x < bit + 30 * k
-          low = subst (λ m. x < m) (ap (λ i. getD (set fails (bit % 30) (bit + 30 * k)) i 0) e ∙ getD-set-same fails (bit % 30) (bit + 30 * k) 0 (omega arith)) b
+          low =
+              subst (λ m. x < m) (ap (λ i. getD (set fails (bit % 30) (bit + 30 * k)) i 0) e ∙ getD-set-same fails (bit % 30) (bit + 30 * k) 0 (omega arith)) b
 
           at : x ≡ bit + 30 * ((x - bit) / 30)
           at = omega (arith, e)

@@ -1,5 +1,5 @@
--- THE LISTS of the library for C and Rust, one for each plain list of the package, and DEMAND 1 of their calls, three for each. What is said of a list stands over the list
--- (CarriesItsNumber, ChangesNeither, ReadsBack). Assumes nothing.
+-- THE LISTS of the library for C and Rust, one for each plain list of the package, and DEMAND 1 of their calls, three for each. What is said of a
+-- list stands over the list (CarriesItsNumber, ChangesNeither, ReadsBack). Assumes nothing.
 use mathlib.Core.List.{List}
 use Prim.Native.Nat.{ℕ}
 use denote.Ref.{now}

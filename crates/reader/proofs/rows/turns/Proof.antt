@@ -131,7 +131,8 @@ take-row-requires : tie.Need-take-row-requires Inv-loop μ-loop
 take-row-requires c κs =
     let found = c .before .before in
     let r = fed found in
-    (sound r .long, sound r .fine .top, sound r .fine .low, waits-stands (ran r .cells) (ran r .candidate) (waits found), omega (arith, inside r, head r .loop .inv .5))
+    let stands = waits-stands (ran r .cells) (ran r .candidate) (waits found) in
+    (sound r .long, sound r .fine .top, sound r .fine .low, stands, omega (arith, inside r, head r .loop .inv .5))
 
 add-count : tie.Need-add-count Inv-loop μ-loop
 add-count c =

@@ -25,7 +25,8 @@ returns-2 c =
     let r = c .before .before .before in
     let a = r .before .before .args in
     counts-refused (now (a .count))
-    (ap (countedIn (a .layout) (a .head) (a .width)) (frame-refused (now (a .frame)) (r .recall .result) (r .recall .ensures) (sym (c .before .answer .given .1))))
+    (ap (countedIn (a .layout) (a .head) (a .width))
+    (frame-refused (now (a .frame)) (r .recall .result) (r .recall .ensures) (sym (c .before .answer .given .1))))
 
 pub count-at-spec : {M : Type 1} → statement M
 count-at-spec =

@@ -28,7 +28,8 @@ module _ (c : tie.After-wider) where
   first : c .wider .result ≡ getD cells (start .args .k) 0
   first =
       c .wider .ensures .0
-      ∙ cell-at (now (start .args .bytes)) (start .args .k) (c .before .number-at .result) (startSize + 4 * start .args .k) (omega (arith, start .pre .1, start .pre .2))
+      ∙ cell-at (now (start .args .bytes)) (start .args .k) (c .before .number-at .result) (startSize + 4 * start .args .k)
+      (omega (arith, start .pre .1, start .pre .2))
       (omega arith) (c .before .number-at .ensures)
 
 returns : tie.Need-returns
@@ -52,7 +53,8 @@ module _ (c : tie.After-with-six) where
       let a = start before .args in
       c .with-six .ensures
       ∙ ap (λ n. putPair n (a .end % 32) (a .six))
-      (cell-at (now (a .bytes)) (a .end / 32) (c .before .number-at3 .result) (startSize + 4 * (a .end / 32)) (omega (arith, start before .pre .2)) (omega arith)
+      (cell-at (now (a .bytes)) (a .end / 32) (c .before .number-at3 .result) (startSize + 4 * (a .end / 32))
+      (omega (arith, start before .pre .2)) (omega arith)
       (c .before .number-at3 .ensures))
 
 returns-2 : tie.Need-returns-2

@@ -14,4 +14,5 @@ pub every-system-spec : {M : Type 1} → statement M
 every-system-spec =
     tie.close
     (tie.spec Inv-loop μ-loop (λ c. search needs) (λ c κs. search needs) (λ c. tt) (λ c. search needs) (λ c. search needs)
-    (λ c κs. search needs) (λ c κs. search needs) (λ c. search needs) (λ c. search needs) (λ c. tt) (λ c. search needs) (λ c κs. search needs) (λ c. search needs))
+    (λ c κs. search needs) (λ c κs. search needs) (λ c. search needs) (λ c. search needs) (λ c. tt) (λ c. search needs)
+    (λ c κs. search needs) (λ c. search needs))
