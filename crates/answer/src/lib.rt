@@ -1,1 +1,3 @@
 // Answers and orders of refusals: definitions in specs/, laws in proofs/.
+#![tactic(auto)]
+

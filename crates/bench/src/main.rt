@@ -1,10 +1,12 @@
 // The reader's speed: standard input is fed a hundred times over, each time from one byte further on, and every frame is taken. With the argument
 // `all` it goes in by `feed_all`, with `each` byte by byte by `feed`, with none in both ways. Written are the frames of all rounds.
+#![tactic(auto)]
+
 use libc::{STDIN_FILENO, STDOUT_FILENO};
 use reader::Reader;
 
 // A reader, and how many frames it has handed out.
-#[derive(Drop)]
+#[derive(Clone, Copy)]
 struct Count {
     reader: Reader,
     frames: u64,

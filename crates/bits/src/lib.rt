@@ -1,1 +1,3 @@
 // Lists of bits and the numbers that they write: definitions in specs/, laws in proofs/.
+#![tactic(auto)]
+

@@ -1,4 +1,6 @@
 // Frames by value: the station's state, the header, the data words, and the checks that every call on a frame shares.
+#![tactic(auto)]
+
 mod code;
 mod outside;
 
@@ -13,7 +15,7 @@ use crate::code::{FACTORS, code_of};
 use crate::outside::{any_from, carried_outside, header_outside, state_outside};
 
 // The station's state: its UDRE factor in whole hundredths, not monitored, or not working.
-#[derive(Drop)]
+#[derive(Clone, Copy)]
 pub enum State {
     Factor(u8),
     Unmonitored,
@@ -21,7 +23,7 @@ pub enum State {
 }
 
 // The header without N, which stands beside it in the frame.
-#[derive(Drop)]
+#[derive(Clone, Copy)]
 pub struct Header {
     pub kind: u8,
     pub station: u16,
@@ -31,14 +33,14 @@ pub struct Header {
 }
 
 // The two line bits before a word, each 0 or 1. Either value occurs on a sound line: they do not tell whether it is turned.
-#[derive(Drop)]
+#[derive(Clone, Copy)]
 pub struct Carried {
     pub d29: u8,
     pub d30: u8,
 }
 
 // A frame: the two bits before word 1; N data words, d1 of each in bit 23; the words past N are 0.
-#[derive(Drop)]
+#[derive(Clone, Copy)]
 pub struct Frame {
     pub header: Header,
     pub carried: Carried,
@@ -47,35 +49,35 @@ pub struct Frame {
 }
 
 // A health code, or the refusal's number.
-#[derive(Drop)]
+#[derive(Clone, Copy)]
 pub enum HealthCode {
     Code(u8),
     Refused(u8),
 }
 
 // The data of words 1 and 2, or the refusal's number.
-#[derive(Drop)]
+#[derive(Clone, Copy)]
 pub enum HeaderWords {
     Words(u32, u32),
     Refused(u8),
 }
 
 // Whether a value is within its widths; outside them is refusal 5.
-#[derive(Drop)]
+#[derive(Clone, Copy)]
 pub enum Widths {
     Within,
     Outside,
 }
 
 // Whether a Z count is within the hour; past it is refusal 7.
-#[derive(Drop)]
+#[derive(Clone, Copy)]
 pub enum Clock {
     Hour,
     Late,
 }
 
 // What a type number says about the data words; two types have a list or are null, by their N: 34, and 42 of the general ones.
-#[derive(Drop)]
+#[derive(Clone, Copy)]
 pub enum Layout {
     Correction,
     CorrectionOrNull,
@@ -89,7 +91,7 @@ pub enum Layout {
 }
 
 // A system of satellites.
-#[derive(Drop)]
+#[derive(Clone, Copy)]
 pub enum System {
     Gps,
     Glonass,

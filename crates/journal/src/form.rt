@@ -5,7 +5,7 @@ ghost use Rattle.journal.specs.Bytes.{bytes_of, word_in};
 ghost use Rattle.journal.specs.Forms.{mark, unmarked, start_by};
 
 // N of a whole record, or the refusal's number.
-#[derive(Drop)]
+#[derive(Clone, Copy)]
 pub(crate) enum Start {
     N(usize),
     Refused(u8),

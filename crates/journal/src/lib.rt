@@ -1,4 +1,6 @@
 // The journal: frames kept as records of bytes, and read back.
+#![tactic(auto)]
+
 mod form;
 mod words;
 
@@ -14,21 +16,21 @@ use crate::words::{WORDS, WORDS_SIZE, live_in, put_live};
 use frame::{Frame, HeaderWords, Widths};
 
 // The length of the record that was written, or the refusal's number.
-#[derive(Drop)]
+#[derive(Clone, Copy)]
 pub enum Kept {
     Done(usize),
     Refused(u8),
 }
 
 // The length of the record that was read, or the refusal's number.
-#[derive(Drop)]
+#[derive(Clone, Copy)]
 pub enum Found {
     Record(usize),
     Refused(u8),
 }
 
 // What was found, and its frame; beside a refusal, the blank one.
-#[derive(Drop)]
+#[derive(Clone, Copy)]
 pub struct Recalled {
     pub answer: Found,
     pub frame: Frame,

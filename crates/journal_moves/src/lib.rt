@@ -1,4 +1,6 @@
 // Records of one form as records of the other: one at a time, and as many of a piece of a journal as fit.
+#![tactic(auto)]
+
 ghost use Rattle.std.specs.Prelude.{◌≡◌, ◌≤◌, length};
 ghost use Rattle.journal_moves.specs.Moving.{moved_by, moved_to, piece_by, piece_to};
 ghost use Rattle.journal_moves.specs.declared.Way.TheVariants.{New, Old};
@@ -6,28 +8,28 @@ ghost use Rattle.journal_moves.specs.declared.Way.TheVariants.{New, Old};
 use journal::{Found, Kept};
 
 // The form that records are moved to: the new one keeps the words, the old one the data.
-#[derive(Drop)]
+#[derive(Clone, Copy)]
 pub enum Way {
     New,
     Old,
 }
 
 // How many bytes were read and how many written, or the refusal's number.
-#[derive(Drop)]
+#[derive(Clone, Copy)]
 pub enum Moved {
     Done { read: usize, written: usize },
     Refused(u8),
 }
 
 // Why a run stopped: at the end of the bytes, or at a record, with the number that refuses it.
-#[derive(Drop)]
+#[derive(Clone, Copy)]
 pub enum Stop {
     End,
     At(u8),
 }
 
 // How far a run went: the bytes read, which are whole records, and the bytes written for them.
-#[derive(Drop)]
+#[derive(Clone, Copy)]
 pub struct Piece {
     pub read: usize,
     pub written: usize,

@@ -1,11 +1,13 @@
 // `keep < line > journal` keeps every frame of a line with its words, as soon as it is handed out.
+#![tactic(auto)]
+
 use frame::Frame;
 use journal::Kept;
 use libc::{STDERR_FILENO, STDIN_FILENO, STDOUT_FILENO};
 use reader::{Answer, Reader};
 
 // How a step of the run ended: it goes on, the input is at its end, or a call of the system failed.
-#[derive(Drop)]
+#[derive(Clone, Copy)]
 enum Step {
     More,
     End,
@@ -13,7 +15,7 @@ enum Step {
 }
 
 // What a step left.
-#[derive(Drop)]
+#[derive(Clone, Copy)]
 struct Stepped {
     step: Step,
     reader: Reader,

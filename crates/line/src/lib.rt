@@ -1,11 +1,13 @@
 // The 6-of-8 form: a byte of the line and the six line bits that it carries, the lowest sent first.
+#![tactic(auto)]
+
 ghost use Rattle.std.specs.Prelude.{◌≡◌, reverse, ◌<◌};
 ghost use Rattle.bits.specs.Bits.{bits, number};
 ghost use Rattle.line.specs.Line.{byte_of};
 ghost use Rattle.line.specs.Answer.{six_of};
 
 // The six line bits of a byte as a number, the first sent highest; or the refusal's number.
-#[derive(Drop)]
+#[derive(Clone, Copy)]
 pub enum Six {
     Bits(u32),
     Refused(u8),

@@ -1,9 +1,11 @@
 // `list < stream` prints what the line said: a line for each frame, and two lines of totals.
+#![tactic(auto)]
+
 use libc::{STDERR_FILENO, STDIN_FILENO, STDOUT_FILENO};
 use listing::Listing;
 
 // How a step of the run ended: it goes on, the input is at its end, or a call of the system failed.
-#[derive(Drop)]
+#[derive(Clone, Copy)]
 enum Step {
     More,
     End,
@@ -11,7 +13,7 @@ enum Step {
 }
 
 // What a step left.
-#[derive(Drop)]
+#[derive(Clone, Copy)]
 struct Stepped {
     step: Step,
     listing: Listing,

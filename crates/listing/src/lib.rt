@@ -1,4 +1,6 @@
 // What a technician reads: a line for each frame, and two lines of totals.
+#![tactic(auto)]
+
 ghost use Rattle.std.specs.Prelude.{◌≡◌, ◌+◌, ◌*◌, ◌≤◌, length};
 ghost use Rattle.std.proofs.lemmas.List.Edits.{sets};
 ghost use Rattle.listing.specs.Listing.{begun, fed_on, handed_on, ended_on, lines_of, lined_by, line_room, total_lines};
@@ -12,7 +14,7 @@ use printing::Printed;
 use reader::{Answer, Reader};
 
 // A reader and the running totals, each modulo 2^64: frames handed out, bytes read, bytes that carry no bit.
-#[derive(Drop)]
+#[derive(Clone, Copy)]
 pub struct Listing {
     pub reader: Reader,
     pub frames: u64,
@@ -21,7 +23,7 @@ pub struct Listing {
 }
 
 // What a call left: bytes of the input used, bytes of text written at the start of the output.
-#[derive(Drop)]
+#[derive(Clone, Copy)]
 pub struct Listed {
     pub answer: Answer,
     pub used: usize,
@@ -30,14 +32,14 @@ pub struct Listed {
 }
 
 // Bytes fed, with the totals.
-#[derive(Drop)]
+#[derive(Clone, Copy)]
 pub struct Fed {
     pub used: usize,
     pub listing: Listing,
 }
 
 // How far the lines went.
-#[derive(Drop)]
+#[derive(Clone, Copy)]
 pub struct Lined {
     pub used: usize,
     pub written: usize,

@@ -2,7 +2,7 @@
 use mender::Step;
 
 // Where the run is, what it has counted, and how many bytes the stretch passed over behind it has.
-#[derive(Drop)]
+#[derive(Clone, Copy)]
 pub(crate) struct Course {
     pub at: u64,
     pub searching: bool,

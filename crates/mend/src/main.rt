@@ -1,6 +1,8 @@
 // `mend IN OUT` mends the journal IN, which keeps the words, and writes what came of it to the new file OUT. IN is never changed: OUT must not be
 // there yet. Standard output has a line for each byte that changed, for each record that is lost and for each stretch of bytes passed over while
 // searching, and a last line of totals.
+#![tactic(auto)]
+
 mod course;
 mod progress;
 mod report;

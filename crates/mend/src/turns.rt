@@ -6,14 +6,14 @@ use crate::window::{mend_window, move_down};
 use libc::STDERR_FILENO;
 
 // How a turn ended: the input goes on, it is at its end, or a call of the system failed; and how many bytes are kept for the next one.
-#[derive(Drop)]
+#[derive(Clone, Copy)]
 enum Reading {
     More,
     End,
     Failed,
 }
 
-#[derive(Drop)]
+#[derive(Clone, Copy)]
 struct Turn {
     reading: Reading,
     kept: usize,

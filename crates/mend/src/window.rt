@@ -7,7 +7,7 @@ use libc::STDOUT_FILENO;
 const LONGEST: usize = 135;
 
 // What a piece left: how many of its bytes were dealt with.
-#[derive(Drop)]
+#[derive(Clone, Copy)]
 pub(crate) struct Piece {
     pub used: usize,
     pub course: Course,

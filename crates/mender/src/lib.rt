@@ -1,4 +1,6 @@
 // The journal mender: a record with turned bits is put back where one bit of a word is turned; what can't be is reported and left alone.
+#![tactic(auto)]
+
 ghost use Rattle.std.specs.Prelude.{◌≡◌, ◌+◌, ◌*◌, ◌≤◌, false, ◌++◌, length, drop};
 ghost use Rattle.std.proofs.lemmas.List.Edits.{sets};
 ghost use Rattle.journal.specs.Forms.{unmarked};
@@ -16,7 +18,7 @@ use crate::record::Extent;
 use journal::Found;
 
 // What a step finds: the end, a record of so many bytes that is whole or lost, one cut short or without an N, or a byte to pass over.
-#[derive(Drop)]
+#[derive(Clone, Copy)]
 pub enum Step {
     End,
     Whole(usize),
@@ -27,7 +29,7 @@ pub enum Step {
 }
 
 // Where the step after one is: so many bytes on, whether it searches for a mark, and whether the run has ended.
-#[derive(Drop)]
+#[derive(Clone, Copy)]
 pub struct Next {
     pub on: usize,
     pub searching: bool,
@@ -35,14 +37,14 @@ pub struct Next {
 }
 
 // Whether the call was refused.
-#[derive(Drop)]
+#[derive(Clone, Copy)]
 pub enum Answer {
     Done,
     Refused(u8),
 }
 
 // What a call answers: the step, and how many bytes of report it wrote.
-#[derive(Drop)]
+#[derive(Clone, Copy)]
 pub struct Mended {
     pub answer: Answer,
     pub step: Step,

@@ -8,7 +8,7 @@ ghost use Rattle.mender.specs.Records.{count_of, extent_of, record_for};
 use mender_words::MendedWord;
 
 // N of a record whose bytes are all there; or why there is none.
-#[derive(Drop)]
+#[derive(Clone, Copy)]
 pub(crate) enum Extent {
     N(usize),
     Cut,

@@ -1,4 +1,6 @@
 // The mender's word: one turned bit of a kept window is turned back.
+#![tactic(auto)]
+
 ghost use Rattle.std.specs.Prelude.{◌≡◌, true, ◌-◌, ◌^◌, ◌<◌};
 ghost use Rattle.bits.specs.Bits.{bits, odd};
 ghost use Rattle.mender_words.specs.Words.{place_of, mended_by, mended_to};
@@ -6,7 +8,7 @@ ghost use Rattle.mender_words.specs.Words.{place_of, mended_by, mended_to};
 use word::Tested;
 
 // What mending finds: a window that passes, one with a bit turned back, or one that can't be mended.
-#[derive(Drop)]
+#[derive(Clone, Copy)]
 pub enum MendedWord {
     Sound,
     Mended(u32),

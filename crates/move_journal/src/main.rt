@@ -1,4 +1,6 @@
 // `move_journal new < journal > journal` moves records that keep the data to the form that keeps the words, `move_journal old` moves them back.
+#![tactic(auto)]
+
 ghost use Rattle.std.specs.Prelude.{◌≡◌, ◌≤◌, length};
 
 use journal_moves::{Stop, Way};
@@ -8,14 +10,14 @@ use libc::{STDERR_FILENO, STDIN_FILENO, STDOUT_FILENO};
 const LONGEST: usize = 135;
 
 // How a piece ended: the next may follow, or the run is over.
-#[derive(Drop)]
+#[derive(Clone, Copy)]
 enum Step {
     More,
     Over,
 }
 
 // What a piece left: how many of its bytes are moved.
-#[derive(Drop)]
+#[derive(Clone, Copy)]
 struct Stepped {
     step: Step,
     read: usize,

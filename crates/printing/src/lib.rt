@@ -1,10 +1,12 @@
 // Numbers as text, in ASCII, put into a lent buffer: alone or behind a label; and of a signed number what stands behind its sign.
+#![tactic(auto)]
+
 ghost use Rattle.std.specs.Prelude.{◌≡◌, ◌++◌, ◌+◌, ◌≤◌, ltb, length};
 ghost use Rattle.std.proofs.lemmas.List.Edits.{sets};
 ghost use Rattle.printing.specs.Printing.{magnitude_of, last_digits, digits_up_to, decimal, printed_by, printed_to};
 
 // What putting text into a buffer answers: the place after the text, or the refusal's number.
-#[derive(Drop)]
+#[derive(Clone, Copy)]
 pub enum Printed {
     At(usize),
     Refused(u8),

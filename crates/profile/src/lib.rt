@@ -1,5 +1,7 @@
 // The small-beacon profile of one harbour group: types 3, 5, 6, 9 and 16 alone, of type 9 at most three satellites and none twice. A checker
 // of frames, and a sender's side that cuts a list of corrections into such frames.
+#![tactic(auto)]
+
 mod arms;
 mod cuts;
 mod satellites;
@@ -18,21 +20,21 @@ use record_corrections::Correction;
 use record_stages::Making;
 
 // Whether a frame is in the profile, or the refusal's number.
-#[derive(Drop)]
+#[derive(Clone, Copy)]
 pub enum Profile {
     Inside,
     Refused(u8),
 }
 
 // How many frames a list is cut into, or the refusal's number.
-#[derive(Drop)]
+#[derive(Clone, Copy)]
 pub enum Cutting {
     Frames(usize),
     Refused(u8),
 }
 
 // The frames of a list, in order; behind them, and where cutting is refused, blank frames.
-#[derive(Drop)]
+#[derive(Clone, Copy)]
 pub struct Cut {
     pub answer: Cutting,
     pub frames: [Frame; 6],

@@ -10,7 +10,7 @@ use crate::hunt::{Glanced, Halt, glance, hunt, seek};
 use line::Six;
 
 // What a run over bytes left beside the cells.
-#[derive(Drop)]
+#[derive(Clone, Copy)]
 pub(crate) struct Ran {
     pub candidate: Candidate,
     pub used: usize,
@@ -18,7 +18,7 @@ pub(crate) struct Ran {
 }
 
 // The thirty bits of five bytes, or that there are fewer to put in at once.
-#[derive(Drop)]
+#[derive(Clone, Copy)]
 pub(crate) enum Five {
     Thirty(u32),
     Fewer,

@@ -5,7 +5,7 @@ ghost use Rattle.reader.specs.Reading.{past_of, ready_of};
 use crate::Candidate;
 
 // Whether a reader takes bits.
-#[derive(Drop)]
+#[derive(Clone, Copy)]
 pub(crate) enum Ready {
     Yes,
     Refused(u8),

@@ -13,7 +13,7 @@ use word::Tested;
 
 // Where a hunt stops: the bits left from two before that position on, how many of its words are known right (0 where a frame stands), whether a
 // frame stands there, and the positions counted so far.
-#[derive(Drop)]
+#[derive(Clone, Copy)]
 pub struct Halt {
     pub left: usize,
     pub words: usize,
@@ -22,14 +22,14 @@ pub struct Halt {
 }
 
 // A word is right, or it rules its position out and these are the counters with it.
-#[derive(Drop)]
+#[derive(Clone, Copy)]
 pub(crate) enum Looked {
     Right,
     Wrong(Tally),
 }
 
 // Where the hunt stops, or that a glance does not tell.
-#[derive(Drop)]
+#[derive(Clone, Copy)]
 pub(crate) enum Glanced {
     Stops(Halt),
     Open,

@@ -1,4 +1,6 @@
 // The reader: line bytes in, frames out. No slip, turned line or false start costs a frame that stands.
+#![tactic(auto)]
+
 ghost use Rattle.std.specs.Prelude.{◌≡◌};
 ghost use Rattle.reader.specs.Reading.{started, fed_by, fed_all_by, ended_by, refused_taking, taken_by};
 
@@ -19,7 +21,7 @@ use line::Six;
 use taking::standing;
 
 // Positions that a word ruled out, by the ones in the remainder of that word: an odd number of them, or an even number; each modulo 2^32.
-#[derive(Drop)]
+#[derive(Clone, Copy)]
 pub struct Tally {
     pub odd: u32,
     pub even: u32,
@@ -28,7 +30,7 @@ pub struct Tally {
 // The position that is looked at: the bits held are the `held` ones before bit `end` of the buffer and start two bits before it; `words` of its
 // words are known right; `at` is its position in the stream modulo 2^32; `waits` says that a frame stands there and waits to be taken;
 // `tally` counts positions before it.
-#[derive(Drop)]
+#[derive(Clone, Copy)]
 pub struct Candidate {
     pub end: usize,
     pub held: usize,
@@ -39,7 +41,7 @@ pub struct Candidate {
 }
 
 // The bits not yet decided, the position that is looked at, and whether the input has ended.
-#[derive(Drop)]
+#[derive(Clone, Copy)]
 pub struct Reader {
     pub cells: [u32; 40],
     pub candidate: Candidate,
@@ -47,21 +49,21 @@ pub struct Reader {
 }
 
 // A call was carried out, or the refusal's number.
-#[derive(Drop)]
+#[derive(Clone, Copy)]
 pub enum Answer {
     Done,
     Refused(u8),
 }
 
 // What feeding a byte, or ending, left.
-#[derive(Drop)]
+#[derive(Clone, Copy)]
 pub struct Next {
     pub answer: Answer,
     pub reader: Reader,
 }
 
 // What feeding bytes left: how many were used, and how many of those carry no bit.
-#[derive(Drop)]
+#[derive(Clone, Copy)]
 pub struct FedAll {
     pub answer: Answer,
     pub used: usize,
@@ -70,7 +72,7 @@ pub struct FedAll {
 }
 
 // What taking gave: the frame and the position of its first bit modulo 2^32.
-#[derive(Drop)]
+#[derive(Clone, Copy)]
 pub struct Taken {
     pub answer: Answer,
     pub at: u32,

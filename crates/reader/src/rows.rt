@@ -19,7 +19,7 @@ use frame::Carried;
 pub const ROW: usize = 4 + 2 + 102;
 
 // What reading rows left: how many bytes were used, how many of those carry no bit, and how many rows were put.
-#[derive(Drop)]
+#[derive(Clone, Copy)]
 pub struct RowsRead {
     pub answer: Answer,
     pub used: usize,
@@ -29,7 +29,7 @@ pub struct RowsRead {
 }
 
 // What turns left beside the cells and the rows.
-#[derive(Drop)]
+#[derive(Clone, Copy)]
 pub(crate) struct TurnsMade {
     pub candidate: Candidate,
     pub used: usize,

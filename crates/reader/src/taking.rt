@@ -12,7 +12,7 @@ use crate::hunt::n_in;
 use frame::{Carried, Frame, Header};
 
 // Whether a frame stands, and that frame; a blank where none does.
-#[derive(Drop)]
+#[derive(Clone, Copy)]
 pub(crate) struct There {
     pub stands: bool,
     pub frame: Frame,

@@ -1,4 +1,6 @@
 // Corrections, 40 bits a satellite, 1 to 18 satellites: types 1 and 9 of GPS, 31 and 34 of GLONASS. The last eight bits alone differ.
+#![tactic(auto)]
+
 ghost use Rattle.std.specs.Prelude.{◌≡◌, [], ◌∷◌, map, ◌+◌, ◌≤◌, take};
 ghost use Rattle.bits.specs.Fields.{fields_at};
 ghost use Rattle.bits.specs.Rows.{data_bits};
@@ -13,14 +15,14 @@ use record_fields::Rows;
 use record_stages::{Count, Made, Place, Ranged};
 
 // What the last eight bits say: the issue of GPS data, or the change bit and the time tb of GLONASS data.
-#[derive(Drop)]
+#[derive(Clone, Copy)]
 pub enum Issue {
     Iod(u8),
     Age(u8, u8),
 }
 
 // One satellite's correction: PRC and RRC as sent, the stop numbers too.
-#[derive(Drop)]
+#[derive(Clone, Copy)]
 pub struct Correction {
     pub scale: u8,
     pub udre: u8,
@@ -31,7 +33,7 @@ pub struct Correction {
 }
 
 // A correction, or the refusal's number.
-#[derive(Drop)]
+#[derive(Clone, Copy)]
 pub enum CorrectionRead {
     Entry(Correction),
     Refused(u8),

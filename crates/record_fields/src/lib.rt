@@ -1,4 +1,6 @@
 // Fields in data words: read at any bit or row by row, and put one after the other by a packer; two's complement, and satellite numbers.
+#![tactic(auto)]
+
 mod number;
 pub mod table;
 
@@ -13,7 +15,7 @@ use crate::number::{code, pow, signed, wide};
 use crate::table::{push_all, row_out};
 
 // Words, how many of them are whole, and the bits of the next one: `held` of them, as a number.
-#[derive(Drop)]
+#[derive(Clone, Copy)]
 pub struct Packer {
     pub words: [u32; 31],
     pub whole: usize,
@@ -22,7 +24,7 @@ pub struct Packer {
 }
 
 // Rows put one after the other, and whether a value of them was outside its range.
-#[derive(Drop)]
+#[derive(Clone, Copy)]
 pub struct Rows {
     pub packer: Packer,
     pub out: bool,

@@ -1,5 +1,7 @@
 // General corrections, types 41 and 42: a head of 13 bits, then 32 bits a satellite, or 44 with its ionosphere delay, up to 22 or 16
 // satellites. Type 42 with one data word is a null frame.
+#![tactic(auto)]
+
 mod rows;
 mod stages;
 
@@ -17,7 +19,7 @@ use frame::{Clock, Frame, Header, Layout, Widths};
 use record_stages::{Asked, Count, Made, Making, Place, Size};
 
 // The head: system, signal, ephemeris type, period of use, and whether every satellite has its ionosphere delay.
-#[derive(Drop)]
+#[derive(Clone, Copy)]
 pub struct GeneralHead {
     pub system: u8,
     pub signal: u8,
@@ -27,7 +29,7 @@ pub struct GeneralHead {
 }
 
 // One satellite's part; without ionosphere its delay is 0.
-#[derive(Drop)]
+#[derive(Clone, Copy)]
 pub struct General {
     pub satellite: u8,
     pub udre: u8,
@@ -37,35 +39,35 @@ pub struct General {
 }
 
 // The head of a frame, or the refusal's number.
-#[derive(Drop)]
+#[derive(Clone, Copy)]
 pub enum HeadRead {
     Head(GeneralHead),
     Refused(u8),
 }
 
 // A satellite's part, or the refusal's number.
-#[derive(Drop)]
+#[derive(Clone, Copy)]
 pub enum GeneralRead {
     Entry(General),
     Refused(u8),
 }
 
 // A null frame's N and system, or the refusal's number.
-#[derive(Drop)]
+#[derive(Clone, Copy)]
 pub enum GeneralNullRead {
     Null(usize, u8),
     Refused(u8),
 }
 
 // Whether a system is one of the four; another one is refusal 23.
-#[derive(Drop)]
+#[derive(Clone, Copy)]
 enum Known {
     Listed,
     Other,
 }
 
 // The width of the delay in a list of a known system, or the refusal's number.
-#[derive(Drop)]
+#[derive(Clone, Copy)]
 enum Staged {
     List(u32),
     Refused(u8),

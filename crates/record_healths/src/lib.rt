@@ -1,4 +1,6 @@
 // Satellite health, one word a satellite, 1 to 31 satellites: type 5 of GPS, 33 of GLONASS. Three bits alone say something else.
+#![tactic(auto)]
+
 ghost use Rattle.std.specs.Prelude.{◌≡◌, map, ◌+◌, ◌≤◌, take};
 ghost use Rattle.bits.specs.Fields.{fields_at};
 ghost use Rattle.bits.specs.Rows.{data_bits};
@@ -11,14 +13,14 @@ use record_fields::Rows;
 use record_stages::{Count, Made, Place};
 
 // What the three health bits say: a code of GPS, or the data health of GLONASS and two reserved bits.
-#[derive(Drop)]
+#[derive(Clone, Copy)]
 pub enum Condition {
     Code(u8),
     Data(u8, u8),
 }
 
 // One satellite's health: the codes as sent, reserved bits too.
-#[derive(Drop)]
+#[derive(Clone, Copy)]
 pub struct SatelliteHealth {
     pub reserved: u8,
     pub satellite: u8,
@@ -33,7 +35,7 @@ pub struct SatelliteHealth {
 }
 
 // One satellite's health, or the refusal's number.
-#[derive(Drop)]
+#[derive(Clone, Copy)]
 pub enum HealthRead {
     Entry(SatelliteHealth),
     Refused(u8),

@@ -1,4 +1,6 @@
 // The null frame, types 6 and 34, a frame without fields; its record is N: no data word or one, which is filled.
+#![tactic(auto)]
+
 ghost use Rattle.std.specs.Prelude.{◌≡◌};
 ghost use Rattle.record_nulls.specs.Nulls.{null_size, null_count, null_rows, read_null, make_null};
 
@@ -7,7 +9,7 @@ use record_fields::Rows;
 use record_stages::{Asked, Made, Size};
 
 // A null frame of this many data words, or the refusal's number.
-#[derive(Drop)]
+#[derive(Clone, Copy)]
 pub enum NullRead {
     Null(usize),
     Refused(u8),

@@ -1,5 +1,7 @@
 // Raw observations, types 18 and 19 of both editions: a head of one word, then two words a satellite, 1 to 15 satellites. The types differ
 // in the width of the quality and in what is measured, the editions in what the first bit of a satellite says.
+#![tactic(auto)]
+
 mod marks;
 pub mod meanings;
 mod rows;
@@ -18,21 +20,21 @@ use frame::{Frame, Header, Layout};
 use record_stages::{Count, Made, Place, Ranged};
 
 // The document whose meaning is asked for: GOST R 53612-2009, or BD 410002-2015.
-#[derive(Drop)]
+#[derive(Clone, Copy)]
 pub enum Edition {
     Gost,
     Bd,
 }
 
 // What a type measures: type 18 the phase of the carrier, type 19 the range.
-#[derive(Drop)]
+#[derive(Clone, Copy)]
 pub enum Quantity {
     Phase,
     Range,
 }
 
 // What the first bit of a satellite says: half a wavelength, nothing yet, or that more frames of the set follow.
-#[derive(Drop)]
+#[derive(Clone, Copy)]
 pub enum Mark {
     Half(u8),
     Reserved(u8),
@@ -40,14 +42,14 @@ pub enum Mark {
 }
 
 // What was measured, in whole counts of its step: losses of continuity and phase, or multipath error and range.
-#[derive(Drop)]
+#[derive(Clone, Copy)]
 pub enum Measured {
     Phase(u8, i32),
     Range(u8, u32),
 }
 
 // The head: frequency, smoothing (type 18: two reserved bits), and the time in microseconds.
-#[derive(Drop)]
+#[derive(Clone, Copy)]
 pub struct Epoch {
     pub frequency: u8,
     pub smoothing: u8,
@@ -55,7 +57,7 @@ pub struct Epoch {
 }
 
 // One satellite's observation.
-#[derive(Drop)]
+#[derive(Clone, Copy)]
 pub struct Observation {
     pub mark: Mark,
     pub code: u8,
@@ -66,14 +68,14 @@ pub struct Observation {
 }
 
 // The head of a frame, or the refusal's number.
-#[derive(Drop)]
+#[derive(Clone, Copy)]
 pub enum EpochRead {
     At(Epoch),
     Refused(u8),
 }
 
 // An observation, or the refusal's number.
-#[derive(Drop)]
+#[derive(Clone, Copy)]
 pub enum ObservationRead {
     Entry(Observation),
     Refused(u8),

@@ -9,7 +9,7 @@ use record_stages::Asked;
 
 // What a frequency code says: L1 or L2, the difference that the ionosphere makes, free of the ionosphere, special, reserved; or the
 // refusal's number.
-#[derive(Drop)]
+#[derive(Clone, Copy)]
 pub enum Frequency {
     L1,
     L2,
@@ -21,7 +21,7 @@ pub enum Frequency {
 }
 
 // The step of a phase: one 256th of a wavelength, one 128th of half a wavelength; or the refusal's number.
-#[derive(Drop)]
+#[derive(Clone, Copy)]
 pub enum Step {
     Wavelength256,
     HalfWavelength128,

@@ -1,4 +1,6 @@
 // Types 3 and 32: the station's position, X, Y and Z in centimetres, four words.
+#![tactic(auto)]
+
 ghost use Rattle.std.specs.Prelude.{◌≡◌, ◌∷◌, []};
 ghost use Rattle.bits.specs.Fields.{fields_at};
 ghost use Rattle.bits.specs.Rows.{data_bits};
@@ -12,7 +14,7 @@ use record_fields::{Packer, Rows};
 use record_stages::{Asked, Made, Ranged, Size};
 
 // The station's antenna, in centimetres.
-#[derive(Drop)]
+#[derive(Clone, Copy)]
 pub struct Position {
     pub x: i32,
     pub y: i32,
@@ -20,7 +22,7 @@ pub struct Position {
 }
 
 // A position, or the refusal's number.
-#[derive(Drop)]
+#[derive(Clone, Copy)]
 pub enum PositionRead {
     At(Position),
     Refused(u8),

@@ -6,7 +6,7 @@ use crate::{Asked, asked_of};
 use frame::{Clock, Header, Layout, Widths};
 
 // Whether a header and a number of entries suit a layout, or the refusal's number.
-#[derive(Drop)]
+#[derive(Clone, Copy)]
 pub(crate) enum Suited {
     Yes,
     Refused(u8),

@@ -1,4 +1,6 @@
 // What the layouts share: the stages of reading, with the count of a list and the place of an entry, and the one way in which a frame is made.
+#![tactic(auto)]
+
 mod checks;
 
 ghost use Rattle.std.specs.Prelude.{◌≡◌};
@@ -10,63 +12,63 @@ use frame::{Clock, Frame, Header, Layout, Widths};
 use record_fields::Rows;
 
 // Whether a type number has the layout that is asked for; another one is refusal 6.
-#[derive(Drop)]
+#[derive(Clone, Copy)]
 pub enum Asked {
     Same,
     Other,
 }
 
 // How many entries N words hold; refusal 8 where N doesn't fit.
-#[derive(Drop)]
+#[derive(Clone, Copy)]
 enum Counted {
     Entries(usize),
     Misfit,
 }
 
 // Whether N is the one that the type has; another one is refusal 8.
-#[derive(Drop)]
+#[derive(Clone, Copy)]
 pub enum Size {
     Right,
     Wrong,
 }
 
 // Whether an entry's number is below the count; one past it is refusal 9.
-#[derive(Drop)]
+#[derive(Clone, Copy)]
 enum Indexed {
     Below,
     Past,
 }
 
 // Whether every number of a record is in its range; one that is not is refusal 10.
-#[derive(Drop)]
+#[derive(Clone, Copy)]
 pub enum Ranged {
     Inside,
     Outside,
 }
 
 // The bit at which an entry starts, or the refusal's number.
-#[derive(Drop)]
+#[derive(Clone, Copy)]
 pub enum Place {
     At(u32),
     Refused(u8),
 }
 
 // A number of entries or characters, or the refusal's number.
-#[derive(Drop)]
+#[derive(Clone, Copy)]
 pub enum Count {
     Of(usize),
     Refused(u8),
 }
 
 // Whether a frame is made, or the refusal's number.
-#[derive(Drop)]
+#[derive(Clone, Copy)]
 pub enum Making {
     Done,
     Refused(u8),
 }
 
 // A made frame; where making is refused, the blank frame.
-#[derive(Drop)]
+#[derive(Clone, Copy)]
 pub struct Made {
     pub answer: Making,
     pub frame: Frame,

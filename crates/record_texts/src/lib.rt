@@ -1,4 +1,6 @@
 // Text, 1 to 90 characters of eight bits, three a word: type 16 of GPS, 36 of GLONASS. The last code of a character alone differs.
+#![tactic(auto)]
+
 ghost use Rattle.std.specs.Prelude.{◌≡◌, ◌++◌, map, ◌*◌, ◌≤◌, ◌<◌, length, take, drop};
 ghost use Rattle.bits.specs.Rows.{data_bits};
 ghost use Rattle.record_fields.specs.Tables.{no_rows, put_rows};
@@ -12,14 +14,14 @@ use record_fields::Rows;
 use record_stages::{Asked, Count, Made, Size};
 
 // Whether every character of a text is allowed; one that is not is refusal 11.
-#[derive(Drop)]
+#[derive(Clone, Copy)]
 enum Characters {
     Permitted,
     Forbidden,
 }
 
 // Whether a lent buffer has room for a text; one that is too short is refusal 13.
-#[derive(Drop)]
+#[derive(Clone, Copy)]
 enum Room {
     Enough,
     Short,

@@ -1,5 +1,7 @@
 // What the numbers of a record and of a header stand for, in whole units: mm, mm/s, d_b_hz, minutes, tenths of a second; and which letters
 // the characters of a text are.
+#![tactic(auto)]
+
 pub mod general;
 
 ghost use Rattle.std.specs.Prelude.{◌≡◌, pos, ◌*ℤ◌};
@@ -9,7 +11,7 @@ ghost use Rattle.record_values.specs.Answer.{prc_mm, rrc_mm_s, udre_limit, cn0_d
 use frame::{Clock, HealthCode, State, clock_of, health_of};
 
 // A pseudorange correction (PRC), that the satellite is not to be used, or the refusal's number.
-#[derive(Drop)]
+#[derive(Clone, Copy)]
 pub enum Distance {
     Millimetres(i32),
     Stop,
@@ -17,7 +19,7 @@ pub enum Distance {
 }
 
 // A range rate correction (RRC), that the satellite is not to be used, or the refusal's number.
-#[derive(Drop)]
+#[derive(Clone, Copy)]
 pub enum Rate {
     MillimetresPerSecond(i32),
     Stop,
@@ -25,7 +27,7 @@ pub enum Rate {
 }
 
 // An ionosphere delay, that it is not to be used, or the refusal's number.
-#[derive(Drop)]
+#[derive(Clone, Copy)]
 pub enum Delay {
     Millimetres(u32),
     Unusable,
@@ -33,7 +35,7 @@ pub enum Delay {
 }
 
 // A UDRE's upper limit of types 41 and 42 in hundredths of a mm, that it has none, or the refusal's number.
-#[derive(Drop)]
+#[derive(Clone, Copy)]
 pub enum GeneralLimit {
     Hundredths(u32),
     NoLimit,
@@ -41,14 +43,14 @@ pub enum GeneralLimit {
 }
 
 // How long corrections may be used, or the refusal's number.
-#[derive(Drop)]
+#[derive(Clone, Copy)]
 pub enum Period {
     Seconds(u8),
     Refused(u8),
 }
 
 // A UDRE's upper limit, that it has none, or the refusal's number.
-#[derive(Drop)]
+#[derive(Clone, Copy)]
 pub enum Limit {
     Millimetres(u32),
     NoLimit,
@@ -56,7 +58,7 @@ pub enum Limit {
 }
 
 // A satellite's C/N0, that the station does not track it, or the refusal's number.
-#[derive(Drop)]
+#[derive(Clone, Copy)]
 pub enum Strength {
     DbHz(u8),
     NotTracked,
@@ -64,21 +66,21 @@ pub enum Strength {
 }
 
 // The time of a health entry, or the refusal's number.
-#[derive(Drop)]
+#[derive(Clone, Copy)]
 pub enum Time {
     Minutes(u8),
     Refused(u8),
 }
 
 // The time of a Z count, from the full hour on, or the refusal's number.
-#[derive(Drop)]
+#[derive(Clone, Copy)]
 pub enum SinceHour {
     Tenths(u16),
     Refused(u8),
 }
 
 // A character's number in Unicode, or the refusal's number.
-#[derive(Drop)]
+#[derive(Clone, Copy)]
 pub enum Letter {
     Unicode(u32),
     Refused(u8),

@@ -5,7 +5,7 @@ ghost use Rattle.rtcm2.specs.Header.{headed_by};
 use frame::Header;
 
 // A header, or the refusal's number.
-#[derive(Drop)]
+#[derive(Clone, Copy)]
 pub(crate) enum Headed {
     Header(Header),
     Refused(u8),

@@ -1,4 +1,6 @@
 // The line package as a library for C and Rust: each exported function answers 0 or the refusal's number.
+#![tactic(auto)]
+
 pub mod beacon;
 pub mod correction;
 pub mod frames;

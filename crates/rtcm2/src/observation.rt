@@ -16,7 +16,7 @@ use record_observations::{Edition, Epoch, EpochRead, ObservationRead};
 use record_stages::Made;
 
 // The edition of a number, or the refusal's number.
-#[derive(Drop)]
+#[derive(Clone, Copy)]
 enum Named {
     Edition(Edition),
     Refused(u8),

@@ -1,4 +1,6 @@
 // Entries of the list records as lent bytes, a row of bytes for each entry.
+#![tactic(auto)]
+
 pub mod correction;
 pub mod general;
 pub mod observation;

@@ -1,4 +1,6 @@
 // A report of a season as bytes that a caller lends: how many rows are in use, and 512 rows of 29 bytes each.
+#![tactic(auto)]
+
 mod number;
 pub mod row;
 

@@ -13,7 +13,7 @@ use line::Six;
 use reader::Candidate;
 
 // What six bits more tell without a hunt: how many words are then known, that all words of the frame have come, or nothing.
-#[derive(Drop)]
+#[derive(Clone, Copy)]
 pub(crate) enum After {
     Known(usize),
     Whole,

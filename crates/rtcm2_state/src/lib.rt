@@ -1,4 +1,6 @@
 // A reader's state as bytes that a caller lends: 49 numbers of four bytes each, low byte first.
+#![tactic(auto)]
+
 pub mod hold;
 mod number;
 
@@ -13,7 +15,7 @@ use crate::number::{number_at, put_number, wide};
 use reader::{Candidate, Reader, Tally};
 
 // A state is put in bytes, or the refusal's number.
-#[derive(Drop)]
+#[derive(Clone, Copy)]
 pub enum Stored {
     Done,
     Refused(u8),

@@ -4,7 +4,7 @@ use libc::STDERR_FILENO;
 use season_reports::{Added, Adding, Report};
 
 // The report of the files so far, and whether the run is over.
-#[derive(Drop)]
+#[derive(Clone, Copy)]
 pub(crate) struct Season {
     pub report: Report,
     pub is_over: bool,

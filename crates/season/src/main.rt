@@ -1,6 +1,8 @@
 // `season FILE..` prints what the journals in these files say of corrections, in lines of tabs that a spreadsheet reads: one for each system,
 // station and satellite in the order first seen, and a last one of totals. Standard error has a line for each file of which something can't be
 // read; the run goes on with the next. A file that a report has no room for ends the run, and what is printed is the report of the files before.
+#![tactic(auto)]
+
 mod files;
 mod lines;
 mod pieces;

@@ -10,7 +10,7 @@ use season_reports::{Adding, Extremes, JournalReport, Report, Row};
 const LONGEST: usize = 135;
 
 // What a piece left: the report of the file, whether its keys found no room, whether a count passed, and how many bytes are used.
-#[derive(Drop)]
+#[derive(Clone, Copy)]
 struct Taken {
     report: Report,
     is_full: bool,
@@ -19,7 +19,7 @@ struct Taken {
 }
 
 // How a file ended: more of it may follow, all of it was read, the record at `at` is refused with a number, or a read failed.
-#[derive(Drop)]
+#[derive(Clone, Copy)]
 pub(crate) enum Ending {
     Open,
     Whole,
@@ -28,7 +28,7 @@ pub(crate) enum Ending {
 }
 
 // What was read of a file, up to the place `at`. Once a count has passed, the report has the keys of the file, and counts of its last pieces alone.
-#[derive(Drop)]
+#[derive(Clone, Copy)]
 pub(crate) struct Course {
     pub report: Report,
     pub is_full: bool,

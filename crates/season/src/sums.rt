@@ -7,14 +7,14 @@ use season_reports::{Extremes, Report, Row};
 const BILLION: u64 = 1000000000;
 
 // So many thousand millions, and a rest below one.
-#[derive(Drop)]
+#[derive(Clone, Copy)]
 pub(crate) struct Amount {
     pub billions: u64,
     pub rest: u64,
 }
 
 // What all rows have together; the sum is what is above 0 less what is below.
-#[derive(Drop)]
+#[derive(Clone, Copy)]
 pub(crate) struct Totals {
     pub usable: u64,
     pub stops: u64,

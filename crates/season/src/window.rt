@@ -2,14 +2,14 @@
 ghost use Rattle.std.specs.Prelude.{◌≡◌, ◌≤◌, length};
 
 // How filling the window ended: it is full, the file is at its end, or a read failed; and how many bytes it then holds.
-#[derive(Drop)]
+#[derive(Clone, Copy)]
 pub(crate) enum Filling {
     Full,
     End,
     Failed,
 }
 
-#[derive(Drop)]
+#[derive(Clone, Copy)]
 pub(crate) struct Filled {
     pub filling: Filling,
     pub held: usize,

@@ -1,5 +1,7 @@
 // Reports of a season: of each system, station and satellite how many corrections were usable and how many said stop, the least and the largest
 // PRC in mm, and their exact sum. A journal's bytes are added to a report, and one report to another.
+#![tactic(auto)]
+
 mod reading;
 mod rows;
 mod table;
@@ -15,7 +17,7 @@ use crate::table::{Table, add_rows, any_wrong, codes_of, is_twice};
 use frame::System;
 
 // Whose entries a row counts.
-#[derive(Drop)]
+#[derive(Clone, Copy)]
 pub struct Key {
     pub system: System,
     pub station: u16,
@@ -23,14 +25,14 @@ pub struct Key {
 }
 
 // The least and the largest PRC in mm, absent where no entry is usable.
-#[derive(Drop)]
+#[derive(Clone, Copy)]
 pub enum Extremes {
     Absent,
     Present(i32, i32),
 }
 
 // What was counted of a key. The mean is the sum over the usable entries, not divided.
-#[derive(Drop)]
+#[derive(Clone, Copy)]
 pub struct Row {
     pub key: Key,
     pub usable: u32,
@@ -40,28 +42,28 @@ pub struct Row {
 }
 
 // A report: the rows in use, in the order first seen; those behind them are not looked at.
-#[derive(Drop)]
+#[derive(Clone, Copy)]
 pub struct Report {
     pub used: usize,
     pub rows: [Row; 512],
 }
 
 // That it was added, or the refusal's number.
-#[derive(Drop)]
+#[derive(Clone, Copy)]
 pub enum Adding {
     Done,
     Refused(u8),
 }
 
 // The sum of two reports; on a refusal the first as it was.
-#[derive(Drop)]
+#[derive(Clone, Copy)]
 pub struct Added {
     pub answer: Adding,
     pub report: Report,
 }
 
 // A report with a journal's entries added, and how many bytes their records have; on a refusal the report as it was, and 0.
-#[derive(Drop)]
+#[derive(Clone, Copy)]
 pub struct JournalReport {
     pub answer: Adding,
     pub report: Report,
@@ -69,7 +71,7 @@ pub struct JournalReport {
 }
 
 // A row of a report, or the refusal's number.
-#[derive(Drop)]
+#[derive(Clone, Copy)]
 pub enum RowRead {
     At(Row),
     Refused(u8),

@@ -19,7 +19,7 @@ use record_stages::Count;
 use record_values::Distance;
 
 // A table, and how many bytes were read into it.
-#[derive(Drop)]
+#[derive(Clone, Copy)]
 pub(crate) struct Progress {
     pub table: Table,
     pub used: usize,

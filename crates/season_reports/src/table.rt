@@ -12,7 +12,7 @@ use crate::rows::{blank_row, code_of, is_over, is_wrong, merged_row};
 use crate::{Report, Row};
 
 // The rows so far; whether a count would have passed; whether a row found no room.
-#[derive(Drop)]
+#[derive(Clone, Copy)]
 pub(crate) struct Table {
     pub report: Report,
     pub over: bool,
@@ -20,7 +20,7 @@ pub(crate) struct Table {
 }
 
 // As many rows as a frame has entries, at most.
-#[derive(Drop)]
+#[derive(Clone, Copy)]
 pub(crate) struct Batch {
     pub count: usize,
     pub rows: [Row; 18],

@@ -1,4 +1,6 @@
 // `show < journal` prints a journal of either form: a line for each record, which begins with the place of its first byte.
+#![tactic(auto)]
+
 ghost use Rattle.std.specs.Prelude.{◌≡◌, ◌≤◌, length};
 
 use frame::Frame;
@@ -7,7 +9,7 @@ use libc::{STDERR_FILENO, STDIN_FILENO, STDOUT_FILENO};
 use printing::Printed;
 
 // How a record ended the step: the next may follow, or the run is over; and how many bytes the record has.
-#[derive(Drop)]
+#[derive(Clone, Copy)]
 enum Step {
     Next(u64),
     Over,

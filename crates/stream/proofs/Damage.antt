@@ -56,15 +56,15 @@ equal_words (suc n) g g' l m f =
 -- THERE IS A FIRST, where the lists differ
 first-damaged : (n : ℕ) (g g' : List Bool) → length g ≡ 32 + 30 * n → length g' ≡ length g → (g' ≡ g → ⊥)
     → (k : ℕ) × (k < suc n) × FirstDamaged k g g'
-first-damaged n g g' l m d = search (suc n) 0 (omega arith) (λ j h. absurd (not-suc-le-zero h))
+first-damaged n g g' l m d = looked (suc n) 0 (omega arith) (λ j h. absurd (not-suc-le-zero h))
   where
     long : (k : ℕ) → k < suc n → length (word_at k g') ≡ length (word_at k g)
     long k h = word-long k g' (omega arith) ∙ sym (word-long k g (omega arith))
 
-    search : (left k : ℕ) → left + k ≡ suc n → ((j : ℕ) → j < k → word_at j g' ≡ word_at j g) → (k : ℕ) × (k < suc n) × FirstDamaged k g g'
-    search zero k e f = absurd (d (equal_words n g g' l m (λ j h. f j (omega (arith, zero-add k)))))
-    search (suc left) k e f =
-        go (eqb (number (word_at k g')) (number (word_at k g))) refl (search left (suc k) (omega (arith, suc-add left k, add-suc left k)))
+    looked : (left k : ℕ) → left + k ≡ suc n → ((j : ℕ) → j < k → word_at j g' ≡ word_at j g) → (k : ℕ) × (k < suc n) × FirstDamaged k g g'
+    looked zero k e f = absurd (d (equal_words n g g' l m (λ j h. f j (omega (arith, zero-add k)))))
+    looked (suc left) k e f =
+        go (eqb (number (word_at k g')) (number (word_at k g))) refl (looked left (suc k) (omega (arith, suc-add left k, add-suc left k)))
       where
         go : (t : Bool) → eqb (number (word_at k g')) (number (word_at k g)) ≡ t
             → (((j : ℕ) → j < suc k → word_at j g' ≡ word_at j g) → (k : ℕ) × (k < suc n) × FirstDamaged k g g') → (k : ℕ) × (k < suc n) × FirstDamaged k g g'

@@ -1,4 +1,6 @@
 // Types 1 and 9: corrections, made from their fields, and read from their words with PRC and RRC in whole units.
+#![tactic(auto)]
+
 use frame::Frame;
 use record_corrections::{Correction, Issue};
 use test_vectors::corrections::print_entries;

@@ -1,4 +1,6 @@
 // Types 41 and 42: the worked vectors, made from their fields and read from their words, what reading and making refuse, and what numbers mean.
+#![tactic(auto)]
+
 mod making;
 mod reading;
 mod show;

@@ -1,4 +1,6 @@
 // Types 31 to 34 and 36: the worked vectors of GLONASS, made from their fields and read from their words, and what reading and making refuse.
+#![tactic(auto)]
+
 mod corrections;
 mod healths;
 mod letters;

@@ -1,4 +1,6 @@
 // Type 5: satellite health, made from its fields and read from its words.
+#![tactic(auto)]
+
 use frame::Frame;
 use record_healths::{Condition, SatelliteHealth};
 use test_vectors::healths::print_entries;

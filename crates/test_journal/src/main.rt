@@ -1,4 +1,6 @@
 // The journal's worked cases: what keeping and recalling answer, and the bytes, one line to a case.
+#![tactic(auto)]
+
 use frame::{Frame, Header, HealthCode, State};
 use journal::{Found, Kept};
 use libc::STDOUT_FILENO;

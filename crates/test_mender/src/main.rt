@@ -1,4 +1,6 @@
 // The mender's worked journals: each is mended step by step, and written are its report, how many bytes were passed over, and its bytes.
+#![tactic(auto)]
+
 mod journals;
 mod mending;
 mod show;

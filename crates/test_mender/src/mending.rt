@@ -3,7 +3,7 @@ use libc::STDOUT_FILENO;
 use mender::Step;
 
 // Where a step left the run, and how many bytes it passed over.
-#[derive(Drop)]
+#[derive(Clone, Copy)]
 struct Stepped {
     on: usize,
     searching: bool,

@@ -1,4 +1,6 @@
 // The worked records of request 107: kept with their words, moved there and back, refused; and a journal of three, moved.
+#![tactic(auto)]
+
 use frame::{Carried, Frame};
 use journal::{Found, Kept};
 use journal_moves::{Moved, Stop, Way};

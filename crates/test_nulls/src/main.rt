@@ -1,4 +1,6 @@
 // Type 6: the worked vectors of null frames, made and read, and what reading and making refuse.
+#![tactic(auto)]
+
 mod making;
 mod reading;
 mod vectors;

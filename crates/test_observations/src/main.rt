@@ -1,5 +1,7 @@
 // Types 18 and 19: the worked vectors of both editions, made from their fields and read from their words, what reading and making refuse, and
 // what codes mean.
+#![tactic(auto)]
+
 mod entries;
 mod making;
 mod meaning;

@@ -1,4 +1,6 @@
 // Type 3: positions, made from their fields and read from their words.
+#![tactic(auto)]
+
 use frame::Frame;
 use record_positions::Position;
 use test_vectors::positions::print_position;

@@ -1,4 +1,6 @@
 // The small-beacon profile: which frames its checker accepts, what its sender cuts of worked lists, and what both refuse.
+#![tactic(auto)]
+
 mod checks;
 mod cuts;
 mod entries;

@@ -1,4 +1,6 @@
 // The worked reports of a season: of a journal whole and in two parts, the second part's added to the first's, and what adding two reports answers.
+#![tactic(auto)]
+
 mod adding;
 mod journals;
 mod reports;

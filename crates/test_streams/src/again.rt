@@ -10,7 +10,7 @@ use record_positions::{Position, PositionRead};
 use record_stages::{Count, Made, Making};
 
 // What a frame's record gave: the sum with its fields, and the frame made of them.
-#[derive(Drop)]
+#[derive(Clone, Copy)]
 pub(crate) struct Again {
     pub(crate) sum: Sum,
     pub(crate) made: Made,

@@ -1,5 +1,7 @@
 // `test_streams FILE..` prints each file's name and the listing of its first 4096 bytes. They are listed twice, as one piece and in pieces of seven bytes,
 // and where the two texts differ, both are printed. Then comes a line on what becomes of the frames, and after all files what times stand for.
+#![tactic(auto)]
+
 ghost use Rattle.std.specs.Prelude.{◌≤◌, length};
 ghost use Rattle.io.specs.Counts.{IsPrefixLen};
 
@@ -25,7 +27,7 @@ fn piece_end(at: usize, size: usize, bytes: &[u8]) -> usize
 }
 
 // A listing under way: bytes of the last piece used, bytes of text written in all.
-#[derive(Drop)]
+#[derive(Clone, Copy)]
 struct Lined {
     used: usize,
     written: usize,

@@ -1,5 +1,5 @@
 // A sum of numbers and the sum of all sums on the way, modulo 2^64: other numbers, or the same in another order, seldom have the same.
-#[derive(Drop)]
+#[derive(Clone, Copy)]
 pub(crate) struct Sum {
     pub(crate) numbers: u64,
     pub(crate) sums: u64,

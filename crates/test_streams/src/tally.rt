@@ -10,7 +10,7 @@ use record_stages::Making;
 use writer::Written;
 
 // Frames counted, the sums of the bytes kept and written and of the fields read, and the bits carried on.
-#[derive(Drop)]
+#[derive(Clone, Copy)]
 struct Tally {
     records: u64,
     remade: u64,
@@ -22,7 +22,7 @@ struct Tally {
 }
 
 // A reader, and what became of the frames that it has handed out.
-#[derive(Drop)]
+#[derive(Clone, Copy)]
 struct Run {
     reader: Reader,
     tally: Tally,

@@ -1,4 +1,6 @@
 // Type 16: text, made from its characters and read from its words.
+#![tactic(auto)]
+
 use frame::Frame;
 use test_vectors::texts::print_text;
 use test_vectors::{frame_of, header_with, print, print_made, print_vector};

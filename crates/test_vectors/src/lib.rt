@@ -1,4 +1,6 @@
 // What the programs of the worked vectors share: the header that vectors are made with, a frame of their words, and both and records in print.
+#![tactic(auto)]
+
 pub mod corrections;
 pub mod healths;
 pub mod nulls;

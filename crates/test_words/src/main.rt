@@ -1,4 +1,6 @@
 // Prints worked bytes with the six line bits that they carry, and worked windows with their remainders, to be compared with the tables of vectors.
+#![tactic(auto)]
+
 use libc::STDOUT_FILENO;
 use line::Six;
 

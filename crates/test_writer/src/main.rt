@@ -1,4 +1,6 @@
 // Writes worked frames and prints the bytes of each stream, lead byte first, to be compared with the table of vectors.
+#![tactic(auto)]
+
 use frame::{Carried, Frame, Header, State};
 use libc::STDOUT_FILENO;
 use writer::{Opened, Written};

@@ -1,4 +1,6 @@
 // The thirty-bit word: its test, its remainder, its data bits, and the word to send.
+#![tactic(auto)]
+
 mod first;
 mod fourth;
 mod second;
@@ -17,14 +19,14 @@ use crate::second::second;
 use crate::third::third;
 
 // A word passes, or fails with its remainder: received parity xor computed parity, D25 highest, never 0.
-#[derive(Drop)]
+#[derive(Clone, Copy)]
 pub enum Tested {
     Passed,
     Failed(u32),
 }
 
 // The thirty bits to send, D1 highest; or the refusal's number.
-#[derive(Drop)]
+#[derive(Clone, Copy)]
 pub enum Sent {
     Word(u32),
     Refused(u8),

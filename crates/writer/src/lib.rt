@@ -1,4 +1,6 @@
 // The way back: frames to line bytes, six bits a byte, each word after the last two bits of the one before.
+#![tactic(auto)]
+
 ghost use Rattle.std.specs.Prelude.{◌≡◌, [], ◌∷◌, ◌+◌, ◌*◌, ◌^◌, ◌<◌, ◌≤◌, length, take};
 ghost use Rattle.std.proofs.lemmas.List.Edits.{sets};
 ghost use Rattle.bits.specs.Bits.{bits};
@@ -10,14 +12,14 @@ use frame::{Carried, Clock, Frame, HeaderWords, Widths};
 use word::Sent;
 
 // The lead byte is written, or the refusal's number.
-#[derive(Drop)]
+#[derive(Clone, Copy)]
 pub enum Opened {
     Done,
     Refused(u8),
 }
 
 // How many bytes are written and the pair that they carry on, or the refusal's number.
-#[derive(Drop)]
+#[derive(Clone, Copy)]
 pub enum Written {
     Done { bytes: usize, carried: Carried },
     Refused(u8),
