@@ -1,0 +1,260 @@
+-- `first` meets its contract: arm by arm, the last by what is left. Assumes nothing.
+use Rattle.word.specs.Tables.{first}
+use Rattle.word.proofs.Tables.{at, left}
+use Rattle.word.proofs.first.first.Goals as goal
+
+pub returns-in-0 : goal.returns-in-0
+unfolding first
+returns-in-0 c = at first c.in-0.is
+
+pub returns-in-1 : goal.returns-in-1
+unfolding first
+returns-in-1 c = at first c.in-1.is
+
+pub returns-in-2 : goal.returns-in-2
+unfolding first
+returns-in-2 c = at first c.in-2.is
+
+pub returns-in-3 : goal.returns-in-3
+unfolding first
+returns-in-3 c = at first c.in-3.is
+
+pub returns-in-4 : goal.returns-in-4
+unfolding first
+returns-in-4 c = at first c.in-4.is
+
+pub returns-in-5 : goal.returns-in-5
+unfolding first
+returns-in-5 c = at first c.in-5.is
+
+pub returns-in-6 : goal.returns-in-6
+unfolding first
+returns-in-6 c = at first c.in-6.is
+
+pub returns-in-7 : goal.returns-in-7
+unfolding first
+returns-in-7 c = at first c.in-7.is
+
+pub returns-in-8 : goal.returns-in-8
+unfolding first
+returns-in-8 c = at first c.in-8.is
+
+pub returns-in-9 : goal.returns-in-9
+unfolding first
+returns-in-9 c = at first c.in-9.is
+
+pub returns-in-10 : goal.returns-in-10
+unfolding first
+returns-in-10 c = at first c.in-10.is
+
+pub returns-in-11 : goal.returns-in-11
+unfolding first
+returns-in-11 c = at first c.in-11.is
+
+pub returns-in-12 : goal.returns-in-12
+unfolding first
+returns-in-12 c = at first c.in-12.is
+
+pub returns-in-13 : goal.returns-in-13
+unfolding first
+returns-in-13 c = at first c.in-13.is
+
+pub returns-in-14 : goal.returns-in-14
+unfolding first
+returns-in-14 c = at first c.in-14.is
+
+pub returns-in-15 : goal.returns-in-15
+unfolding first
+returns-in-15 c = at first c.in-15.is
+
+pub returns-in-16 : goal.returns-in-16
+unfolding first
+returns-in-16 c = at first c.in-16.is
+
+pub returns-in-17 : goal.returns-in-17
+unfolding first
+returns-in-17 c = at first c.in-17.is
+
+pub returns-in-18 : goal.returns-in-18
+unfolding first
+returns-in-18 c = at first c.in-18.is
+
+pub returns-in-19 : goal.returns-in-19
+unfolding first
+returns-in-19 c = at first c.in-19.is
+
+pub returns-in-20 : goal.returns-in-20
+unfolding first
+returns-in-20 c = at first c.in-20.is
+
+pub returns-in-21 : goal.returns-in-21
+unfolding first
+returns-in-21 c = at first c.in-21.is
+
+pub returns-in-22 : goal.returns-in-22
+unfolding first
+returns-in-22 c = at first c.in-22.is
+
+pub returns-in-23 : goal.returns-in-23
+unfolding first
+returns-in-23 c = at first c.in-23.is
+
+pub returns-in-24 : goal.returns-in-24
+unfolding first
+returns-in-24 c = at first c.in-24.is
+
+pub returns-in-25 : goal.returns-in-25
+unfolding first
+returns-in-25 c = at first c.in-25.is
+
+pub returns-in-26 : goal.returns-in-26
+unfolding first
+returns-in-26 c = at first c.in-26.is
+
+pub returns-in-27 : goal.returns-in-27
+unfolding first
+returns-in-27 c = at first c.in-27.is
+
+pub returns-in-28 : goal.returns-in-28
+unfolding first
+returns-in-28 c = at first c.in-28.is
+
+pub returns-in-29 : goal.returns-in-29
+unfolding first
+returns-in-29 c = at first c.in-29.is
+
+pub returns-in-30 : goal.returns-in-30
+unfolding first
+returns-in-30 c = at first c.in-30.is
+
+pub returns-in-31 : goal.returns-in-31
+unfolding first
+returns-in-31 c = at first c.in-31.is
+
+pub returns-in-32 : goal.returns-in-32
+unfolding first
+returns-in-32 c = at first c.in-32.is
+
+pub returns-in-33 : goal.returns-in-33
+unfolding first
+returns-in-33 c = at first c.in-33.is
+
+pub returns-in-34 : goal.returns-in-34
+unfolding first
+returns-in-34 c = at first c.in-34.is
+
+pub returns-in-35 : goal.returns-in-35
+unfolding first
+returns-in-35 c = at first c.in-35.is
+
+pub returns-in-36 : goal.returns-in-36
+unfolding first
+returns-in-36 c = at first c.in-36.is
+
+pub returns-in-37 : goal.returns-in-37
+unfolding first
+returns-in-37 c = at first c.in-37.is
+
+pub returns-in-38 : goal.returns-in-38
+unfolding first
+returns-in-38 c = at first c.in-38.is
+
+pub returns-in-39 : goal.returns-in-39
+unfolding first
+returns-in-39 c = at first c.in-39.is
+
+pub returns-in-40 : goal.returns-in-40
+unfolding first
+returns-in-40 c = at first c.in-40.is
+
+pub returns-in-41 : goal.returns-in-41
+unfolding first
+returns-in-41 c = at first c.in-41.is
+
+pub returns-in-42 : goal.returns-in-42
+unfolding first
+returns-in-42 c = at first c.in-42.is
+
+pub returns-in-43 : goal.returns-in-43
+unfolding first
+returns-in-43 c = at first c.in-43.is
+
+pub returns-in-44 : goal.returns-in-44
+unfolding first
+returns-in-44 c = at first c.in-44.is
+
+pub returns-in-45 : goal.returns-in-45
+unfolding first
+returns-in-45 c = at first c.in-45.is
+
+pub returns-in-46 : goal.returns-in-46
+unfolding first
+returns-in-46 c = at first c.in-46.is
+
+pub returns-in-47 : goal.returns-in-47
+unfolding first
+returns-in-47 c = at first c.in-47.is
+
+pub returns-in-48 : goal.returns-in-48
+unfolding first
+returns-in-48 c = at first c.in-48.is
+
+pub returns-in-49 : goal.returns-in-49
+unfolding first
+returns-in-49 c = at first c.in-49.is
+
+pub returns-in-50 : goal.returns-in-50
+unfolding first
+returns-in-50 c = at first c.in-50.is
+
+pub returns-in-51 : goal.returns-in-51
+unfolding first
+returns-in-51 c = at first c.in-51.is
+
+pub returns-in-52 : goal.returns-in-52
+unfolding first
+returns-in-52 c = at first c.in-52.is
+
+pub returns-in-53 : goal.returns-in-53
+unfolding first
+returns-in-53 c = at first c.in-53.is
+
+pub returns-in-54 : goal.returns-in-54
+unfolding first
+returns-in-54 c = at first c.in-54.is
+
+pub returns-in-55 : goal.returns-in-55
+unfolding first
+returns-in-55 c = at first c.in-55.is
+
+pub returns-in-56 : goal.returns-in-56
+unfolding first
+returns-in-56 c = at first c.in-56.is
+
+pub returns-in-57 : goal.returns-in-57
+unfolding first
+returns-in-57 c = at first c.in-57.is
+
+pub returns-in-58 : goal.returns-in-58
+unfolding first
+returns-in-58 c = at first c.in-58.is
+
+pub returns-in-59 : goal.returns-in-59
+unfolding first
+returns-in-59 c = at first c.in-59.is
+
+pub returns-in-60 : goal.returns-in-60
+unfolding first
+returns-in-60 c = at first c.in-60.is
+
+pub returns-in-61 : goal.returns-in-61
+unfolding first
+returns-in-61 c = at first c.in-61.is
+
+pub returns-in-62 : goal.returns-in-62
+unfolding first
+returns-in-62 c = at first c.in-62.is
+
+pub returns-in_default : goal.returns-in_default
+unfolding first
+returns-in_default c = at first (left c.args.six c.in_default.in_default-own.rest)
