@@ -1,0 +1,14 @@
+-- `place_of` meets its contract: by a loop that has passed other factors only. Assumes nothing.
+use mathlib.Core.Path.{◌≡◌, sym, ◌∙◌}
+use Prim.Native.Nat.{◌+◌, ◌≤◌, ◌-◌}
+use native.Mathlib.Omega.{arith}
+use lib.ListN.{length, drop}
+use Rattle.frame.specs.Header.{factors, place_in}
+use Rattle.frame.proofs.StateLaws.{place-hit, place-miss, place_end, length-factors}
+use Rattle.frame.proofs.code.place_of.Given as goal
+
+abbrev pub invariant-loop-i : goal.invariant-loop-i
+invariant-loop-i l = (l.i ≤ 6) × (place_in l.factor factors ≡ l.i + place_in l.factor (drop l.i factors))
+
+abbrev pub decreases-loop-i : goal.decreases-loop-i
+decreases-loop-i l = 6 - l.i
