@@ -1,0 +1,13 @@
+-- `word_at` meets its contract: by a loop over the bytes, each of which comes below those read. Assumes nothing.
+use mathlib.Core.Path.{◌≡◌}
+use Prim.Native.Nat.{◌-◌, ◌≤◌}
+use lib.ListN.{take, drop}
+use Rattle.journal.specs.Bytes.{word_in}
+use Rattle.journal.proofs.form.word_at.Given as goal
+
+-- the word of the first i bytes
+abbrev pub invariant-loop-i : goal.invariant-loop-i
+invariant-loop-i l = (l.i ≤ l.size) × (l.word ≡ word_in (take l.i (drop l.at l.bytes)))
+
+abbrev pub decreases-loop-i : goal.decreases-loop-i
+decreases-loop-i l = l.size - l.i
