@@ -10,19 +10,15 @@ use Rattle.record_fields.specs.Tables.{no_rows, put_rows}
 use Rattle.record_fields.proofs.TableLaws.{push-codes}
 use Rattle.record_stages.proofs.ListLaws.{entries-made}
 use Rattle.record_healths.specs.Healths.{widths, coding, fill, least, most, numbers, out_of_range, make_healths}
-use Rattle.record_healths.proofs.make_healths.Statement.{statement}
-use Rattle.record_healths.proofs.make_healths.Tie as tie
+use Rattle.record_healths.proofs.make_healths.Goals as goal
 
-returns : tie.Need-returns
+pub returns : goal.returns
 unfolding make_healths
 returns c =
-    let a = c.before.before.before.args in
+    let a = c.args in
     let s = system_of a.header.kind in
     entries-made layout.Health (coding s) fill 31 (out_of_range s) (numbers s) least most
     (λ e. push-codes widths (numbers s e)) (λ e. refl) (search rules) (omega arith)
-    a.header a.entries a.count c.before.rows_of_lem.result c.make-frame.result c.make-frame.ensures
-    (c.before.rows_of_lem.ensures
-    ∙ ap (λ u. put_rows widths least most (map (numbers u) (take a.count a.entries)) no_rows) c.before.before.system-of.ensures)
-
-pub make-healths-spec : {M : Type 1} → statement M
-make-healths-spec = tie.close (tie.spec (λ c κs. search rules) (λ c κs. search rules) (λ c κs. search rules) returns)
+    a.header a.entries a.count c.rows_of-rows.result c.make_frame.result c.make_frame.ensures
+    (c.rows_of-rows.ensures
+    ∙ ap (λ u. put_rows widths least most (map (numbers u) (take a.count a.entries)) no_rows) c.system_of-system.ensures)
