@@ -10,19 +10,15 @@ use Rattle.record_fields.specs.Tables.{no_rows, put_rows}
 use Rattle.record_fields.proofs.TableLaws.{push-codes}
 use Rattle.record_stages.proofs.ListLaws.{entries-made}
 use Rattle.record_corrections.specs.Corrections.{widths, coding, fill, least, most, numbers, out_of_range, make_corrections}
-use Rattle.record_corrections.proofs.make_corrections.Statement.{statement}
-use Rattle.record_corrections.proofs.make_corrections.Tie as tie
+use Rattle.record_corrections.proofs.make_corrections.Goals as goal
 
-returns : tie.Need-returns
+pub returns : goal.returns
 unfolding make_corrections
 returns c =
-    let a = c.before.before.before.args in
+    let a = c.args in
     let s = system_of a.header.kind in
     entries-made layout.Correction (coding s) fill 18 (out_of_range s) (numbers s) least (most s)
     (λ e. push-codes widths (numbers s e)) (λ e. refl) (search rules) (omega arith)
-    a.header a.entries a.count c.before.rows_of_lem.result c.make-frame.result c.make-frame.ensures
-    (c.before.rows_of_lem.ensures
-    ∙ ap (λ u. put_rows widths least (most u) (map (numbers u) (take a.count a.entries)) no_rows) c.before.before.system-of.ensures)
-
-pub make-corrections-spec : {M : Type 1} → statement M
-make-corrections-spec = tie.close (tie.spec (λ c κs. search rules) (λ c κs. search rules) (λ c κs. search rules) returns)
+    a.header a.entries a.count c.rows_of-rows.result c.make_frame.result c.make_frame.ensures
+    (c.rows_of-rows.ensures
+    ∙ ap (λ u. put_rows widths least (most u) (map (numbers u) (take a.count a.entries)) no_rows) c.system_of-system.ensures)
