@@ -5,7 +5,6 @@ use Prim.Native.Nat.{ℕ, zero, suc}
 use native.Mathlib.Omega.{arith}
 use lib.ListN.{replicate}
 use borrow.Author.Tests.{lt-ltb}
-use borrow.Author.Rules.{rules}
 use Rattle.answer.specs.Order.{in_order}
 use Rattle.frame.specs.declared.Header.{Header}
 use Rattle.frame.specs.declared.Layout.TheVariants as layout
@@ -14,8 +13,7 @@ use Rattle.record_fields.specs.Packing.{empty_packer, joined, flushed, pushed, f
 use Rattle.record_fields.specs.Tables.{no_rows, put_row}
 use Rattle.record_stages.specs.Stages.{make_order, made_by, refused_made, done_made}
 use Rattle.record_nulls.specs.Nulls.{most_words, too_many, fill, null_count, null_rows, make_null}
-use Rattle.record_nulls.proofs.make_null.Statement.{statement}
-use Rattle.record_nulls.proofs.make_null.Tie as tie
+use Rattle.record_nulls.proofs.make_null.Goals as goal
 
 -- what the rows hold is the frame of N filled words, where there are not too many
 null-made : (h : Header) (n : ℕ) → made_by layout.Null 1 fill h (null_count n) (null_rows n)
@@ -25,13 +23,10 @@ null-made h zero = refl
 null-made h (suc zero) = refl
 null-made h (suc (suc n)) = rw (lt-ltb most_words (suc (suc n)) (omega arith))
 
-returns : tie.Need-returns
+pub returns : goal.returns
 unfolding make_null
 returns c =
-    let a = c.before.before.before.args in
-    c.make-frame.ensures
-    ∙ ap₂ (made_by layout.Null 1 fill a.header) c.before.before.null-count.ensures c.before.null-rows.ensures
+    let a = c.args in
+    c.make_frame.ensures
+    ∙ ap₂ (made_by layout.Null 1 fill a.header) c.null_count-count.ensures c.null_rows-rows.ensures
     ∙ null-made a.header a.n
-
-pub make-null-spec : {M : Type 1} → statement M
-make-null-spec = tie.close (tie.spec (λ c κs. search rules) (λ c κs. search rules) (λ c κs. search rules) returns)
