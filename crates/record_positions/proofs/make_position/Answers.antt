@@ -8,20 +8,14 @@ use Rattle.frame.specs.declared.Layout.TheVariants as layout
 use Rattle.record_fields.proofs.Making.{packed-frame}
 use Rattle.record_stages.specs.Stages.{make_order, refused_made, done_made, made_by}
 use Rattle.record_positions.specs.Positions.{coding, fill, out_of_range, make_position}
-use Rattle.record_positions.proofs.make_position.Statement.{statement}
-use Rattle.record_positions.proofs.make_position.Tie as tie
+use Rattle.record_positions.proofs.make_position.Goals as goal
 
-returns : tie.Need-returns
+pub returns : goal.returns
 unfolding make_position
 returns c =
-    let o = c.before in
-    let q = o.before in
-    let h = q.before.args.header in
-    let p = q.before.args.position in
-    c.make-frame.ensures
-    ∙ ap₂ (λ put out. made_by layout.Position 1 fill h 1 (record { packer = put; out = out })) q.pack-position.ensures o.out_of_range.ensures
+    let h = c.args.header in
+    let p = c.args.position in
+    c.make_frame.ensures
+    ∙ ap₂ (λ put out. made_by layout.Position 1 fill h 1 (record { packer = put; out = out })) c.pack_position-packer.ensures c.out_of_range-out.ensures
     ∙ ap (λ g. in_order (make_order layout.Position h ((out_of_range p, 10) ∷ [])) refused_made (done_made g))
     (packed-frame coding fill h (p ∷ []) _ (search rules) (omega arith) refl)
-
-pub make-position-spec : {M : Type 1} → statement M
-make-position-spec = tie.close (tie.spec (λ c κs. search rules) (λ c κs. search rules) (λ c κs. search rules) returns)

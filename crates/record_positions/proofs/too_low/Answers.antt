@@ -5,14 +5,8 @@ use lib.Signed.{lt_z}
 use mir.Syntax.{w32}
 use mir.ValLaws.{to_z-of_z}
 use Rattle.record_positions.specs.Positions.{too_low}
-use Rattle.record_positions.proofs.too_low.Statement.{statement}
-use Rattle.record_positions.proofs.too_low.Tie as tie
+use Rattle.record_positions.proofs.too_low.Goals as goal
 
-returns : tie.Need-returns
+pub returns : goal.returns
 unfolding too_low
 returns c = ap (λ x. lt_z x (negsuc 2147483646)) (to_z-of_z w32 c.args.coordinate c.ranges.coordinate)
-
-pub too-low-spec : {M : Type 1} → statement M
-too-low-spec =
-    tie.close
-    (tie.spec returns)
