@@ -3,18 +3,20 @@
 
 use frame::{Frame, Header, HealthCode, State};
 use journal::{Found, Kept};
-use libc::STDOUT_FILENO;
+
+// The file number of standard output.
+const STDOUT: i32 = 1;
 
 // Writes a number with a space before it.
 fn show_number(n: u64) {
-    io::write_all(STDOUT_FILENO, b" ");
-    io::print_decimal(STDOUT_FILENO, n);
+    io::write_all(STDOUT, b" ");
+    io::print_decimal(STDOUT, n);
 }
 
 // Writes a byte in hexadecimal with a space before it.
 fn show_byte(byte: u8) {
-    io::write_all(STDOUT_FILENO, b" ");
-    io::print_hex(STDOUT_FILENO, byte as u64, 2);
+    io::write_all(STDOUT, b" ");
+    io::print_hex(STDOUT, byte as u64, 2);
 }
 
 // Writes bytes in hexadecimal, one after the other.
@@ -45,17 +47,17 @@ fn show_frame(frame: Frame) {
 fn show_kept(frame: Frame, buffer: &mut [u8]) {
     match journal::keep(frame, buffer) {
         Kept::Done(length) => {
-            io::write_all(STDOUT_FILENO, b"kept");
+            io::write_all(STDOUT, b"kept");
             show_number(length as u64);
         }
         Kept::Refused(number) => {
-            io::write_all(STDOUT_FILENO, b"refused");
+            io::write_all(STDOUT, b"refused");
             show_number(number as u64);
         }
     }
-    io::write_all(STDOUT_FILENO, b":");
+    io::write_all(STDOUT, b":");
     show_bytes(buffer);
-    io::write_all(STDOUT_FILENO, b"\n");
+    io::write_all(STDOUT, b"\n");
 }
 
 // Recalls a record, and writes the answer and the frame.
@@ -65,17 +67,17 @@ fn show_recalled(bytes: &[u8]) {
     let frame = recalled.frame;
     match answer {
         Found::Record(length) => {
-            io::write_all(STDOUT_FILENO, b"recalled");
+            io::write_all(STDOUT, b"recalled");
             show_number(length as u64);
-            io::write_all(STDOUT_FILENO, b":");
+            io::write_all(STDOUT, b":");
             show_frame(frame);
         }
         Found::Refused(number) => {
-            io::write_all(STDOUT_FILENO, b"refused");
+            io::write_all(STDOUT, b"refused");
             show_number(number as u64);
         }
     }
-    io::write_all(STDOUT_FILENO, b"\n");
+    io::write_all(STDOUT, b"\n");
 }
 
 // The null frame of station 5, sequence 3, health 0.

@@ -1,5 +1,5 @@
 // A journal that is held whole, mended step after step; each step's report is written.
-use libc::STDOUT_FILENO;
+use crate::STDOUT;
 use mender::Step;
 
 // Where a step left the run, and how many bytes it passed over.
@@ -34,7 +34,7 @@ fn step_on(at: u64, searching: bool, bytes: &mut [u8]) -> Stepped {
             passed: 0,
         };
     }
-    io::write_all(STDOUT_FILENO, &text[..written]);
+    io::write_all(STDOUT, &text[..written]);
     Stepped {
         on: next.on,
         searching: next.searching,

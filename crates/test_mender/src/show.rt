@@ -1,11 +1,11 @@
 // A worked journal in print: its letter, the report of mending it, how many bytes were passed over, and its bytes.
+use crate::STDOUT;
 use crate::mending::mend_all;
-use libc::STDOUT_FILENO;
 
 // Writes a byte in hexadecimal with a space before it.
 fn show_byte(byte: u8) {
-    io::write_all(STDOUT_FILENO, b" ");
-    io::print_hex(STDOUT_FILENO, byte as u64, 2);
+    io::write_all(STDOUT, b" ");
+    io::print_hex(STDOUT, byte as u64, 2);
 }
 
 // Writes bytes in hexadecimal, one after the other.
@@ -19,12 +19,12 @@ fn show_bytes(bytes: &[u8]) {
 
 // A worked journal, with its letter.
 pub(crate) fn show(letter: &[u8], journal: &mut [u8]) {
-    io::write_all(STDOUT_FILENO, letter);
-    io::write_all(STDOUT_FILENO, b"\n");
+    io::write_all(STDOUT, letter);
+    io::write_all(STDOUT, b"\n");
     let passed = mend_all(journal);
-    io::write_all(STDOUT_FILENO, b"passed over ");
-    io::print_decimal(STDOUT_FILENO, passed);
-    io::write_all(STDOUT_FILENO, b":");
+    io::write_all(STDOUT, b"passed over ");
+    io::print_decimal(STDOUT, passed);
+    io::write_all(STDOUT, b":");
     show_bytes(journal);
-    io::write_all(STDOUT_FILENO, b"\n");
+    io::write_all(STDOUT, b"\n");
 }

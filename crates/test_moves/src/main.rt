@@ -4,18 +4,20 @@
 use frame::{Carried, Frame};
 use journal::{Found, Kept};
 use journal_moves::{Moved, Stop, Way};
-use libc::STDOUT_FILENO;
+
+// The file number of standard output.
+const STDOUT: i32 = 1;
 
 // Writes a number with a space before it.
 fn show_number(n: u64) {
-    io::write_all(STDOUT_FILENO, b" ");
-    io::print_decimal(STDOUT_FILENO, n);
+    io::write_all(STDOUT, b" ");
+    io::print_decimal(STDOUT, n);
 }
 
 // Writes a byte in hexadecimal with a space before it.
 fn show_byte(byte: u8) {
-    io::write_all(STDOUT_FILENO, b" ");
-    io::print_hex(STDOUT_FILENO, byte as u64, 2);
+    io::write_all(STDOUT, b" ");
+    io::print_hex(STDOUT, byte as u64, 2);
 }
 
 // Writes bytes in hexadecimal, one after the other.
@@ -36,9 +38,9 @@ fn show_moved(moved: Moved, bytes: &[u8]) {
         }
         Moved::Refused(number) => show_number(number as u64),
     }
-    io::write_all(STDOUT_FILENO, b":");
+    io::write_all(STDOUT, b":");
     show_bytes(bytes);
-    io::write_all(STDOUT_FILENO, b"\n");
+    io::write_all(STDOUT, b"\n");
 }
 
 // Writes the record of a frame's words, the record of its data that this is moved to, and the one that this is moved to again.
@@ -47,12 +49,12 @@ fn show_words(frame: Frame, words: &mut [u8], data: &mut [u8]) {
         Kept::Done(length) => show_number(length as u64),
         Kept::Refused(number) => show_number(number as u64),
     }
-    io::write_all(STDOUT_FILENO, b":");
+    io::write_all(STDOUT, b":");
     show_bytes(words);
-    io::write_all(STDOUT_FILENO, b"\n  old");
+    io::write_all(STDOUT, b"\n  old");
     let old = journal_moves::restore(words, data);
     show_moved(old, data);
-    io::write_all(STDOUT_FILENO, b"  new");
+    io::write_all(STDOUT, b"  new");
     let new = journal_moves::renew(data, words);
     show_moved(new, words);
 }
@@ -79,38 +81,38 @@ fn show_recalled(bytes: &[u8]) {
     let frame = recalled.frame;
     match answer {
         Found::Record(length) => {
-            io::write_all(STDOUT_FILENO, b"read");
+            io::write_all(STDOUT, b"read");
             show_number(length as u64);
             show_number(frame.carried.d29 as u64);
             show_number(frame.carried.d30 as u64);
             show_number(frame.header.kind as u64);
         }
         Found::Refused(number) => {
-            io::write_all(STDOUT_FILENO, b"refused");
+            io::write_all(STDOUT, b"refused");
             show_number(number as u64);
         }
     }
-    io::write_all(STDOUT_FILENO, b"\n");
+    io::write_all(STDOUT, b"\n");
 }
 
 // Moves a journal, and writes how far it went, why it stopped, and the records.
 fn show_journal(way: Way, bytes: &[u8], buffer: &mut [u8]) {
     let piece = journal_moves::move_all(way, bytes, buffer);
     let stop = piece.stop;
-    io::write_all(STDOUT_FILENO, b"moved");
+    io::write_all(STDOUT, b"moved");
     show_number(piece.read as u64);
     show_number(piece.written as u64);
     match stop {
         Stop::End => {
-            io::write_all(STDOUT_FILENO, b" end:");
+            io::write_all(STDOUT, b" end:");
         }
         Stop::At(number) => {
             show_number(number as u64);
-            io::write_all(STDOUT_FILENO, b":");
+            io::write_all(STDOUT, b":");
         }
     }
     show_bytes(buffer);
-    io::write_all(STDOUT_FILENO, b"\n");
+    io::write_all(STDOUT, b"\n");
 }
 
 // A to E: kept after each pair, and moved.

@@ -1,8 +1,10 @@
 // A report in print, as the worked ones are written: GPS is system 1, GLONASS 2.
 use frame::System;
-use libc::STDOUT_FILENO;
 use season_reports::{Added, Adding, Extremes, Report, Row};
 use test_vectors::{print, print_number, print_signed};
+
+// The file number of standard output.
+const STDOUT: i32 = 1;
 
 // Writes a sum behind its name.
 fn print_sum(sum: i64) {
@@ -10,7 +12,7 @@ fn print_sum(sum: i64) {
     if sum < 0 {
         print(b"-");
     }
-    io::print_decimal(STDOUT_FILENO, printing::magnitude(sum));
+    io::print_decimal(STDOUT, printing::magnitude(sum));
 }
 
 // Writes the number of a system.

@@ -12,8 +12,17 @@ mod observed;
 mod sum;
 mod tally;
 
-use libc::STDOUT_FILENO;
 use listing::Listing;
+use std::alloc::Global;
+use std::env::{Env, FillError};
+use std::fs::File;
+use std::io::{Error, ErrorKind, Read};
+
+// The file number of standard output.
+pub(crate) const STDOUT: i32 = 1;
+
+// The file number of standard error.
+const STDERR: i32 = 2;
 
 // Where the next piece ends: `size` bytes after `at`, or at the end of the bytes.
 fn piece_end(at: usize, size: usize, bytes: &[u8]) -> usize
@@ -85,36 +94,89 @@ fn list_twice(bytes: &[u8]) {
     let mut parts = io::large_buffer();
     let n = list_pieces(bytes, 4096, &mut whole);
     let m = list_pieces(bytes, 7, &mut parts);
-    io::write_all(STDOUT_FILENO, &whole[..n]);
+    io::write_all(STDOUT, &whole[..n]);
     if !check::same(&whole[..n], &parts[..m]) {
-        io::write_all(STDOUT_FILENO, b"in pieces:\n");
-        io::write_all(STDOUT_FILENO, &parts[..m]);
+        io::write_all(STDOUT, b"in pieces:\n");
+        io::write_all(STDOUT, &parts[..m]);
     }
 }
 
-// Lists the file that an argument names.
-fn try_file(i: usize) {
-    let mut name = io::buffer();
-    let n = os::arg(i, &mut name);
-    io::write_all(STDOUT_FILENO, &name[..n]);
-    io::write_all(STDOUT_FILENO, b"\n");
-    let file = os::open_read(&name[..n]);
-    if file < 0 {
-        os::fail(&name[..n]);
-        return;
+// Reads until the bytes are full, the file is at its end or a read fails, and answers how many came.
+fn read_full(mut file: File, bytes: &mut [u8]) -> usize
+    ensures { IsPrefixLen result bytes.new }
+{
+    let mut done: usize = 0;
+    while done < bytes.len() {
+        match file.read(&mut bytes[done..]) {
+            Ok(0) => return done,
+            Ok(more) => done += more,
+            Err(_) => return done,
+        }
     }
+    done
+}
+
+// Lists what a file has.
+fn list_file(file: File) {
     let mut bytes = io::buffer();
-    let size = io::read_full(file, &mut bytes);
-    libc::close(file);
+    let size = read_full(file, &mut bytes);
     list_twice(&bytes[..size]);
     tally::print_tally(&bytes[..size]);
 }
 
-fn main() {
-    let count = os::arg_count();
+// Opens a file to be read. The names of files are text.
+fn open_read(rt: &HostRuntime, name: &[u8]) -> Result<File, Error> {
+    match std::str::from_utf8(name) {
+        Ok(path) => File::open(rt, path),
+        Err(_) => Err(Error::new(ErrorKind::InvalidInput, "the name is not UTF-8")),
+    }
+}
+
+// Writes what a failure is: the system's words, without the number that std puts behind them.
+fn say_words(text: &str) {
+    match text.split_once(" (os error ") {
+        Some((words, _)) => io::write_all(STDERR, words.as_bytes()),
+        None => io::write_all(STDERR, text.as_bytes()),
+    };
+}
+
+// Says what the system failed with on a file.
+fn say_failure(alloc: Global, name: &[u8], error: Error) {
+    io::write_all(STDERR, name);
+    io::write_all(STDERR, b": ");
+    if let Ok(text) = format!(in alloc; "{error}") {
+        say_words(text.as_str());
+    }
+    io::write_all(STDERR, b"\n");
+}
+
+// Lists the file of a name, which is written first.
+fn try_name(rt: &HostRuntime, name: &[u8]) {
+    io::write_all(STDOUT, name);
+    io::write_all(STDOUT, b"\n");
+    match open_read(rt, name) {
+        Ok(file) => list_file(file),
+        Err(error) => say_failure(rt.alloc(), name, error),
+    }
+}
+
+// Lists the file that an argument names, and answers whether there is such an argument. One that is too long for the buffer is no name.
+fn try_file(rt: &HostRuntime, i: usize) -> bool {
+    let mut name = io::buffer();
+    match rt.arg(i, &mut name) {
+        Ok(n) => try_name(rt, &name[..n]),
+        Err(FillError::TooLong) => try_name(rt, b""),
+        Err(FillError::NotPresent) => return false,
+    }
+    true
+}
+
+fn main(rt: HostRuntime) {
     let mut i: usize = 1;
-    while i < count {
-        try_file(i);
+    while i < usize::MAX {
+        if !try_file(&rt, i) {
+            break;
+        }
         i += 1;
     }
     ends::print_ends();

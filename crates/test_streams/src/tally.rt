@@ -1,10 +1,10 @@
 // What becomes of the frames of a stream: each is kept and recalled, its record's fields are summed and made into a frame
 // again, and it is written.
+use crate::STDOUT;
 use crate::again::made_again;
 use crate::sum::{Sum, with_bytes, zero};
 use frame::{Carried, Frame};
 use journal::Found;
-use libc::STDOUT_FILENO;
 use reader::Reader;
 use record_stages::Making;
 use writer::Written;
@@ -170,8 +170,8 @@ fn tally_of(bytes: &[u8]) -> Tally {
 
 // Writes a label and a number.
 pub(crate) fn print_number(label: &[u8], number: u64) {
-    io::write_all(STDOUT_FILENO, label);
-    io::print_decimal(STDOUT_FILENO, number);
+    io::write_all(STDOUT, label);
+    io::print_decimal(STDOUT, number);
 }
 
 // Writes a label and both numbers of a sum.
@@ -189,5 +189,5 @@ pub(crate) fn print_tally(bytes: &[u8]) {
     print_number(b" written ", tally.written);
     print_sum(b" sum ", tally.bytes);
     print_sum(b" fields ", tally.fields);
-    io::write_all(STDOUT_FILENO, b"\n");
+    io::write_all(STDOUT, b"\n");
 }

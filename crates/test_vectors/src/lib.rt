@@ -8,8 +8,10 @@ pub mod positions;
 pub mod texts;
 
 use frame::{Frame, Header, HeaderWords, State};
-use libc::STDOUT_FILENO;
 use record_stages::{Made, Making};
+
+// The file number of standard output.
+const STDOUT: i32 = 1;
 
 // The header of a type: station 5, Z count 100, sequence 3, health 0.
 pub fn header_with(kind: u8) -> Header {
@@ -39,13 +41,13 @@ pub fn frame_of(first: u32, second: u32, data: &[u32]) -> Frame {
 
 // Writes text as it is.
 pub fn print(text: &[u8]) {
-    io::write_all(STDOUT_FILENO, text);
+    io::write_all(STDOUT, text);
 }
 
 // Writes a number behind its name.
 pub fn print_number(name: &[u8], number: u64) {
     print(name);
-    io::print_decimal(STDOUT_FILENO, number);
+    io::print_decimal(STDOUT, number);
 }
 
 // Writes a signed number behind its name.
@@ -56,7 +58,7 @@ pub fn print_signed(name: &[u8], number: i32) {
         print_number(b"-", std::num::wrapping_sub_u32(0, code) as u64);
         return;
     }
-    io::print_decimal(STDOUT_FILENO, code as u64);
+    io::print_decimal(STDOUT, code as u64);
 }
 
 // Writes a refusal's number.

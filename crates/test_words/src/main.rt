@@ -1,8 +1,10 @@
 // Prints worked bytes with the six line bits that they carry, and worked windows with their remainders, to be compared with the tables of vectors.
 #![tactic(auto)]
 
-use libc::STDOUT_FILENO;
 use line::Six;
+
+// The file number of standard output.
+const STDOUT: i32 = 1;
 
 // The lowest four bits in print.
 fn digit(n: u32) -> u8 {
@@ -30,15 +32,15 @@ fn print_six(six: u32) {
         bit(six),
         b'\n',
     ];
-    io::write_all(STDOUT_FILENO, &text);
+    io::write_all(STDOUT, &text);
 }
 
 // A byte and the bits that it carries, the first sent first, or that it is refused.
 fn show_byte(byte: u8) {
     let text = [digit(byte as u32 / 16), digit(byte as u32)];
-    io::write_all(STDOUT_FILENO, &text);
+    io::write_all(STDOUT, &text);
     let Six::Bits(six) = line::six_of(byte) else {
-        io::write_all(STDOUT_FILENO, b" refused\n");
+        io::write_all(STDOUT, b" refused\n");
         return;
     };
     print_six(six);
@@ -56,7 +58,7 @@ fn show_window(window: u32) {
         digit(window / 16),
         digit(window),
     ];
-    io::write_all(STDOUT_FILENO, &text);
+    io::write_all(STDOUT, &text);
     print_six(word::remainder(window));
 }
 

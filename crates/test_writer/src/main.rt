@@ -2,8 +2,10 @@
 #![tactic(auto)]
 
 use frame::{Carried, Frame, Header, State};
-use libc::STDOUT_FILENO;
 use writer::{Opened, Written};
+
+// The file number of standard output.
+const STDOUT: i32 = 1;
 
 // A digit of a byte in print.
 fn digit(n: u8) -> u8 {
@@ -16,7 +18,7 @@ fn digit(n: u8) -> u8 {
 // A byte, two digits and what ends it.
 fn print_byte(byte: u8, end: u8) {
     let text = [digit(byte / 16), digit(byte % 16), end];
-    io::write_all(STDOUT_FILENO, &text);
+    io::write_all(STDOUT, &text);
 }
 
 // A line of bytes.
