@@ -2,8 +2,14 @@
 // `all` it goes in by `feed_all`, with `each` byte by byte by `feed`, with none in both ways. Written are the frames of all rounds.
 #![tactic(auto)]
 
-use libc::{STDIN_FILENO, STDOUT_FILENO};
 use reader::Reader;
+use std::env::Env;
+
+// The file number of standard input.
+const STDIN: i32 = 0;
+
+// The file number of standard output.
+const STDOUT: i32 = 1;
 
 // A reader, and how many frames it has handed out.
 #[derive(Clone, Copy)]
@@ -95,26 +101,26 @@ fn rounds(bytes: &[u8], singly: bool) -> u64 {
     frames
 }
 
-// Whether the argument begins with a letter, or is missing.
-fn asked(letter: u8) -> bool {
+// Whether the argument begins with a letter, or is missing. One that is too long for the word leaves its beginning there.
+fn asked(rt: &HostRuntime, letter: u8) -> bool {
     let mut word = [letter; 16];
-    os::arg(1, &mut word);
+    let _ = rt.arg(1, &mut word);
     word[0] == letter
 }
 
 // Writes a number and ends the line.
 fn show(number: u64) {
-    io::print_decimal(STDOUT_FILENO, number);
-    io::write_all(STDOUT_FILENO, b"\n");
+    io::print_decimal(STDOUT, number);
+    io::write_all(STDOUT, b"\n");
 }
 
-fn main() {
+fn main(rt: HostRuntime) {
     let mut buffer = [0u8; 400000];
-    let n = io::read_full(STDIN_FILENO, &mut buffer);
-    if asked(b'a') {
+    let n = io::read_full(STDIN, &mut buffer);
+    if asked(&rt, b'a') {
         show(rounds(&buffer[..n], false));
     }
-    if asked(b'e') {
+    if asked(&rt, b'e') {
         show(rounds(&buffer[..n], true));
     }
 }

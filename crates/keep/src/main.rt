@@ -3,8 +3,14 @@
 
 use frame::Frame;
 use journal::Kept;
-use libc::{STDERR_FILENO, STDIN_FILENO, STDOUT_FILENO};
 use reader::{Answer, Reader};
+use std::io::{Read, Stdin};
+
+// The file number of standard output.
+const STDOUT: i32 = 1;
+
+// The file number of standard error.
+const STDERR: i32 = 2;
 
 // How a step of the run ended: it goes on, the input is at its end, or a call of the system failed.
 #[derive(Clone, Copy)]
@@ -30,9 +36,9 @@ fn keep_frame(frame: Frame) -> bool {
     if length > 135 {
         return true;
     }
-    let is_written = io::write_all(STDOUT_FILENO, &record[..length]);
+    let is_written = io::write_all(STDOUT, &record[..length]);
     if !is_written {
-        io::write_all(STDERR_FILENO, b"keep: the journal cannot be written\n");
+        io::write_all(STDERR, b"keep: the journal cannot be written\n");
     }
     is_written
 }
@@ -103,33 +109,31 @@ fn keep_bytes(reader: Reader, bytes: &[u8]) -> Stepped {
 }
 
 // Reads once, and keeps the frames that what came completes.
-fn keep_some(reader: Reader) -> Stepped {
+fn keep_some(mut line: Stdin, reader: Reader) -> Stepped {
     let mut input = io::large_buffer();
-    let got = libc::read(STDIN_FILENO, &mut input);
-    if got < 0 {
-        io::write_all(STDERR_FILENO, b"keep: the line cannot be read\n");
+    let Ok(n) = line.read(&mut input) else {
+        io::write_all(STDERR, b"keep: the line cannot be read\n");
         return Stepped {
             step: Step::Failed,
             reader,
         };
-    }
-    if got == 0 {
+    };
+    if n == 0 {
         return Stepped {
             step: Step::End,
             reader,
         };
     }
-    let n = io::count(got, &input);
     keep_bytes(reader, &input[..n])
 }
 
 // Keeps all of standard input. The turns are counted down from a number that no run uses up.
-fn keep_all() {
+fn keep_all(line: Stdin) {
     let mut state = reader::new();
     let mut turns = u64::MAX;
     while turns > 0 {
         turns -= 1;
-        let stepped = keep_some(state);
+        let stepped = keep_some(line, state);
         let step = stepped.step;
         state = stepped.reader;
         match step {
@@ -146,6 +150,6 @@ fn keep_all() {
     }
 }
 
-fn main() {
-    keep_all();
+fn main(rt: HostRuntime) {
+    keep_all(rt.stdin());
 }

@@ -1,8 +1,14 @@
 // `list < stream` prints what the line said: a line for each frame, and two lines of totals.
 #![tactic(auto)]
 
-use libc::{STDERR_FILENO, STDIN_FILENO, STDOUT_FILENO};
 use listing::Listing;
+use std::io::{Read, Stdin};
+
+// The file number of standard output.
+const STDOUT: i32 = 1;
+
+// The file number of standard error.
+const STDERR: i32 = 2;
 
 // How a step of the run ended: it goes on, the input is at its end, or a call of the system failed.
 #[derive(Clone, Copy)]
@@ -21,9 +27,9 @@ struct Stepped {
 
 // Writes text to standard output, or says that it cannot.
 fn print_text(text: &[u8]) -> bool {
-    let is_written = io::write_all(STDOUT_FILENO, text);
+    let is_written = io::write_all(STDOUT, text);
     if !is_written {
-        io::write_all(STDERR_FILENO, b"list: the output cannot be written\n");
+        io::write_all(STDERR, b"list: the output cannot be written\n");
     }
     is_written
 }
@@ -60,23 +66,21 @@ fn list_bytes(listing: Listing, bytes: &[u8]) -> Stepped {
 }
 
 // Reads once, and lists what came.
-fn list_some(listing: Listing) -> Stepped {
+fn list_some(mut stream: Stdin, listing: Listing) -> Stepped {
     let mut input = io::large_buffer();
-    let got = libc::read(STDIN_FILENO, &mut input);
-    if got < 0 {
-        io::write_all(STDERR_FILENO, b"list: the input cannot be read\n");
+    let Ok(n) = stream.read(&mut input) else {
+        io::write_all(STDERR, b"list: the input cannot be read\n");
         return Stepped {
             step: Step::Failed,
             listing,
         };
-    }
-    if got == 0 {
+    };
+    if n == 0 {
         return Stepped {
             step: Step::End,
             listing,
         };
     }
-    let n = io::count(got, &input);
     list_bytes(listing, &input[..n])
 }
 
@@ -89,12 +93,12 @@ fn print_end(listing: Listing) {
 }
 
 // Lists all of standard input. The turns are counted down from a number that no run uses up.
-fn list_all() {
+fn list_all(stream: Stdin) {
     let mut state = listing::new();
     let mut turns = u64::MAX;
     while turns > 0 {
         turns -= 1;
-        let stepped = list_some(state);
+        let stepped = list_some(stream, state);
         let step = stepped.step;
         state = stepped.listing;
         match step {
@@ -110,6 +114,6 @@ fn list_all() {
     }
 }
 
-fn main() {
-    list_all();
+fn main(rt: HostRuntime) {
+    list_all(rt.stdin());
 }

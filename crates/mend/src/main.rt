@@ -4,41 +4,53 @@
 #![tactic(auto)]
 
 mod course;
+mod files;
 mod progress;
 mod report;
 mod turns;
 mod window;
 
-use libc::STDERR_FILENO;
+use files::{argument, create, open_read, say_failure};
+use std::fs::File;
 
-// Opens IN, makes OUT, and mends.
-fn mend_files(input_path: &[u8], output_path: &[u8]) {
-    let input = os::open_read(input_path);
-    if input < 0 {
-        os::fail(input_path);
-        return;
-    }
-    let output = os::create(output_path);
-    if output < 0 {
-        os::fail(output_path);
-        libc::close(input);
-        return;
-    }
-    turns::mend_all(input, output, progress::is_told(input));
-    libc::close(input);
-    if libc::close(output) != 0 {
-        io::write_all(STDERR_FILENO, b"mend: OUT cannot be written\n");
+// The file number of standard output.
+pub(crate) const STDOUT: i32 = 1;
+
+// The file number of standard error.
+pub(crate) const STDERR: i32 = 2;
+
+// Mends from one file to the other. What the system has still to write of OUT is written before the end, so that a failure is said.
+fn mend_opened(rt: &HostRuntime, mut input: File, mut output: File) {
+    let is_told = progress::is_told(rt, &mut input);
+    turns::mend_all(&mut input, &mut output, is_told);
+    if output.sync_all().is_err() {
+        io::write_all(STDERR, b"mend: OUT cannot be written\n");
     }
 }
 
-fn main() {
+// Opens IN, makes OUT, and mends.
+fn mend_files(rt: &HostRuntime, input_path: &[u8], output_path: &[u8]) {
+    match open_read(rt, input_path) {
+        Ok(input) => match create(rt, output_path) {
+            Ok(output) => mend_opened(rt, input, output),
+            Err(error) => say_failure(rt.alloc(), output_path, error),
+        },
+        Err(error) => say_failure(rt.alloc(), input_path, error),
+    }
+}
+
+fn main(rt: HostRuntime) {
     let mut input_path = io::buffer();
     let mut output_path = io::buffer();
-    let input_length = os::arg(1, &mut input_path);
-    let output_length = os::arg(2, &mut output_path);
+    let input_length = argument(&rt, 1, &mut input_path);
+    let output_length = argument(&rt, 2, &mut output_path);
     if input_length == 0 || output_length == 0 {
-        io::write_all(STDERR_FILENO, b"usage: mend IN OUT\n");
+        io::write_all(STDERR, b"usage: mend IN OUT\n");
         return;
     }
-    mend_files(&input_path[..input_length], &output_path[..output_length]);
+    mend_files(
+        &rt,
+        &input_path[..input_length],
+        &output_path[..output_length],
+    );
 }

@@ -1,11 +1,11 @@
 // What standard output has beside the reports of the steps: the stretches of bytes passed over, and the totals.
+use crate::STDOUT;
 use crate::course::Course;
-use libc::STDOUT_FILENO;
 
 // A label and a number.
 fn print_number(label: &[u8], n: u64) {
-    io::write_all(STDOUT_FILENO, label);
-    io::print_decimal(STDOUT_FILENO, n);
+    io::write_all(STDOUT, label);
+    io::print_decimal(STDOUT, n);
 }
 
 // The stretch of bytes passed over behind this place, where there is one.
@@ -15,7 +15,7 @@ pub(crate) fn print_stretch(at: u64, stretch: u64) {
     }
     print_number(b"passed ", std::num::wrapping_sub_u64(at, stretch));
     print_number(b" ", stretch);
-    io::write_all(STDOUT_FILENO, b"\n");
+    io::write_all(STDOUT, b"\n");
 }
 
 // The last stretch, and the totals.
@@ -25,5 +25,5 @@ pub(crate) fn print_totals(course: Course) {
     print_number(b" changed ", course.changed);
     print_number(b" lost ", course.lost);
     print_number(b" passed ", course.passed);
-    io::write_all(STDOUT_FILENO, b"\n");
+    io::write_all(STDOUT, b"\n");
 }

@@ -1,9 +1,11 @@
 // All of IN mended to OUT, a turn for each read.
+use crate::STDERR;
 use crate::course::{Course, begun};
 use crate::progress::print_progress;
 use crate::report::print_totals;
 use crate::window::{mend_window, move_down};
-use libc::STDERR_FILENO;
+use std::fs::File;
+use std::io::{Read, Write};
 
 // How a turn ended: the input goes on, it is at its end, or a call of the system failed; and how many bytes are kept for the next one.
 #[derive(Clone, Copy)]
@@ -22,7 +24,7 @@ struct Turn {
 
 // A turn that failed, with what it says.
 fn failure(what: &[u8], course: Course) -> Turn {
-    io::write_all(STDERR_FILENO, what);
+    io::write_all(STDERR, what);
     Turn {
         reading: Reading::Failed,
         kept: 0,
@@ -31,22 +33,27 @@ fn failure(what: &[u8], course: Course) -> Turn {
 }
 
 // Reads once behind the bytes that are kept, mends, and writes what was dealt with.
-fn mend_some(input: i32, output: i32, kept: usize, course: Course, buffer: &mut [u8]) -> Turn {
+fn mend_some(
+    input: &mut File,
+    output: &mut File,
+    kept: usize,
+    course: Course,
+    buffer: &mut [u8],
+) -> Turn {
     if buffer.len() <= kept {
         return failure(b"mend: the buffer is too small\n", course);
     }
-    let got = libc::read(input, &mut buffer[kept..]);
-    if got < 0 {
+    let Ok(got) = input.read(&mut buffer[kept..]) else {
         return failure(b"mend: IN cannot be read\n", course);
-    }
-    let end = kept + io::count(got, &buffer[kept..]);
+    };
+    let end = kept + got;
     let piece = mend_window(course, got == 0, &mut buffer[..end]);
     let used = piece.used;
     let after = piece.course;
     if end < used {
         return failure(b"mend: the window is too small\n", after);
     }
-    if !io::write_all(output, &buffer[..used]) {
+    if output.write_all(&buffer[..used]).is_err() {
         return failure(b"mend: OUT cannot be written\n", after);
     }
     move_down(used, end - used, buffer);
@@ -62,7 +69,7 @@ fn mend_some(input: i32, output: i32, kept: usize, course: Course, buffer: &mut 
 }
 
 // Mends all of IN, and prints the totals. The turns are counted down from a number that no run uses up.
-pub(crate) fn mend_all(input: i32, output: i32, is_told: bool) {
+pub(crate) fn mend_all(input: &mut File, output: &mut File, is_told: bool) {
     let mut buffer = io::large_buffer();
     let mut kept: usize = 0;
     let mut state = begun();

@@ -1,7 +1,7 @@
 // The window that a journal is mended through: step after step over the bytes that it holds, and what is left of them is brought to its start.
+use crate::STDOUT;
 use crate::course::{Course, counted, is_passed};
 use crate::report::print_stretch;
-use libc::STDOUT_FILENO;
 
 // A step looks at no more bytes than the longest record has.
 const LONGEST: usize = 135;
@@ -42,7 +42,7 @@ fn mend_step(course: Course, bytes: &mut [u8]) -> Piece {
     if !is_passed(step) {
         print_stretch(at, stretch);
     }
-    io::write_all(STDOUT_FILENO, &text[..written]);
+    io::write_all(STDOUT, &text[..written]);
     let lines = lines_in(&text[..written]);
     Piece {
         used: next.on,

@@ -4,7 +4,16 @@
 ghost use Rattle.std.specs.Prelude.{◌≡◌, ◌≤◌, length};
 
 use journal_moves::{Stop, Way};
-use libc::{STDERR_FILENO, STDIN_FILENO, STDOUT_FILENO};
+use std::env::Env;
+
+// The file number of standard input.
+const STDIN: i32 = 0;
+
+// The file number of standard output.
+const STDOUT: i32 = 1;
+
+// The file number of standard error.
+const STDERR: i32 = 2;
 
 // A record is no longer than this; with as many bytes at hand, or where the input has ended, what refuses it is final.
 const LONGEST: usize = 135;
@@ -25,18 +34,15 @@ struct Stepped {
 
 // Says where the run stops, and why.
 fn say_stop(number: u8, at: u64) {
-    io::write_all(STDERR_FILENO, b"move_journal: refusal ");
-    io::print_decimal(STDERR_FILENO, number as u64);
-    io::write_all(STDERR_FILENO, b" at byte ");
-    io::print_decimal(STDERR_FILENO, at);
+    io::write_all(STDERR, b"move_journal: refusal ");
+    io::print_decimal(STDERR, number as u64);
+    io::write_all(STDERR, b" at byte ");
+    io::print_decimal(STDERR, at);
     match number {
-        14 => io::write_all(
-            STDERR_FILENO,
-            b": no record of the form that is moved from\n",
-        ),
-        15 => io::write_all(STDERR_FILENO, b": the record is cut short\n"),
-        16 => io::write_all(STDERR_FILENO, b": N or the preamble is wrong\n"),
-        _ => io::write_all(STDERR_FILENO, b": a word was altered\n"),
+        14 => io::write_all(STDERR, b": no record of the form that is moved from\n"),
+        15 => io::write_all(STDERR, b": the record is cut short\n"),
+        16 => io::write_all(STDERR, b": N or the preamble is wrong\n"),
+        _ => io::write_all(STDERR, b": a word was altered\n"),
     };
 }
 
@@ -53,11 +59,8 @@ fn move_bytes(way: Way, bytes: &[u8], at: u64, ended: bool) -> Stepped
         from += piece.read;
         let written = piece.written;
         let stop = piece.stop;
-        if !io::write_all(STDOUT_FILENO, &out[..written]) {
-            io::write_all(
-                STDERR_FILENO,
-                b"move_journal: the output cannot be written\n",
-            );
+        if !io::write_all(STDOUT, &out[..written]) {
+            io::write_all(STDERR, b"move_journal: the output cannot be written\n");
             return Stepped {
                 step: Step::Over,
                 read: from,
@@ -112,7 +115,7 @@ fn fill(window: &mut [u8], held: usize) -> usize
     ensures upper_bound { result ≤ length window.new }
     ensures window_len_unchanged { length window.new ≡ length window.old }
 {
-    let got = io::read_full(STDIN_FILENO, &mut window[held..]);
+    let got = io::read_full(STDIN, &mut window[held..]);
     held + got
 }
 
@@ -139,20 +142,22 @@ fn move_input(way: Way, window: &mut [u8]) {
     }
 }
 
-// The argument is this word.
-fn asked(word: &[u8]) -> bool {
+// The argument is this word. One that is missing or too long for the buffer is none.
+fn asked(rt: &HostRuntime, word: &[u8]) -> bool {
     let mut given = io::buffer();
-    let n = os::arg(1, &mut given);
-    check::same(&given[..n], word)
+    match rt.arg(1, &mut given) {
+        Ok(n) => check::same(&given[..n], word),
+        Err(_) => false,
+    }
 }
 
-fn main() {
+fn main(rt: HostRuntime) {
     let mut window = io::large_buffer();
-    if asked(b"new") {
+    if asked(&rt, b"new") {
         move_input(Way::New, &mut window);
-    } else if asked(b"old") {
+    } else if asked(&rt, b"old") {
         move_input(Way::Old, &mut window);
     } else {
-        io::write_all(STDERR_FILENO, b"move_journal: the argument is new or old\n");
+        io::write_all(STDERR, b"move_journal: the argument is new or old\n");
     }
 }

@@ -1,7 +1,13 @@
 // The files of the arguments, one after the other: each is read whole, and its report is added to that of the files before it.
+ghost use Rattle.io.specs.Counts.{IsPrefixLen};
+
+use crate::STDERR;
 use crate::pieces::{Course, Ending, read_file};
-use libc::STDERR_FILENO;
 use season_reports::{Added, Adding, Report};
+use std::alloc::Global;
+use std::env::Env;
+use std::fs::File;
+use std::io::{Error, ErrorKind};
 
 // The report of the files so far, and whether the run is over.
 #[derive(Clone, Copy)]
@@ -12,21 +18,33 @@ pub(crate) struct Season {
 
 // Starts a line on standard error with the name of a file.
 fn say_name(name: &[u8]) {
-    io::write_all(STDERR_FILENO, b"season: ");
-    io::write_all(STDERR_FILENO, name);
+    io::write_all(STDERR, b"season: ");
+    io::write_all(STDERR, name);
+}
+
+// Writes what a failure is: the system's words, without the number that std puts behind them.
+fn say_words(text: &str) {
+    match text.split_once(" (os error ") {
+        Some((words, _)) => io::write_all(STDERR, words.as_bytes()),
+        None => io::write_all(STDERR, text.as_bytes()),
+    };
 }
 
 // Says what a call of the system failed with on a file.
-fn say_failure(name: &[u8]) {
-    io::write_all(STDERR_FILENO, b"season: ");
-    os::fail(name);
+fn say_failure(alloc: Global, name: &[u8], error: Error) {
+    say_name(name);
+    io::write_all(STDERR, b": ");
+    if let Ok(text) = format!(in alloc; "{error}") {
+        say_words(text.as_str());
+    }
+    io::write_all(STDERR, b"\n");
 }
 
 // Says a refusal's number of a file.
 fn say_refusal(name: &[u8], number: u8) {
     say_name(name);
-    io::write_all(STDERR_FILENO, b": refusal ");
-    io::print_decimal(STDERR_FILENO, number as u64);
+    io::write_all(STDERR, b": refusal ");
+    io::print_decimal(STDERR, number as u64);
 }
 
 // Says at which record a file stops, where it does.
@@ -35,9 +53,9 @@ fn say_stop(name: &[u8], ending: Ending, at: u64) {
         return;
     };
     say_refusal(name, number);
-    io::write_all(STDERR_FILENO, b" at byte ");
-    io::print_decimal(STDERR_FILENO, at);
-    io::write_all(STDERR_FILENO, b"\n");
+    io::write_all(STDERR, b" at byte ");
+    io::print_decimal(STDERR, at);
+    io::write_all(STDERR, b"\n");
 }
 
 // A refusal, with the report as it was.
@@ -89,7 +107,7 @@ fn with_records(report: Report, name: &[u8], course: Course) -> Season {
         }
         Adding::Refused(number) => {
             say_refusal(name, number);
-            io::write_all(STDERR_FILENO, b"\n");
+            io::write_all(STDERR, b"\n");
             Season {
                 report: total,
                 is_over: true,
@@ -98,28 +116,62 @@ fn with_records(report: Report, name: &[u8], course: Course) -> Season {
     }
 }
 
-// Opens and reads a file. What can't be opened or read is said; the records before that place count.
-fn with_file(report: Report, name: &[u8], window: &mut [u8]) -> Season {
-    let file = os::open_read(name);
-    if file < 0 {
-        say_failure(name);
-        return Season {
-            report,
-            is_over: false,
-        };
+// Opens a file to be read. The names of files are text.
+fn open_read(rt: &HostRuntime, name: &[u8]) -> Result<File, Error> {
+    match std::str::from_utf8(name) {
+        Ok(path) => File::open(rt, path),
+        Err(_) => Err(Error::new(ErrorKind::InvalidInput, "the name is not UTF-8")),
     }
-    let course = read_file(file, window);
+}
+
+// Argument number `i` at the start of a buffer: how many bytes it has, none where it is missing or too long.
+fn argument(rt: &HostRuntime, i: usize, buffer: &mut [u8]) -> usize
+    ensures { IsPrefixLen result buffer.new }
+{
+    match rt.arg(i, buffer) {
+        Ok(length) => length,
+        Err(_) => 0,
+    }
+}
+
+// Reads a file that is open.
+fn with_opened(
+    rt: &HostRuntime,
+    report: Report,
+    name: &[u8],
+    mut file: File,
+    window: &mut [u8],
+) -> Season {
+    let course = read_file(&mut file, window);
     let ending = course.ending;
-    if let Ending::Unread = ending {
-        say_failure(name);
+    if let Ending::Unread(error) = ending {
+        say_failure(rt.alloc(), name, error);
     }
-    libc::close(file);
     with_records(report, name, course)
 }
 
+// Opens and reads a file. What can't be opened or read is said; the records before that place count.
+fn with_file(rt: &HostRuntime, report: Report, name: &[u8], window: &mut [u8]) -> Season {
+    match open_read(rt, name) {
+        Ok(file) => with_opened(rt, report, name, file, window),
+        Err(error) => {
+            say_failure(rt.alloc(), name, error);
+            Season {
+                report,
+                is_over: false,
+            }
+        }
+    }
+}
+
 // The file that argument number `i` names.
-pub(crate) fn with_argument(report: Report, i: usize, window: &mut [u8]) -> Season {
+pub(crate) fn with_argument(
+    rt: &HostRuntime,
+    report: Report,
+    i: usize,
+    window: &mut [u8],
+) -> Season {
     let mut name = io::buffer();
-    let length = os::arg(i, &mut name);
-    with_file(report, &name[..length], window)
+    let length = argument(rt, i, &mut name);
+    with_file(rt, report, &name[..length], window)
 }

@@ -1,18 +1,18 @@
 // A report as lines of tabs: what is counted, the names of the columns, a line for each row, and the totals.
+use crate::STDOUT;
 use crate::sums::{Amount, is_less, less, totals_of};
 use frame::System;
-use libc::STDOUT_FILENO;
 use season_reports::{Extremes, Report, Row};
 
 // Writes text as it is, and answers whether it was written.
 fn print(text: &[u8]) -> bool {
-    io::write_all(STDOUT_FILENO, text)
+    io::write_all(STDOUT, text)
 }
 
 // Writes a number in its column.
 fn print_number(n: u64) {
     print(b"\t");
-    io::print_decimal(STDOUT_FILENO, n);
+    io::print_decimal(STDOUT, n);
 }
 
 // Writes a signed number in its column.
@@ -21,7 +21,7 @@ fn print_signed(z: i64) {
     if z < 0 {
         print(b"-");
     }
-    io::print_decimal(STDOUT_FILENO, printing::magnitude(z));
+    io::print_decimal(STDOUT, printing::magnitude(z));
 }
 
 // Writes the name of a system.
@@ -69,10 +69,10 @@ fn print_row(row: Row) {
 // Writes an amount: the rest has nine digits behind thousand millions.
 fn print_amount(amount: Amount) {
     if amount.billions == 0 {
-        io::print_decimal(STDOUT_FILENO, amount.rest);
+        io::print_decimal(STDOUT, amount.rest);
         return;
     }
-    io::print_decimal(STDOUT_FILENO, amount.billions);
+    io::print_decimal(STDOUT, amount.billions);
     let mut text = [0u8; 20];
     let n = io::decimal(
         std::num::wrapping_add_u64(amount.rest, 1000000000),

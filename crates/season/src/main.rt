@@ -9,15 +9,21 @@ mod pieces;
 mod sums;
 mod window;
 
-use libc::STDERR_FILENO;
 use season_reports::Report;
+use std::env::{Env, FillError};
+
+// The file number of standard output.
+pub(crate) const STDOUT: i32 = 1;
+
+// The file number of standard error.
+pub(crate) const STDERR: i32 = 2;
 
 // The report of the files that the arguments name, as far as they are added.
-fn report_of_files(count: usize, window: &mut [u8]) -> Report {
+fn report_of_files(rt: &HostRuntime, count: usize, window: &mut [u8]) -> Report {
     let mut report = season_reports::empty();
     let mut i: usize = 1;
     while i < count {
-        let season = files::with_argument(report, i, window);
+        let season = files::with_argument(rt, report, i, window);
         report = season.report;
         if season.is_over {
             return report;
@@ -27,15 +33,37 @@ fn report_of_files(count: usize, window: &mut [u8]) -> Report {
     report
 }
 
-fn main() {
-    let count = os::arg_count();
+// Whether there is an argument of this number; the program's name is number 0.
+fn has_argument(rt: &HostRuntime, i: usize) -> bool {
+    let mut first = [0u8; 1];
+    match rt.arg(i, &mut first) {
+        Ok(_) => true,
+        Err(FillError::TooLong) => true,
+        Err(FillError::NotPresent) => false,
+    }
+}
+
+// How many arguments there are, the program's name among them.
+fn argument_count(rt: &HostRuntime) -> usize {
+    let mut count: usize = 0;
+    while count < usize::MAX {
+        if !has_argument(rt, count) {
+            return count;
+        }
+        count += 1;
+    }
+    count
+}
+
+fn main(rt: HostRuntime) {
+    let count = argument_count(&rt);
     if count < 2 {
-        io::write_all(STDERR_FILENO, b"usage: season FILE..\n");
+        io::write_all(STDERR, b"usage: season FILE..\n");
         return;
     }
     let mut window = io::large_buffer();
-    let report = report_of_files(count, &mut window);
+    let report = report_of_files(&rt, count, &mut window);
     if !lines::print_report(report) {
-        io::write_all(STDERR_FILENO, b"season: the output cannot be written\n");
+        io::write_all(STDERR, b"season: the output cannot be written\n");
     }
 }

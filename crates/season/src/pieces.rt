@@ -5,6 +5,8 @@ ghost use Rattle.std.specs.Prelude.{◌≡◌, ◌≤◌, length};
 use crate::window::{Filling, brought, fill};
 use journal::Found;
 use season_reports::{Adding, Extremes, JournalReport, Report, Row};
+use std::fs::File;
+use std::io::Error;
 
 // A record is no longer than this; with as many bytes at hand, or where the file has ended, what refuses it is final.
 const LONGEST: usize = 135;
@@ -24,7 +26,7 @@ pub(crate) enum Ending {
     Open,
     Whole,
     Stopped(u8),
-    Unread,
+    Unread(Error),
 }
 
 // What was read of a file, up to the place `at`. Once a count has passed, the report has the keys of the file, and counts of its last pieces alone.
@@ -127,7 +129,7 @@ fn ending_of(filling: Filling, left: &[u8]) -> Ending {
     }
     match filling {
         Filling::Full => Ending::Open,
-        Filling::Failed => Ending::Unread,
+        Filling::Failed(error) => Ending::Unread(error),
         Filling::End => {
             if left.len() == 0 {
                 return Ending::Whole;
@@ -138,7 +140,7 @@ fn ending_of(filling: Filling, left: &[u8]) -> Ending {
 }
 
 // One piece more.
-fn read_piece(file: i32, course: Course, window: &mut [u8]) -> Course
+fn read_piece(file: &mut File, course: Course, window: &mut [u8]) -> Course
     requires { course.held ≤ length window.old }
     ensures held_in_bounds { result.held ≤ length window.new }
     ensures window_len_unchanged { length window.new ≡ length window.old }
@@ -176,7 +178,7 @@ fn is_ended(course: Course) -> bool {
 }
 
 // The report of a file, read piece by piece. The turns are counted down from a number that no run uses up.
-pub(crate) fn read_file(file: i32, window: &mut [u8]) -> Course {
+pub(crate) fn read_file(file: &mut File, window: &mut [u8]) -> Course {
     let mut course = Course {
         report: season_reports::empty(),
         is_full: false,

@@ -1,12 +1,15 @@
 // The window that a file is read through: it is filled behind what it holds, and what is left of it is brought to its start.
 ghost use Rattle.std.specs.Prelude.{◌≡◌, ◌≤◌, length};
 
+use std::fs::File;
+use std::io::{Error, Read};
+
 // How filling the window ended: it is full, the file is at its end, or a read failed; and how many bytes it then holds.
 #[derive(Clone, Copy)]
 pub(crate) enum Filling {
     Full,
     End,
-    Failed,
+    Failed(Error),
 }
 
 #[derive(Clone, Copy)]
@@ -16,24 +19,24 @@ pub(crate) struct Filled {
 }
 
 // Fills the window behind the bytes that it holds.
-pub(crate) fn fill(file: i32, window: &mut [u8], held: usize) -> Filled
+pub(crate) fn fill(file: &mut File, window: &mut [u8], held: usize) -> Filled
     requires { held ≤ length window.old }
     ensures held_in_bounds { result.held ≤ length window.new }
     ensures window_len_unchanged { length window.new ≡ length window.old }
 {
     let mut end = held;
     while end < window.len() {
-        let got = libc::read(file, &mut window[end..]);
-        if got < 0 {
-            let filling = Filling::Failed;
-            return Filled { filling, held: end };
+        match file.read(&mut window[end..]) {
+            Ok(0) => {
+                let filling = Filling::End;
+                return Filled { filling, held: end };
+            }
+            Ok(more) => end += more,
+            Err(error) => {
+                let filling = Filling::Failed(error);
+                return Filled { filling, held: end };
+            }
         }
-        let more = io::count(got, &window[end..]);
-        if more == 0 {
-            let filling = Filling::End;
-            return Filled { filling, held: end };
-        }
-        end += more;
     }
     let filling = Filling::Full;
     Filled { filling, held: end }

@@ -5,8 +5,16 @@ ghost use Rattle.std.specs.Prelude.{◌≡◌, ◌≤◌, length};
 
 use frame::Frame;
 use journal::Found;
-use libc::{STDERR_FILENO, STDIN_FILENO, STDOUT_FILENO};
 use printing::Printed;
+
+// The file number of standard input.
+const STDIN: i32 = 0;
+
+// The file number of standard output.
+const STDOUT: i32 = 1;
+
+// The file number of standard error.
+const STDERR: i32 = 2;
 
 // How a record ended the step: the next may follow, or the run is over; and how many bytes the record has.
 #[derive(Clone, Copy)]
@@ -34,12 +42,12 @@ fn read_record(bytes: &mut [u8]) -> usize
     ensures upper_bound { result ≤ 135 }
     ensures bytes_len { length bytes.new ≡ 135 }
 {
-    let head = io::read_full(STDIN_FILENO, &mut bytes[..3]);
+    let head = io::read_full(STDIN, &mut bytes[..3]);
     if head < 3 {
         return head;
     }
     let end = 3 + size_after(bytes[1], bytes[2]);
-    let rest = io::read_full(STDIN_FILENO, &mut bytes[3..end]);
+    let rest = io::read_full(STDIN, &mut bytes[3..end]);
     3 + rest
 }
 
@@ -52,24 +60,24 @@ fn print_line(at: u64, frame: Frame) -> bool {
     if end > text.len() {
         return true;
     }
-    let is_written = io::write_all(STDOUT_FILENO, &text[..end]);
+    let is_written = io::write_all(STDOUT, &text[..end]);
     if !is_written {
-        io::write_all(STDERR_FILENO, b"show: the output cannot be written\n");
+        io::write_all(STDERR, b"show: the output cannot be written\n");
     }
     is_written
 }
 
 // Says where the run stops, and why.
 fn say_stop(number: u8, at: u64) {
-    io::write_all(STDERR_FILENO, b"show: refusal ");
-    io::print_decimal(STDERR_FILENO, number as u64);
-    io::write_all(STDERR_FILENO, b" at byte ");
-    io::print_decimal(STDERR_FILENO, at);
+    io::write_all(STDERR, b"show: refusal ");
+    io::print_decimal(STDERR, number as u64);
+    io::write_all(STDERR, b" at byte ");
+    io::print_decimal(STDERR, at);
     match number {
-        14 => io::write_all(STDERR_FILENO, b": no record of either form\n"),
-        15 => io::write_all(STDERR_FILENO, b": the record is cut short\n"),
-        16 => io::write_all(STDERR_FILENO, b": N or the preamble is wrong\n"),
-        _ => io::write_all(STDERR_FILENO, b": a word was altered\n"),
+        14 => io::write_all(STDERR, b": no record of either form\n"),
+        15 => io::write_all(STDERR, b": the record is cut short\n"),
+        16 => io::write_all(STDERR, b": N or the preamble is wrong\n"),
+        _ => io::write_all(STDERR, b": a word was altered\n"),
     };
 }
 
