@@ -12,7 +12,7 @@ use Rattle.stream.specs.Standing.{n_at, size, Stands, stands, frame_at}
 use Rattle.stream.proofs.Words.{n-lt}
 use Rattle.stream.proofs.Stand.{stands-long, test-stands}
 use Rattle.reader.specs.Hunting.{hunt_of}
-use Rattle.reader.specs.Reading.{candidate_bits, past, past_of, frame_waits, moved_to, step_cells, step_to, Run, run_to, ran_by, fed_all_by, take_to, taken_by}
+use Rattle.reader.specs.Reading.{candidate_bits, past_of, frame_waits, moved_to, step_cells, step_to, Run, run_to, ran_by, fed_all_by, take_to, taken_by}
 use Rattle.reader.specs.Rows.{row_size, row_of, rows_put, Turns, stopped, went_on, taken_or, in_turns, going, after_turns}
 use Rattle.reader.specs.Rows.{some_rows}
 use Rattle.reader.specs.declared.hunt.Halt.{Halt}
