@@ -59,7 +59,7 @@ udre_value s udre = cond (eqb udre 3) no_limit (up_to (get_or limits udre 0 * hu
 
 -- ---- C/N0
 
--- a strength in d_b_hz, or not tracked
+-- a strength in dBHz, or not tracked
 pub data Signal : Type 0 where
   db_hz : ℕ → Signal
   not_tracked : Signal

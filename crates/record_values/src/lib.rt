@@ -1,4 +1,4 @@
-// What the numbers of a record and of a header stand for, in whole units: mm, mm/s, d_b_hz, minutes, tenths of a second; and which letters
+// What the numbers of a record and of a header stand for, in whole units: mm, mm/s, dBHz, minutes, tenths of a second; and which letters
 // the characters of a text are.
 #![tactic(auto)]
 
@@ -166,7 +166,7 @@ pub fn udre_limit(state: State, udre: u8) -> Limit
     Limit::Millimetres(LIMITS[udre as usize] * hundredths_of(state) as u32 / 100)
 }
 
-// C/N0 in d_b_hz.
+// C/N0 in dBHz.
 pub fn cn0_dbhz(code: u8) -> Strength
     ensures { result ≡ cn0_db_hz code }
 {
