@@ -18,8 +18,7 @@ use journal::Found;
 use profile::{Cut, Cutting, Profile};
 
 // Whether the frame of a record is in the profile. Order 14, 15, 16, 15, 16, then 7, 20, 8, 10 or 11, 21, 22.
-#[unsafe(no_mangle)]
-pub extern "C" fn rtcm2_check_profile(frame: &[u8]) -> u8
+pub fn rtcm2_check_profile(frame: &[u8]) -> u8
     ensures { result ≡ number_of (profile_said (frame_said frame.now)) }
 {
     let recalled = journal::recall(frame);
@@ -106,8 +105,7 @@ fn cut_of(header: Header, corrections: &[u8]) -> Cut
 }
 
 // Cuts corrections for different satellites into frames of type 9, kept one after the other. Order 5, 6, 7, 12, 10, 22, 13.
-#[unsafe(no_mangle)]
-pub extern "C" fn rtcm2_cut_corrections(
+pub fn rtcm2_cut_corrections(
     kind: u8,
     station: u16,
     z: u16,

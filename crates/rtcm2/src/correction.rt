@@ -19,8 +19,7 @@ use record_corrections::CorrectionRead;
 use record_stages::Made;
 
 // How many corrections a frame has. Order 14, 15, 16, 15, 16, then 6, 7, 8.
-#[unsafe(no_mangle)]
-pub extern "C" fn rtcm2_count_corrections(frame: &[u8], count: &mut usize) -> u8
+pub fn rtcm2_count_corrections(frame: &[u8], count: &mut usize) -> u8
     ensures value { result ≡ number_of (count_said correction_list (frame_said frame.now)) }
     ensures count_after { count.new ≡ left (count_said correction_list (frame_said frame.now)) (λ k. k) count.old }
 {
@@ -28,8 +27,7 @@ pub extern "C" fn rtcm2_count_corrections(frame: &[u8], count: &mut usize) -> u8
 }
 
 // Correction number `index` of a frame. Order 14, 15, 16, 15, 16, then 6, 7, 8, 9, 10, 13.
-#[unsafe(no_mangle)]
-pub extern "C" fn rtcm2_correction_at(frame: &[u8], index: usize, correction: &mut [u8]) -> u8
+pub fn rtcm2_correction_at(frame: &[u8], index: usize, correction: &mut [u8]) -> u8
     ensures value { result ≡ number_of (row_to (row Gps) (entry_said correction_list (frame_said frame.now) index) correction.old) }
     ensures correction_after { correction.new ≡ row_held (row Gps) (entry_said correction_list (frame_said frame.now) index) correction.old }
 {
@@ -58,8 +56,7 @@ fn made_of(header: Header, corrections: &[u8]) -> Made
 }
 
 // Makes a frame of corrections. Order 5, 6, 7, 12, 10, 13.
-#[unsafe(no_mangle)]
-pub extern "C" fn rtcm2_make_corrections(
+pub fn rtcm2_make_corrections(
     kind: u8,
     station: u16,
     z: u16,

@@ -81,8 +81,7 @@ fn keep_data(header: Header, bytes: &[u8], frame: &mut [u8], length: &mut usize)
 }
 
 // Keeps a frame of any type, from its five numbers and the bytes of its data words. Order 5, 13.
-#[unsafe(no_mangle)]
-pub extern "C" fn rtcm2_keep(
+pub fn rtcm2_keep(
     kind: u8,
     station: u16,
     z: u16,
@@ -103,8 +102,7 @@ pub extern "C" fn rtcm2_keep(
 }
 
 // Recalls the record at the start of the bytes: its header's five numbers, N and its length. Order 14, 15, 16, 15, 16.
-#[unsafe(no_mangle)]
-pub extern "C" fn rtcm2_recall(
+pub fn rtcm2_recall(
     frame: &[u8],
     kind: &mut u8,
     station: &mut u16,

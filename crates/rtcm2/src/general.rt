@@ -18,8 +18,7 @@ use record_generals::{GeneralHead, GeneralNullRead, GeneralRead, HeadRead};
 use record_stages::Made;
 
 // How many satellites a frame has. Order 14, 15, 16, 15, 16, then 6, 7, 8, 23, 8.
-#[unsafe(no_mangle)]
-pub extern "C" fn rtcm2_count_generals(frame: &[u8], count: &mut usize) -> u8
+pub fn rtcm2_count_generals(frame: &[u8], count: &mut usize) -> u8
     ensures value { result ≡ number_of (count_said (frame_said frame.now)) }
     ensures count_after { count.new ≡ left (count_said (frame_said frame.now)) (λ k. k) count.old }
 {
@@ -35,8 +34,7 @@ pub extern "C" fn rtcm2_count_generals(frame: &[u8], count: &mut usize) -> u8
 }
 
 // The head of a frame, its five numbers. Order 14, 15, 16, 15, 16, then 6, 7, 8, 23, 8.
-#[unsafe(no_mangle)]
-pub extern "C" fn rtcm2_read_head(
+pub fn rtcm2_read_head(
     frame: &[u8],
     system: &mut u8,
     signal: &mut u8,
@@ -83,8 +81,7 @@ fn entry_to(read: GeneralRead, general: &mut [u8]) -> u8
 }
 
 // Satellite number `index` of a frame. Order 14, 15, 16, 15, 16, then 6, 7, 8, 23, 8, 9, 10, 13.
-#[unsafe(no_mangle)]
-pub extern "C" fn rtcm2_general_at(frame: &[u8], index: usize, general: &mut [u8]) -> u8
+pub fn rtcm2_general_at(frame: &[u8], index: usize, general: &mut [u8]) -> u8
     ensures value { result ≡ number_of (row_to row (entry_said (frame_said frame.now) index) general.old) }
     ensures general_after { general.new ≡ row_held row (entry_said (frame_said frame.now) index) general.old }
 {
@@ -110,8 +107,7 @@ fn made_of(header: Header, head: GeneralHead, generals: &[u8]) -> Made
 }
 
 // Makes a frame of general corrections. Order 5, 6, 7, 23, 12, 10, 13.
-#[unsafe(no_mangle)]
-pub extern "C" fn rtcm2_make_generals(
+pub fn rtcm2_make_generals(
     kind: u8,
     station: u16,
     z: u16,
@@ -147,8 +143,7 @@ pub extern "C" fn rtcm2_make_generals(
 }
 
 // Whether the frame of a record is a null frame of type 42: its N and its system. Order 14, 15, 16, 15, 16, then 6, 7, 8, 23.
-#[unsafe(no_mangle)]
-pub extern "C" fn rtcm2_read_general_null(frame: &[u8], n: &mut u8, system: &mut u8) -> u8
+pub fn rtcm2_read_general_null(frame: &[u8], n: &mut u8, system: &mut u8) -> u8
     ensures value { result ≡ number_of (general_null_said (frame_said frame.now)) }
     ensures n_after { n.new ≡ left (general_null_said (frame_said frame.now)) words_left n.old }
     ensures system_after { system.new ≡ left (general_null_said (frame_said frame.now)) system_left system.old }
@@ -169,8 +164,7 @@ pub extern "C" fn rtcm2_read_general_null(frame: &[u8], n: &mut u8, system: &mut
 }
 
 // Makes a null frame of type 42 with N data words, the system and fill. Order 5, 6, 7, 23, 12, 13.
-#[unsafe(no_mangle)]
-pub extern "C" fn rtcm2_make_general_null(
+pub fn rtcm2_make_general_null(
     kind: u8,
     station: u16,
     z: u16,

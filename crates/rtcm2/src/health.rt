@@ -23,8 +23,7 @@ const SIZE: usize = 10;
 const SIZES: [u8; 12] = [1, 1, 1, 1, 1, 1, 1, 1, 1, 1, 0, 0];
 
 // How many satellites a frame has. Order 14, 15, 16, 15, 16, then 6, 7, 8.
-#[unsafe(no_mangle)]
-pub extern "C" fn rtcm2_count_healths(frame: &[u8], count: &mut usize) -> u8
+pub fn rtcm2_count_healths(frame: &[u8], count: &mut usize) -> u8
     ensures value { result ≡ number_of (count_said health_list (frame_said frame.now)) }
     ensures count_after { count.new ≡ left (count_said health_list (frame_said frame.now)) (λ k. k) count.old }
 {
@@ -64,8 +63,7 @@ fn row_of(e: SatelliteHealth) -> [u32; 12]
 }
 
 // Entry number `index` of a frame. Order 14, 15, 16, 15, 16, then 6, 7, 8, 9, 13.
-#[unsafe(no_mangle)]
-pub extern "C" fn rtcm2_health_at(frame: &[u8], index: usize, bytes: &mut [u8]) -> u8
+pub fn rtcm2_health_at(frame: &[u8], index: usize, bytes: &mut [u8]) -> u8
     ensures value { result ≡ number_of (row_to (row Gps) (entry_said health_list (frame_said frame.now) index) bytes.old) }
     ensures bytes_after { bytes.new ≡ row_held (row Gps) (entry_said health_list (frame_said frame.now) index) bytes.old }
 {
@@ -108,8 +106,7 @@ fn made_of(header: Header, healths: &[u8]) -> Made
 }
 
 // Makes a frame of satellites' health. Order 5, 6, 7, 12, 10, 13.
-#[unsafe(no_mangle)]
-pub extern "C" fn rtcm2_make_healths(
+pub fn rtcm2_make_healths(
     kind: u8,
     station: u16,
     z: u16,

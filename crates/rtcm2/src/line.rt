@@ -9,16 +9,14 @@ use journal::Kept;
 use reader::Answer;
 
 // How many bytes a state takes.
-#[unsafe(no_mangle)]
-pub extern "C" fn rtcm2_state_size() -> usize
+pub fn rtcm2_state_size() -> usize
     ensures { result ≡ state_size }
 {
     rtcm2_state::SIZE
 }
 
 // Starts a reader: the first bytes become a fresh state. Refusal: 13.
-#[unsafe(no_mangle)]
-pub extern "C" fn rtcm2_start(state: &mut [u8]) -> u8
+pub fn rtcm2_start(state: &mut [u8]) -> u8
     ensures value { result ≡ number_of (started_in state.old) }
     ensures state_after { state.new ≡ left (started_in state.old) (λ r. state_put r state.old) state.old }
 {
@@ -30,8 +28,7 @@ pub extern "C" fn rtcm2_start(state: &mut [u8]) -> u8
 }
 
 // The counters of a reader: positions that a word ruled out by an odd number of ones in its remainder, and by an even number. Refusal: 5.
-#[unsafe(no_mangle)]
-pub extern "C" fn rtcm2_counts(state: &[u8], odd: &mut u32, even: &mut u32) -> u8
+pub fn rtcm2_counts(state: &[u8], odd: &mut u32, even: &mut u32) -> u8
     ensures value { result ≡ number_of (counts_in state.now) }
     ensures odd_after { odd.new ≡ left (counts_in state.now) (λ t. t.odd) odd.old }
     ensures even_after { even.new ≡ left (counts_in state.now) (λ t. t.even) even.old }
@@ -48,8 +45,7 @@ pub extern "C" fn rtcm2_counts(state: &[u8], odd: &mut u32, even: &mut u32) -> u
 }
 
 // Feeds one byte of the line. Refusals: 5, 3, 2, 1.
-#[unsafe(no_mangle)]
-pub extern "C" fn rtcm2_feed(state: &mut [u8], byte: u8) -> u8
+pub fn rtcm2_feed(state: &mut [u8], byte: u8) -> u8
     ensures value { result ≡ number_of (fed_in state.old byte) }
     ensures state_after { state.new ≡ left (fed_in state.old byte) (λ n. state_put n.reader state.old) state.old }
 {
@@ -70,13 +66,7 @@ pub extern "C" fn rtcm2_feed(state: &mut [u8], byte: u8) -> u8
 }
 
 // Feeds bytes until a frame waits or none is left. Refusals: 5, 3, 2.
-#[unsafe(no_mangle)]
-pub extern "C" fn rtcm2_feed_all(
-    state: &mut [u8],
-    bytes: &[u8],
-    used: &mut usize,
-    passed: &mut usize,
-) -> u8
+pub fn rtcm2_feed_all(state: &mut [u8], bytes: &[u8], used: &mut usize, passed: &mut usize) -> u8
     ensures value { result ≡ number_of (fed_all_in state.old bytes.now) }
     ensures state_after { state.new ≡ left (fed_all_in state.old bytes.now)
         (λ f. state_put f.reader state.old) state.old }
@@ -99,8 +89,7 @@ pub extern "C" fn rtcm2_feed_all(
 }
 
 // The input has ended. Refusals: 5, 3, 2.
-#[unsafe(no_mangle)]
-pub extern "C" fn rtcm2_end(state: &mut [u8]) -> u8
+pub fn rtcm2_end(state: &mut [u8]) -> u8
     ensures value { result ≡ number_of (ended_in state.old) }
     ensures state_after { state.new ≡ left (ended_in state.old)
         (λ n. start_put n.reader.candidate n.reader.ended state.old) state.old }
@@ -119,8 +108,7 @@ pub extern "C" fn rtcm2_end(state: &mut [u8]) -> u8
 }
 
 // Takes the frame that waits: its record, the record's length, the position of its first bit and the two bits before it. Refusals: 5, 4, 13.
-#[unsafe(no_mangle)]
-pub extern "C" fn rtcm2_take(
+pub fn rtcm2_take(
     state: &mut [u8],
     frame: &mut [u8],
     length: &mut usize,

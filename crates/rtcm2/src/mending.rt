@@ -33,8 +33,7 @@ fn step_number(step: Step) -> u8
 }
 
 // One step at the start of the bytes, which stand at the offset `at` of the journal. Order 13.
-#[unsafe(no_mangle)]
-pub extern "C" fn rtcm2_mend(
+pub fn rtcm2_mend(
     bytes: &mut [u8],
     at: u64,
     searching: u8,

@@ -10,8 +10,7 @@ use journal::Found;
 use record_nulls::NullRead;
 
 // Whether the frame of a record is a null frame, and its N. Order 14, 15, 16, 15, 16, then 6, 7, 8.
-#[unsafe(no_mangle)]
-pub extern "C" fn rtcm2_read_null(frame: &[u8], n: &mut u8) -> u8
+pub fn rtcm2_read_null(frame: &[u8], n: &mut u8) -> u8
     ensures value { result ≡ number_of (null_said (frame_said frame.now)) }
     ensures n_after { n.new ≡ left (null_said (frame_said frame.now)) (λ k. k) n.old }
 {
@@ -30,8 +29,7 @@ pub extern "C" fn rtcm2_read_null(frame: &[u8], n: &mut u8) -> u8
 }
 
 // Makes a null frame of N data words, which are filled. Order 5, 6, 7, 12, 13.
-#[unsafe(no_mangle)]
-pub extern "C" fn rtcm2_make_null(
+pub fn rtcm2_make_null(
     kind: u8,
     station: u16,
     z: u16,

@@ -36,8 +36,7 @@ fn edition_of(edition: u8) -> Named
 }
 
 // How many satellites a frame has. Order 14, 15, 16, 15, 16, then 6, 7, 8.
-#[unsafe(no_mangle)]
-pub extern "C" fn rtcm2_count_observations(frame: &[u8], count: &mut usize) -> u8
+pub fn rtcm2_count_observations(frame: &[u8], count: &mut usize) -> u8
     ensures value { result ≡ number_of (count_said (frame_said frame.now)) }
     ensures count_after { count.new ≡ left (count_said (frame_said frame.now)) (λ k. k) count.old }
 {
@@ -45,13 +44,7 @@ pub extern "C" fn rtcm2_count_observations(frame: &[u8], count: &mut usize) -> u
 }
 
 // The head of a frame: frequency, smoothing, time. Order 14, 15, 16, 15, 16, then 6, 7, 8, 10.
-#[unsafe(no_mangle)]
-pub extern "C" fn rtcm2_read_epoch(
-    frame: &[u8],
-    frequency: &mut u8,
-    smoothing: &mut u8,
-    time: &mut u32,
-) -> u8
+pub fn rtcm2_read_epoch(frame: &[u8], frequency: &mut u8, smoothing: &mut u8, time: &mut u32) -> u8
     ensures value { result ≡ number_of (epoch_said (frame_said frame.now)) }
     ensures frequency_after { frequency.new ≡ left (epoch_said (frame_said frame.now)) frequency_said frequency.old }
     ensures smoothing_after { smoothing.new ≡ left (epoch_said (frame_said frame.now)) smoothing_said smoothing.old }
@@ -101,13 +94,7 @@ fn read_in(edition: u8, frame: Frame, index: usize, observation: &mut [u8]) -> u
 }
 
 // Satellite number `index` of a frame in an edition. Order 14, 15, 16, 15, 16, then 5 for the edition, 6, 7, 8, 9, 10, 13.
-#[unsafe(no_mangle)]
-pub extern "C" fn rtcm2_observation_at(
-    edition: u8,
-    frame: &[u8],
-    index: usize,
-    observation: &mut [u8],
-) -> u8
+pub fn rtcm2_observation_at(edition: u8, frame: &[u8], index: usize, observation: &mut [u8]) -> u8
     ensures value { result ≡ number_of (row_to row (entry_said edition (frame_said frame.now) index) observation.old) }
     ensures observation_after { observation.new ≡ row_held row (entry_said edition (frame_said frame.now) index) observation.old }
 {
@@ -133,8 +120,7 @@ fn made_of(edition: Edition, header: Header, epoch: Epoch, observations: &[u8]) 
 }
 
 // Makes a frame of observations in an edition. Order 5, the edition first, 6, 7, 12, 10, 13.
-#[unsafe(no_mangle)]
-pub extern "C" fn rtcm2_make_observations(
+pub fn rtcm2_make_observations(
     edition: u8,
     kind: u8,
     station: u16,

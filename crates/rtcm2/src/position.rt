@@ -10,13 +10,7 @@ use journal::Found;
 use record_positions::{Position, PositionRead};
 
 // The position of the frame of a record. Order 14, 15, 16, 15, 16, then 6, 7, 8, 10.
-#[unsafe(no_mangle)]
-pub extern "C" fn rtcm2_read_position(
-    frame: &[u8],
-    x_cm: &mut i32,
-    y_cm: &mut i32,
-    z_cm: &mut i32,
-) -> u8
+pub fn rtcm2_read_position(frame: &[u8], x_cm: &mut i32, y_cm: &mut i32, z_cm: &mut i32) -> u8
     ensures value { result ≡ number_of (position_said (frame_said frame.now)) }
     ensures x_cm_after { x_cm.new ≡ left (position_said (frame_said frame.now)) x_said x_cm.old }
     ensures y_cm_after { y_cm.new ≡ left (position_said (frame_said frame.now)) y_said y_cm.old }
@@ -42,8 +36,7 @@ pub extern "C" fn rtcm2_read_position(
 }
 
 // Makes a frame of a position. Order 5, 6, 7, 10, 13.
-#[unsafe(no_mangle)]
-pub extern "C" fn rtcm2_make_position(
+pub fn rtcm2_make_position(
     kind: u8,
     station: u16,
     z: u16,

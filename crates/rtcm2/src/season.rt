@@ -11,8 +11,7 @@ use crate::rows::number_of;
 use season_reports::{Adding, RowRead};
 
 // Starts a report: the first bytes become one without rows. Refusal: 13.
-#[unsafe(no_mangle)]
-pub extern "C" fn rtcm2_season_start(report: &mut [u8]) -> u8
+pub fn rtcm2_season_start(report: &mut [u8]) -> u8
     ensures value { result ≡ number_of (season_started report.old) }
     ensures report_after { report.new ≡ left (season_started report.old) (λ r. report_put r report.old) report.old }
 {
@@ -24,8 +23,7 @@ pub extern "C" fn rtcm2_season_start(report: &mut [u8]) -> u8
 }
 
 // Adds the entries of a journal's bytes, records of either form from the start while they recall, and tells how many bytes these have. Refusals: 5, 18, 19.
-#[unsafe(no_mangle)]
-pub extern "C" fn rtcm2_season_journal(report: &mut [u8], bytes: &[u8], used: &mut usize) -> u8
+pub fn rtcm2_season_journal(report: &mut [u8], bytes: &[u8], used: &mut usize) -> u8
     ensures value { result ≡ number_of (journal_said report.old bytes.now) }
     ensures report_after { report.new ≡ left (journal_said report.old bytes.now)
         (λ j. report_put j.report report.old) report.old }
@@ -46,8 +44,7 @@ pub extern "C" fn rtcm2_season_journal(report: &mut [u8], bytes: &[u8], used: &m
 }
 
 // Adds a second report to the first. Refusals: 5, 18, 19.
-#[unsafe(no_mangle)]
-pub extern "C" fn rtcm2_season_add(first: &mut [u8], second: &[u8]) -> u8
+pub fn rtcm2_season_add(first: &mut [u8], second: &[u8]) -> u8
     ensures value { result ≡ number_of (add_said first.old second.now) }
     ensures first_after { first.new ≡ left (add_said first.old second.now)
         (λ a. report_put a.report first.old) first.old }
@@ -83,8 +80,7 @@ fn row_to(read: RowRead, row: &mut [u8]) -> u8
 }
 
 // Row number `index` of a report, as 29 bytes. Refusals: 5, 9, 13.
-#[unsafe(no_mangle)]
-pub extern "C" fn rtcm2_season_row(report: &[u8], index: usize, row: &mut [u8]) -> u8
+pub fn rtcm2_season_row(report: &[u8], index: usize, row: &mut [u8]) -> u8
     ensures value { result ≡ number_of (row_to report_row (row_said report.now index) row.old) }
     ensures row_after { row.new ≡ row_held report_row (row_said report.now index) row.old }
 {

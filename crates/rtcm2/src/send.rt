@@ -11,8 +11,7 @@ use journal::Found;
 use writer::{Opened, Written};
 
 // Opens a stream. Order 13.
-#[unsafe(no_mangle)]
-pub extern "C" fn rtcm2_open(line: &mut [u8]) -> u8
+pub fn rtcm2_open(line: &mut [u8]) -> u8
     ensures value { result ≡ number_of (open_said line.old) }
     ensures line_after { line.new ≡ opened_to line.old }
 {
@@ -49,8 +48,7 @@ fn write_frame(value: Frame, d29: &mut u8, d30: &mut u8, line: &mut [u8], length
 }
 
 // Writes the frame of a journal record. Order 14, 15, 16, 15, 16, then 5 for a carried bit that is not 0 or 1, 7, 13.
-#[unsafe(no_mangle)]
-pub extern "C" fn rtcm2_write(
+pub fn rtcm2_write(
     frame: &[u8],
     d29: &mut u8,
     d30: &mut u8,

@@ -10,8 +10,7 @@ use journal::Found;
 use record_stages::Count;
 
 // The text of the frame of a record, at the start of the bytes. Order 14, 15, 16, 15, 16, then 6, 7, 8, 11, 13.
-#[unsafe(no_mangle)]
-pub extern "C" fn rtcm2_read_text(frame: &[u8], text: &mut [u8], length: &mut usize) -> u8
+pub fn rtcm2_read_text(frame: &[u8], text: &mut [u8], length: &mut usize) -> u8
     ensures value { result ≡ number_of (text_said (frame_said frame.now) text.old) }
     ensures text_after { text.new ≡ text_after (frame_said frame.now) text.old }
     ensures length_after { length.new ≡ count_after (frame_said frame.now) text.old length.old }
@@ -31,8 +30,7 @@ pub extern "C" fn rtcm2_read_text(frame: &[u8], text: &mut [u8], length: &mut us
 }
 
 // Makes a frame of text. Order 5, 6, 7, 12, 11, 13.
-#[unsafe(no_mangle)]
-pub extern "C" fn rtcm2_make_text(
+pub fn rtcm2_make_text(
     kind: u8,
     station: u16,
     z: u16,

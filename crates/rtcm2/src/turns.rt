@@ -9,8 +9,7 @@ use reader::Answer;
 
 // Feeds bytes and takes frames in turns, each frame into a row, until no byte is left and no frame waits, or there is no room for a row.
 // Refusals: 5, 3, 13.
-#[unsafe(no_mangle)]
-pub extern "C" fn rtcm2_read(
+pub fn rtcm2_read(
     state: &mut [u8],
     bytes: &[u8],
     rows: &mut [u8],

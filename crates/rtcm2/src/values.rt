@@ -9,8 +9,7 @@ ghost use Rattle.rtcm2.specs.Values.{general_prc_said, delay_said, usable_flag, 
 use record_values::{Delay, Distance, GeneralLimit, Letter, Limit, Period, Rate, Strength};
 
 // PRC in mm. Order 10.
-#[unsafe(no_mangle)]
-pub extern "C" fn rtcm2_prc_mm(scale: u8, prc: i16, stop: &mut u8, mm: &mut i32) -> u8
+pub fn rtcm2_prc_mm(scale: u8, prc: i16, stop: &mut u8, mm: &mut i32) -> u8
     ensures value { result ≡ number_of (prc_said scale prc) }
     ensures stop_after { stop.new ≡ left (prc_said scale prc) stop_flag stop.old }
     ensures mm_after { mm.new ≡ left (prc_said scale prc) exact_or0 mm.old }
@@ -31,8 +30,7 @@ pub extern "C" fn rtcm2_prc_mm(scale: u8, prc: i16, stop: &mut u8, mm: &mut i32)
 }
 
 // RRC in mm/s. Order 10.
-#[unsafe(no_mangle)]
-pub extern "C" fn rtcm2_rrc_mm_s(scale: u8, rrc: i8, stop: &mut u8, rate: &mut i32) -> u8
+pub fn rtcm2_rrc_mm_s(scale: u8, rrc: i8, stop: &mut u8, rate: &mut i32) -> u8
     ensures value { result ≡ number_of (rrc_said scale rrc) }
     ensures stop_after { stop.new ≡ left (rrc_said scale rrc) stop_flag stop.old }
     ensures rate_after { rate.new ≡ left (rrc_said scale rrc) exact_or0 rate.old }
@@ -53,8 +51,7 @@ pub extern "C" fn rtcm2_rrc_mm_s(scale: u8, rrc: i8, stop: &mut u8, rate: &mut i
 }
 
 // Whether a correction with these two numbers stops its satellite. No refusal.
-#[unsafe(no_mangle)]
-pub extern "C" fn rtcm2_stops(prc: i16, rrc: i8, stop: &mut u8) -> u8
+pub fn rtcm2_stops(prc: i16, rrc: i8, stop: &mut u8) -> u8
     ensures value { result ≡ number_of (stops_said prc rrc) }
     ensures stop_after { stop.new ≡ left (stops_said prc rrc) val stop.old }
 {
@@ -67,8 +64,7 @@ pub extern "C" fn rtcm2_stops(prc: i16, rrc: i8, stop: &mut u8) -> u8
 }
 
 // The upper limit of a UDRE code under the station's health, in mm. Order 5, 10.
-#[unsafe(no_mangle)]
-pub extern "C" fn rtcm2_udre_limit_mm(health: u8, udre: u8, limited: &mut u8, mm: &mut u32) -> u8
+pub fn rtcm2_udre_limit_mm(health: u8, udre: u8, limited: &mut u8, mm: &mut u32) -> u8
     ensures value { result ≡ number_of (limit_said health udre) }
     ensures limited_after { limited.new ≡ left (limit_said health udre) limit_flag limited.old }
     ensures mm_after { mm.new ≡ left (limit_said health udre) limit_or0 mm.old }
@@ -93,8 +89,7 @@ pub extern "C" fn rtcm2_udre_limit_mm(health: u8, udre: u8, limited: &mut u8, mm
 }
 
 // C/N0 in d_b_hz. Order 10.
-#[unsafe(no_mangle)]
-pub extern "C" fn rtcm2_cn0_dbhz(code: u8, tracked: &mut u8, dbhz: &mut u8) -> u8
+pub fn rtcm2_cn0_dbhz(code: u8, tracked: &mut u8, dbhz: &mut u8) -> u8
     ensures value { result ≡ number_of (strength_said code) }
     ensures tracked_after { tracked.new ≡ left (strength_said code) tracked_flag tracked.old }
     ensures dbhz_after { dbhz.new ≡ left (strength_said code) db_hz_or0 dbhz.old }
@@ -115,8 +110,7 @@ pub extern "C" fn rtcm2_cn0_dbhz(code: u8, tracked: &mut u8, dbhz: &mut u8) -> u
 }
 
 // A character of a text as its number in Unicode. Order 11.
-#[unsafe(no_mangle)]
-pub extern "C" fn rtcm2_letter_of(code: u8, letter: &mut u32) -> u8
+pub fn rtcm2_letter_of(code: u8, letter: &mut u32) -> u8
     ensures value { result ≡ number_of (letter_said code) }
     ensures letter_after { letter.new ≡ left (letter_said code) (λ k. k) letter.old }
 {
@@ -130,8 +124,7 @@ pub extern "C" fn rtcm2_letter_of(code: u8, letter: &mut u32) -> u8
 }
 
 // PRC of types 41 and 42 in mm. Order 10.
-#[unsafe(no_mangle)]
-pub extern "C" fn rtcm2_general_prc_mm(prc: i16, stop: &mut u8, mm: &mut i32) -> u8
+pub fn rtcm2_general_prc_mm(prc: i16, stop: &mut u8, mm: &mut i32) -> u8
     ensures value { result ≡ number_of (general_prc_said prc) }
     ensures stop_after { stop.new ≡ left (general_prc_said prc) stop_flag stop.old }
     ensures mm_after { mm.new ≡ left (general_prc_said prc) exact_or0 mm.old }
@@ -152,8 +145,7 @@ pub extern "C" fn rtcm2_general_prc_mm(prc: i16, stop: &mut u8, mm: &mut i32) ->
 }
 
 // The ionosphere's delay in mm. Order 10.
-#[unsafe(no_mangle)]
-pub extern "C" fn rtcm2_delay_mm(delay: u16, usable: &mut u8, mm: &mut u32) -> u8
+pub fn rtcm2_delay_mm(delay: u16, usable: &mut u8, mm: &mut u32) -> u8
     ensures value { result ≡ number_of (delay_said delay) }
     ensures usable_after { usable.new ≡ left (delay_said delay) usable_flag usable.old }
     ensures mm_after { mm.new ≡ left (delay_said delay) delay_or0 mm.old }
@@ -174,13 +166,7 @@ pub extern "C" fn rtcm2_delay_mm(delay: u16, usable: &mut u8, mm: &mut u32) -> u
 }
 
 // The upper limit of a UDRE code of types 41 and 42 under the station's health, in hundredths of a mm. Order 5, 10.
-#[unsafe(no_mangle)]
-pub extern "C" fn rtcm2_general_udre(
-    health: u8,
-    udre: u8,
-    limited: &mut u8,
-    hundredths: &mut u32,
-) -> u8
+pub fn rtcm2_general_udre(health: u8, udre: u8, limited: &mut u8, hundredths: &mut u32) -> u8
     ensures value { result ≡ number_of (general_limit_said health udre) }
     ensures limited_after { limited.new ≡ left (general_limit_said health udre) limit_flag limited.old }
     ensures hundredths_after { hundredths.new ≡ left (general_limit_said health udre) limit_or0 hundredths.old }
@@ -205,8 +191,7 @@ pub extern "C" fn rtcm2_general_udre(
 }
 
 // How long corrections of types 41 and 42 may be used, in seconds. Order 10.
-#[unsafe(no_mangle)]
-pub extern "C" fn rtcm2_use_seconds(code: u8, seconds: &mut u8) -> u8
+pub fn rtcm2_use_seconds(code: u8, seconds: &mut u8) -> u8
     ensures value { result ≡ number_of (seconds_said code) }
     ensures seconds_after { seconds.new ≡ left (seconds_said code) (λ k. k) seconds.old }
 {

@@ -4,8 +4,7 @@ ghost use Rattle.rtcm2.specs.Answer.{number_of, left};
 ghost use Rattle.rtcm2.specs.Window.{remainder_said};
 
 // The remainder of a window. No refusal.
-#[unsafe(no_mangle)]
-pub extern "C" fn rtcm2_remainder(window: u32, remainder: &mut u8) -> u8
+pub fn rtcm2_remainder(window: u32, remainder: &mut u8) -> u8
     ensures value { result ≡ number_of (remainder_said window) }
     ensures remainder_after { remainder.new ≡ left (remainder_said window) (λ k. k) remainder.old }
 {

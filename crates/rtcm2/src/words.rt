@@ -32,14 +32,7 @@ fn keep_after(value: Frame, d29: u8, d30: u8, words: &mut [u8], length: &mut usi
 }
 
 // Keeps the words of the frame of a journal record, which start from the two carried bits. Order 14, 15, 16, 15, 16, then 5 for a carried bit, 13.
-#[unsafe(no_mangle)]
-pub extern "C" fn rtcm2_keep_words(
-    frame: &[u8],
-    d29: u8,
-    d30: u8,
-    words: &mut [u8],
-    length: &mut usize,
-) -> u8
+pub fn rtcm2_keep_words(frame: &[u8], d29: u8, d30: u8, words: &mut [u8], length: &mut usize) -> u8
     ensures value { result ≡ number_of (words_kept (frame_said frame.now) d29 d30 words.old) }
     ensures words_after { words.new ≡ words_held (frame_said frame.now) d29 d30 words.old }
     ensures length_after { length.new ≡ words_size (frame_said frame.now) d29 d30 words.old length.old }
@@ -82,8 +75,7 @@ fn give_back(
 }
 
 // Recalls the record of words at the start of the bytes. Order 14, 15, 16, 15, 16, 17, then 13 for the frame's own record.
-#[unsafe(no_mangle)]
-pub extern "C" fn rtcm2_recall_words(
+pub fn rtcm2_recall_words(
     words: &[u8],
     frame: &mut [u8],
     d29: &mut u8,
