@@ -18,11 +18,6 @@ class Field:
     scope: dict
 
 
-def full_name(module):
-    """A module of a crate's own specs by the name that other crates know it by."""
-    return module.replace("·specs.specs", ".specs")
-
-
 def scope_of(text):
     """What the `use` lines of a file bring: names, and modules, whose names end with a point."""
     scope = {}
@@ -30,20 +25,21 @@ def scope_of(text):
         if listed:
             for item in listed.split(","):
                 name, _, other = item.strip().partition(" as ")
-                scope[other or name] = f"{full_name(module)}.{name}"
+                scope[other or name] = f"{module}.{name}"
         else:
-            scope[(alias or module.split(".")[-1]) + "."] = full_name(module) + "."
+            scope[(alias or module.split(".")[-1]) + "."] = module + "."
     return scope
 
 
 def words_of(text):
-    """The words of a term; the point that ends a binder stands by itself."""
+    """The words of a term without its comment; the point that ends a binder stands by itself. A projection with a space before it keeps the space."""
     found = []
-    for word in WORD.findall(text):
+    for match in WORD.finditer(text.split("-- ")[0]):
+        word, before = match.group(), text[match.start() - 1:match.start()]
         if word.endswith(".") and not word.startswith("."):
             found += [word[:-1], "."]
         else:
-            found.append(word)
+            found.append(" " + word if word.startswith(".") and len(word) > 1 and before != ")" else word)
     return found
 
 
@@ -58,7 +54,7 @@ def read_fields(file):
             record, over = started.group(1), started.group(2, 3)
         elif field and record:
             found.append(Field(file, record, over, field.group(1), words_of(field.group(2)), scope))
-        elif re.match(r"      ", line) and found:
+        elif re.match(r"   +\S", line) and record and found:
             found[-1].words += words_of(line)
         elif line and not line.startswith(" "):
             record = ""
@@ -66,7 +62,8 @@ def read_fields(file):
 
 
 class Terms:
-    """Reads words into a term: a word, ("app", ..), ("dot", term, field), ("pair", ..), ("λ", names, body) or ("record", ..)."""
+    """Reads words into a term: a word, ("app", ..), ("dot", term, field), ("pair", ..), ("λ", names, body) or
+    ("record", ..) of ("field", name, term)."""
 
     def __init__(self, words, scope, bound=()):
         self.words, self.scope, self.bound, self.at = words, scope, list(bound), 0
@@ -116,11 +113,11 @@ class Terms:
             if word == "(":
                 items.append(self.group())
             elif word == "{":
-                inner = self.braces()
-                if items and items[-1] == "record":
-                    items[-1] = ("record", *inner)
+                items = self.braces(items)
+            elif word.startswith(" ."):
+                items = [dotted(applied(items), self.next()[1:])]
             elif word.startswith(".") and len(word) > 1:
-                items = [("dot", applied(items), self.next())]
+                items[-1] = dotted(items[-1], self.next())
             elif word in ("λ", "let"):
                 items.append(self.term())
             else:
@@ -136,23 +133,37 @@ class Terms:
         self.next()
         return parts[0] if len(parts) == 1 else ("pair", *parts)
 
-    def braces(self):
-        """The words between braces, names resolved: an implicit argument, or the fields of a record."""
+    def braces(self, items):
+        """What stands before braces, with them: the fields of a record; an implicit argument is left out."""
+        of_record = "record" in items[-2:]
         self.next()
-        inner, depth = [], 1
-        while depth:
-            word = self.next()
-            depth += {"{": 1, "}": -1}.get(word, 0)
-            if depth:
-                inner.append(self.named(word))
-        return inner
+        fields = []
+        while self.peek() != "}":
+            name = self.next() if of_record else ""
+            if of_record and self.next() != "=":
+                raise ValueError(f"a record's field {name} is not read")
+            fields.append(("field", "." + name, self.term()))
+            while self.peek() in (";", "→", ",", "in"):
+                self.next()
+        self.next()
+        if not of_record:
+            return items
+        at = len(items) - 1 - items[::-1].index("record")
+        return items[:at] + [("record", *items[at + 1:], *fields)]
 
     def named(self, word):
-        """A name as its module knows it."""
-        if word in self.bound:
-            return word
+        """A name as its module knows it, or a field of what it names."""
         front, dot, rest = word.partition(".")
-        return self.scope.get(front + dot, front + dot) + rest if dot else self.scope.get(word, word)
+        if front in self.bound or not dot:
+            return dotted(front if front in self.bound else self.scope.get(front, front), dot + rest)
+        return self.scope[front + dot] + rest if front + dot in self.scope else dotted(self.scope.get(front, front), dot + rest)
+
+
+def dotted(term, fields):
+    """Fields of a term, `.x.y`."""
+    for name in fields.split(".")[1:]:
+        term = ("dot", term, "." + name)
+    return term
 
 
 def applied(items):

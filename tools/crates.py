@@ -4,6 +4,9 @@ from pathlib import Path
 
 from source import Crate, Reader
 
+# the library for C and Rust, and the crate that exports its functions: thin calls of the library, each under the name and the contract of what it calls
+LIBRARY, EXPORTS = "rtcm2", "rtcm2_c"
+
 
 def read_crate(root, name):
     """The crate of a library or a program."""
@@ -54,10 +57,17 @@ def exported_item(export, crate, crates):
     return names[0] if names else home.types.get(path[-1])
 
 
+def exported_functions(root):
+    """The functions that a program in another language can call: of the crate of exports, or, where there is none, of the library."""
+    exports = (Path(root) / "crates" / EXPORTS).exists()
+    return [function for function in read_crate(root, EXPORTS if exports else LIBRARY).functions if function.exported]
+
+
 def below(root):
-    """The crates in the order of crates.txt, and the crates of the repository that each names."""
+    """The crates in the order of crates.txt, and the crates of the repository that each names. Words between a crate's name and the `:` say how
+    it is built."""
     lines = (line.split("#")[0].strip() for line in (Path(root) / "crates.txt").read_text().splitlines())
-    named = {line.split(":")[0].strip(): line.split(":")[1].split() for line in lines if line}
+    named = {line.split()[0].rstrip(":"): line.split(":")[1].split() for line in lines if line}
     return {name: [other for other in others if other in named] for name, others in named.items()}
 
 

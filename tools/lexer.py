@@ -1,4 +1,4 @@
-"""The tokens of Rattle sources. A clause of a contract and a `ghost use` item are one token each."""
+"""The tokens of Rattle sources. A clause of a contract, with its name, and a `ghost use` item are one token each."""
 
 import re
 from dataclasses import dataclass
@@ -30,16 +30,15 @@ class Token:
 
 
 def tokens(text, file="?"):
-    """The tokens of a source without spaces and comments. A clause of a contract and a `ghost use` are one token each."""
+    """The tokens of a source without spaces and comments. A clause of a contract, with its name, and a `ghost use` are one token each."""
     found, at = [], 0
     while at < len(text):
         match = TOKEN.match(text, at)
         if not match:
-            line = text.count("\n", 0, at) + 1
-            raise Unread(f"{file}:{line}: {text[at]!r} is not read")
+            raise Unread(f"{file}:{line_of(text, at)}: {text[at]!r} is not read")
         kind, word = match.lastgroup, match.group()
         if kind == "name" and word in CLAUSES:
-            end = clause_end(text, match.end())
+            end = clause_end(text, match.end(), word, file)
             found.append(Token(word, text[match.end():end].strip(), at))
             at = end
             continue
@@ -49,17 +48,29 @@ def tokens(text, file="?"):
     return found
 
 
-def clause_end(text, at):
+# what stands before the braces of a clause: its name, where it has one
+HEAD = re.compile(r"\s+(?:[A-Za-z_]\w*\s*)?(?=\{)")
+
+
+def clause_end(text, at, word, file):
     """Where the braces of a clause close, or the `;` of a `ghost use` item stands."""
-    start = re.compile(r"\s*").match(text, at).end()
-    if text[start] != "{":
-        return text.index(";", start) + 1
+    if word == "ghost":
+        if not re.compile(r"\s+use\b").match(text, at):
+            raise Unread(f"{file}:{line_of(text, at)}: a `ghost` item of another form than `ghost use` is not read")
+        return text.index(";", at) + 1
+    head = HEAD.match(text, at)
+    if not head:
+        raise Unread(f"{file}:{line_of(text, at)}: a clause of another form than `{word} NAME {{ .. }}` is not read")
     depth = 0
-    for place in range(start, len(text)):
+    for place in range(head.end(), len(text)):
         depth += {"{": 1, "}": -1}.get(text[place], 0)
         if depth == 0:
             return place + 1
-    raise Unread("a clause is not closed")
+    raise Unread(f"{file}:{line_of(text, at)}: a clause is not closed")
+
+
+def line_of(text, at):
+    return text.count("\n", 0, at) + 1
 
 
 def split(words, mark):

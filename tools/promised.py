@@ -9,35 +9,42 @@ import antt
 # everything promised stands in these records, which the promises' proofs have as theorems
 ROOTS = ("Demands", "Library")
 
-NOW = "denote.Ref.now"
+# what a lent place holds, a field of the reference
+NOW = ".now"
+
+# what the names of a function's generated modules end with: what a caller must show, what it learns, and the triple of total correctness
+ASKED, LEARNT, STATEMENT = ".Reads.Asked", ".Reads.Learnt", ".Statement.statement"
+
+# a call of the library says this of what it says
+NUMBER_OF = "number_of"
 
 # what is promised of lists is said over a value of these types: where the values stand, by which definition, and what says a record of each of them
 LISTS = {
-    "ListLayout": ("crates/promises/specs/RecordLayouts.antt", "listOf", "EachList"),
-    "LibraryList": ("crates/rtcm2_promises/specs/LibraryLists.antt", "libraryListOf", "EachLibraryList"),
+    "ListLayout": ("crates/promises/specs/RecordLayouts.antt", "list_of", "EachList"),
+    "LibraryList": ("crates/rtcm2_promises/specs/LibraryLists.antt", "library_list_of", "EachLibraryList"),
 }
 # the answers to a layout's calls are definitions of this file at the layout
-ANSWERS = "Rattle·record_stages.specs.Lists."
+ANSWERS = "Rattle.record_stages.specs.Lists."
 
 
 def own_name(file, name):
     """A name of a file of specs as other crates know it."""
-    return f"Rattle·{file.parts[-3]}.specs.{file.stem}.{name}"
+    return f"Rattle.{file.parts[-3]}.specs.{file.stem}.{name}"
 
 
 def read_clauses(file, name):
     """What a definition by clauses over constants answers, clause by clause."""
     text = file.read_text(encoding="utf-8")
     scope = antt.scope_of(text)
-    return [scope.get(value, own_name(file, value)) for value in re.findall(rf"^{name} \w+ = (\w+)$", text, re.MULTILINE)]
+    return [scope.get(value, own_name(file, value)) for value in re.findall(rf"^{name} \S+ = (\S+)$", text, re.MULTILINE)]
 
 
 def read_instances(file, module):
-    """The definitions of a file that are a definition of the module at a name: `countHealths = counted healthLayout`."""
+    """The definitions of a file that are a definition of the module at a name: `count_healths = counted health_layout`."""
     text = file.read_text(encoding="utf-8")
     scope = antt.scope_of(text)
     return {own_name(file, name): ("app", scope[general], scope.get(value, own_name(file, value)))
-            for name, general, value in re.findall(r"^(\w+) = (\w+) (\w+)$", text, re.MULTILINE) if scope.get(general, "").startswith(module)}
+            for name, general, value in re.findall(r"^(\S+) = (\S+) (\S+)$", text, re.MULTILINE) if scope.get(general, "").startswith(module)}
 
 
 @dataclass
@@ -82,8 +89,8 @@ class Promises:
     def add_call(self, field):
         term = antt.Terms(field.words, field.scope).term()
         asked, learnt, statement = term[2:5]
-        function = asked.removesuffix(".Reads.Asked")
-        if (learnt, statement) != (f"{function}.Reads.Learnt", f"{function}.Statement.statement"):
+        function = asked.removesuffix(ASKED)
+        if (asked, learnt, statement) != (function + ASKED, function + LEARNT, function + STATEMENT):
             return
         bodies = [antt.by_place(part) for part in term[5:]]
         held, left = (antt.parts(bodies[1]), antt.parts(bodies[2])) if len(bodies) == 3 else ([], [])
@@ -103,7 +110,7 @@ class Promises:
                 self.keeps.append((names, *law[2:5]))
 
     def call_of(self, function):
-        return self.calls.get(f"Rattle·{function.crate}.proofs." + ".".join(function.path.split("::")))
+        return self.calls.get(f"Rattle.{function.crate}.proofs." + ".".join(function.path.split("::")))
 
     def has_order(self, call):
         """A law of the order of refusals is about this call's answer."""
@@ -134,7 +141,7 @@ def said_in(words, over):
 
 def without_number(answer):
     """What a call of the library says, of which its answer is the number."""
-    return answer[2] if answer[0] == "app" and answer[1].endswith(".numberOf") else answer
+    return answer[2] if answer[0] == "app" and answer[1].endswith("." + NUMBER_OF) else answer
 
 
 class Answers:
@@ -171,7 +178,7 @@ class Answers:
                 if type.public and "Refused" in type.variants and (type.crate, type.name) not in told]
 
     def can_refuse(self, function):
-        return self.refuses(self.type_of(function.crate, function.answer)) or any(re.search(r"\bnumberOf\b", text) for text in function.ensures)
+        return self.refuses(self.type_of(function.crate, function.answer)) or any(re.search(rf"\b{NUMBER_OF}\b", clause.fact) for clause in function.ensures)
 
     def handed_back(self, function):
         """The states that are passed and returned, by their place among the parameters and the field of the answer: of one type, the first in the first."""

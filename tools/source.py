@@ -1,9 +1,23 @@
 """Rattle sources as far as the gate reads them: modules, functions with their contracts, structs, enums and what is re-exported."""
 
+import re
 from dataclasses import dataclass, field
 from pathlib import Path
 
-from lexer import CLAUSES, Unread, split, tokens
+from lexer import CLAUSES, Unread, line_of, split, tokens
+
+
+@dataclass
+class Clause:
+    """A clause of a contract: its name, or none, and the fact."""
+    name: str
+    fact: str
+
+
+def read_clause(text):
+    """The clause that stands in a source as `NAME { FACT }`."""
+    name, _, rest = text.partition("{")
+    return Clause(name.strip(), " ".join(rest.rpartition("}")[0].split()))
 
 
 @dataclass
@@ -13,6 +27,7 @@ class Function:
     owner: str
     name: str
     public: bool
+    exported: bool
     parameters: list
     answer: str
     requires: list
@@ -73,7 +88,7 @@ class Reader:
         raise Unread(f"{self.file}:{line}: {what}")
 
     def line(self, at):
-        return self.text.count("\n", 0, at) + 1
+        return line_of(self.text, at)
 
     def peek(self):
         return self.all[self.at].text if self.at < len(self.all) else ""
@@ -103,9 +118,11 @@ class Reader:
         if self.all[self.at].kind in CLAUSES:
             self.at += 1
             return
-        while self.peek() == "#":
-            self.next()
+        if self.peek() == "#" and self.all[self.at + 1].text == "!":
+            self.at += 2
             self.inside("[", "]")
+            return
+        exported = "no_mangle" in self.attributes()
         start = self.at
         public = self.visibility()
         word = self.next().text
@@ -113,7 +130,7 @@ class Reader:
             self.next()
             word = self.next().text
         if word == "fn":
-            self.function(owner, public, start)
+            self.function(owner, public, exported, start)
         elif word == "mod" and not owner:
             self.module(public and public_place)
         elif word == "impl":
@@ -127,6 +144,14 @@ class Reader:
         else:
             self.at -= 1
             self.unread(f"an item that begins with `{word}` is not read")
+
+    def attributes(self):
+        """The words of the attributes before an item."""
+        words = []
+        while self.peek() == "#":
+            self.next()
+            words += [token.text for token in self.inside("[", "]")]
+        return words
 
     def visibility(self):
         """Whether the item is public to every crate: `pub`, and not `pub(crate)` or the like."""
@@ -168,7 +193,7 @@ class Reader:
         self.items(owner=owner)
         self.expect("}")
 
-    def function(self, owner, public, start):
+    def function(self, owner, public, exported, start):
         name = self.next().text
         if self.peek() == "<":
             self.inside("<", ">")
@@ -182,8 +207,8 @@ class Reader:
         self.inside("{", "}")
         closing = self.all[self.at - 1].at
         self.crate.functions.append(Function(
-            self.crate.name, list(self.modules), owner, name, public, parameters, answer,
-            [c.text for c in clauses if c.kind == "requires"], [c.text for c in clauses if c.kind == "ensures"],
+            self.crate.name, list(self.modules), owner, name, public, exported, parameters, answer,
+            [read_clause(c.text) for c in clauses if c.kind == "requires"], [read_clause(c.text) for c in clauses if c.kind == "ensures"],
             self.file, self.line(first), (opening, closing + 1),
         ))
 
@@ -244,3 +269,17 @@ class Reader:
         if public:
             self.crate.exports.append(Export(self.file, list(self.modules), plain))
         self.crate.imports.setdefault(self.file, {})[alias] = plain
+
+
+# a line that brings names from a file of specs; std's are not the repository's
+BROUGHT = re.compile(r"^ghost use Rattle\.(?!std\.)(\w+)\.specs\.(\w+)\.\{([^}]*)\};$", re.MULTILINE)
+
+
+def brought(file):
+    """The names of specs that a source brings: of each the crate, the file and the name there."""
+    found = {}
+    for crate, inner, listed in BROUGHT.findall(file.read_text(encoding="utf-8")):
+        for item in listed.split(","):
+            name, _, alias = item.strip().partition(" as ")
+            found[alias or name] = crate, inner, name
+    return found

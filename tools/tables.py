@@ -3,8 +3,9 @@
 import re
 from pathlib import Path
 
-from crates import public_functions
+from crates import EXPORTS, public_functions
 from edits import must_fail_edits, wrong_lines
+from source import brought
 
 PAGE = Path("docs/CONTRACTS.md")
 
@@ -15,9 +16,8 @@ END = "<!-- end of table -->"
 
 # ---- what a contract says
 
-def conjuncts(clause):
-    """The facts of an `ensures`: the text between the half brackets, taken apart at `×`."""
-    text = " ".join(re.search(r"⌜ (.*) ⌝", clause, re.DOTALL).group(1).split())
+def conjuncts(text):
+    """The facts of a clause, taken apart at `×`."""
     found, depth, start = [], 0, 0
     for place, mark in enumerate(text):
         depth += {"(": 1, ")": -1}.get(mark, 0)
@@ -40,47 +40,49 @@ def bare(text):
     return text
 
 
-def plain(text):
-    """A term with each parameter under its own name: what a reference refers to at entry is that reference."""
-    text = re.sub(r"[«»]", "", text)
-    text = re.sub(r"\(now \((\w+) \.entry\)\)", r"\1", text)
-    return re.sub(r"now \((\w+) \.entry\)", r"\1", text)
+# what a reference refers to as a call begins, and what it refers to at the return
+ENTRY, EXIT = r"\.(?:now|old|entry\.now)\b", r"\.(?:new|exit\.now)"
+
+
+def plain(text, function):
+    """A term with each parameter under its own name: what a reference refers to as the call begins is that reference."""
+    names = "|".join(re.escape(name) for name, _ in function.parameters) or "-"
+    return re.sub(rf"(?<![\w.])({names}){ENTRY}", r"\1", re.sub(r"[«»]", "", text))
 
 
 def equations(function):
     """The answer's definition, and each lent place's."""
     answer, places = "", []
     for clause in function.ensures:
-        for fact in conjuncts(clause):
+        for fact in conjuncts(clause.fact):
             side, sign, definition = fact.partition(" ≡ ")
-            lent = re.fullmatch(r"now \(«?(\w+)»? \.exit\)", side)
-            if sign and side == "r":
-                answer = plain(definition)
-            elif sign and side == "eqb r 0":
-                answer = plain(fact)
+            lent = re.fullmatch(rf"«?(\w+)»?{EXIT}", side)
+            if sign and side == "result":
+                answer = plain(definition, function)
+            elif sign and bare(side) == "result == 0":
+                answer = plain(fact, function)
             elif sign and lent:
-                places.append((lent.group(1), plain(definition)))
+                places.append((lent.group(1), plain(definition, function)))
     return answer, places
+
+
+# a name in a term that is no field
+NAME = re.compile(r"(?<![\w.*'])[\w*']+")
 
 
 def homes(file, crate):
     """The names of specs that a source brings: what each is called there, and where, `specs/..` of its own crate or with a crate's name before it."""
-    found = {}
-    for home, inner, listed in re.findall(r"^ghost use Rattle·(\w+)(?:·specs)?\.specs\.(\w+)\.\{(.*)\};$", file.read_text(encoding="utf-8"), re.MULTILINE):
-        for item in listed.split(", "):
-            name, _, alias = item.partition(" as ")
-            found[alias or name] = name, f"specs/{inner}" if home == crate else f"{home}/specs/{inner}"
-    return found
+    return {own: (name, f"specs/{inner}" if home == crate else f"{home}/specs/{inner}") for own, (home, inner, name) in brought(file).items()}
 
 
 def definition_cell(function):
     """The definition that the answer is, where it stands, and by which one each lent place is left."""
     names = homes(function.file, function.crate)
     answer, places = equations(function)
-    words = re.findall(r"[\w*]+", answer or " ".join(text for _, text in places))
+    words = NAME.findall(answer or " ".join(text for _, text in places))
     stands = dict.fromkeys(names[word][1] for word in words if word in names)
     own = [place for place in stands if place.startswith("specs/")] or list(stands)
-    called = lambda text: re.sub(r"[\w*]+", lambda word: names.get(word.group(), [word.group()])[0], text)
+    called = lambda text: NAME.sub(lambda word: names.get(word.group(), [word.group()])[0], text)
     cell = [f"`{called(answer)}`"] if answer else []
     for definition in dict.fromkeys(text.split()[0] for _, text in places):
         cell.append(", ".join(f"`{name}`" for name, text in places if text.split()[0] == definition) + f" by `{called(definition)}`")
@@ -129,7 +131,7 @@ def wanted(root, crates):
     """The tables by name."""
     found = {"wrong programs": program_table(root, crates)}
     for name, crate in crates.items():
-        if public_functions(crate, crates)[0]:
+        if name != EXPORTS and public_functions(crate, crates)[0]:
             found[name] = function_table(root, crate, crates)
     return found
 
