@@ -26,7 +26,7 @@ use Rattle.record_stages.specs.declared.Count.TheVariants as count
 use Rattle.record_corrections.specs.declared.Correction.{Correction}
 use Rattle.record_corrections.specs.declared.CorrectionRead.TheVariants as read
 use Rattle.record_corrections.specs.Corrections.{coding, least, most, numbers, out_of_range, count_corrections, correction_at}
-use Rattle.season_reports.specs.Season.{Entry, entry_row}
+use Rattle.season_reports.specs.Season.{entry_row}
 use Rattle.season_reports.specs.Journals.{entry_under, one_entry, entries_after, entries_counted, entries_read, no_contents}
 use Rattle.season_reports.specs.Journals.{read_before, then_on, contents_from, contents_of}
 use Rattle.season_reports.specs.declared.Row.{Row}

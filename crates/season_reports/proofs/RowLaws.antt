@@ -1,11 +1,11 @@
 -- Keys that are one, and rows put together: in any grouping, with an empty row, and what stays right of them. Assumes nothing.
 use mathlib.Core.Path.{◌≡◌, refl, sym, ap, ap₂, ◌∙◌}
 use mathlib.Core.Bool.{Bool, true, false, true≢false, and-eq-true_iff}
-use Prim.Native.Nat.{ℕ, ◌+◌, ◌^◌, ◌≤◌, ◌<◌}
+use Prim.Native.Nat.{ℕ, ◌^◌, ◌≤◌, ◌<◌}
 use native.Mathlib.Nat.{add_assoc, zero-add, add-zero}
 use native.Mathlib.Omega.{arith}
 use lib.Dec.{eqb}
-use lib.IntN.{ℤ, ◌+ℤ◌, +ℤ_assoc, +ℤ_idl, +ℤ_idr}
+use lib.IntN.{ℤ, +ℤ_assoc, +ℤ_idl, +ℤ_idr}
 use borrow.Author.Tests.{eqb-true, eq-eqb, ne_eqb}
 use Rattle.frame.specs.declared.System.{System}
 use Rattle.frame.specs.declared.System.TheVariants.{Gps, Glonass}

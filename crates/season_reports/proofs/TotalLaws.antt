@@ -2,7 +2,6 @@
 use mathlib.Core.Path.{◌≡◌, refl, sym, ap, ap₂, ◌∙◌}
 use mathlib.Core.Bool.{Bool, true, false, cond, ◌||◌, true≢false}
 use mathlib.Core.List.{List, [], ◌∷◌, ◌++◌, map}
-use Prim.Native.Nat.{◌+◌}
 use Rattle.frame.proofs.WidthLaws.{both_false}
 use Rattle.season_reports.specs.Rows.{same_key, empty_row, together}
 use Rattle.season_reports.specs.Gathering.{first_seen, any_twice, key_twice, keys_of, total_of, gathered}
