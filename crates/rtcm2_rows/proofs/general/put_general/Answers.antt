@@ -1,0 +1,43 @@
+-- `put_general` meets its contract: 13, or seven stores. Assumes nothing.
+use mathlib.Core.Path.{refl, ap, ◌∙◌}
+use native.Mathlib.Omega.{arith}
+use lib.ListN.{length-set}
+use mir.Syntax.{w16}
+use mir.ValLaws.{to_z-of_z}
+use Rattle.bits.specs.Signed.{code}
+use Rattle.rtcm2_rows.specs.Generals.{row}
+use Rattle.rtcm2_rows.proofs.RowLaws.{put-short, put_whole}
+use Rattle.rtcm2_rows.proofs.GeneralRows.{stores}
+use Rattle.rtcm2_rows.proofs.general.put_general.Goals as goal
+
+pub returns-then-bytes-lt-SIZE : goal.returns-then-bytes-lt-SIZE
+returns-then-bytes-lt-SIZE c =
+    let a = c.args in
+    let said = put-short row a.entry a.bytes.now c.if-bytes-lt-SIZE.true in
+    record { value = said.0; bytes_after = said.1 }
+
+pub returns : goal.returns
+returns c =
+    let a = c.args in
+    let said = put_whole row a.entry a.bytes.now _ refl c.if-bytes-lt-SIZE.false
+    (stores a.bytes.now a.entry c.code16-prc.result
+    (c.code16-prc.ensures ∙ ap (code 15) (to_z-of_z w16 a.entry.prc (record { sfits = c.struct_told-1.given.1.1.1.0.1 })))) in
+    record { value = said.0; bytes_after = said.1 }
+
+pub bounds-bytes-1 : goal.bounds-bytes-1
+bounds-bytes-1 c = simp length-set (omega arith)
+
+pub bounds-bytes-2 : goal.bounds-bytes-2
+bounds-bytes-2 c = simp length-set (omega arith)
+
+pub bounds-bytes-3 : goal.bounds-bytes-3
+bounds-bytes-3 c = simp length-set (omega arith)
+
+pub bounds-bytes-4 : goal.bounds-bytes-4
+bounds-bytes-4 c = simp length-set (omega arith)
+
+pub bounds-bytes-5 : goal.bounds-bytes-5
+bounds-bytes-5 c = simp length-set (omega arith)
+
+pub bounds-bytes-6 : goal.bounds-bytes-6
+bounds-bytes-6 c = simp length-set (omega arith)
