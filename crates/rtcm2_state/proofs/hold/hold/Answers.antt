@@ -18,6 +18,7 @@ use Rattle.rtcm2_state.specs.Holding.{takes_six, after_six, six_put}
 use Rattle.rtcm2_state.proofs.StateLaws.{held-long, read_is}
 use Rattle.rtcm2_state.proofs.Holding.{all-bytes, cells_are}
 use Rattle.rtcm2_state.proofs.Quiet.{Takes, takes_told, none-held, takes_none, no_bits, not-told, known_on, whole-on}
+use borrow.Author.Rules.{rules}
 use Rattle.rtcm2_state.proofs.hold.hold.Goals as goal
 
 pub returns-then-not-holds_state : goal.returns-then-not-holds_state
@@ -116,7 +117,7 @@ pub returns-in-Known : goal.returns-in-Known
 returns-in-Known c =
     let data_is : (is_data c.args.byte ≡ true) × (c.in-Bits.six ≡ number (six c.args.byte)) = six-bits c.args.byte _ (sym c.six_of-line.ensures ∙ c.in-Bits.is) in
     let held : holds_state c.args.bytes.now ≡ true = sym c.holds_state.ensures ∙ c.if-not-holds_state.false in
-    let bytes-are : AreBytes c.args.bytes.now = all-bytes c.args.bytes.now (λ i. omega (arith, c.slice_known-1.given i)) in
+    let bytes-are : AreBytes c.args.bytes.now = all-bytes c.args.bytes.now (λ i. search rules) in
     let counts : c.candidate_at-c.result ≡ (state_in c.args.bytes.now).candidate = c.candidate_at-c.ensures
     ∙ ap (λ (r : Reader). r.candidate) (sym (read_is c.args.bytes.now held)) in
     let bs : List ℕ = c.args.bytes.now in
@@ -136,7 +137,7 @@ pub returns-in-Whole : goal.returns-in-Whole
 returns-in-Whole c =
     let data_is : (is_data c.args.byte ≡ true) × (c.in-Bits.six ≡ number (six c.args.byte)) = six-bits c.args.byte _ (sym c.six_of-line.ensures ∙ c.in-Bits.is) in
     let held : holds_state c.args.bytes.now ≡ true = sym c.holds_state.ensures ∙ c.if-not-holds_state.false in
-    let bytes-are : AreBytes c.args.bytes.now = all-bytes c.args.bytes.now (λ i. omega (arith, c.slice_known-1.given i)) in
+    let bytes-are : AreBytes c.args.bytes.now = all-bytes c.args.bytes.now (λ i. search rules) in
     let counts : c.candidate_at-c.result ≡ (state_in c.args.bytes.now).candidate = c.candidate_at-c.ensures
     ∙ ap (λ (r : Reader). r.candidate) (sym (read_is c.args.bytes.now held)) in
     let bs : List ℕ = c.args.bytes.now in
@@ -157,7 +158,7 @@ returns-in-Untold c =
     let data_is : (is_data c.args.byte ≡ true) × (c.in-Bits.six ≡ number (six c.args.byte)) = six-bits c.args.byte _ (sym c.six_of-line.ensures ∙ c.in-Bits.is) in
     let bs : List ℕ = c.args.bytes.now in
     let held : holds_state c.args.bytes.now ≡ true = sym c.holds_state.ensures ∙ c.if-not-holds_state.false in
-    let bytes-are : AreBytes c.args.bytes.now = all-bytes c.args.bytes.now (λ i. omega (arith, c.slice_known-1.given i)) in
+    let bytes-are : AreBytes c.args.bytes.now = all-bytes c.args.bytes.now (λ i. search rules) in
     let counts : c.candidate_at-c.result ≡ (state_in c.args.bytes.now).candidate = c.candidate_at-c.ensures
     ∙ ap (λ (r : Reader). r.candidate) (sym (read_is c.args.bytes.now held)) in
     let told_is : c.tell.result ≡ after_six (state_in bs).cells (state_in bs).candidate (number (six c.args.byte)) = c.tell.ensures
