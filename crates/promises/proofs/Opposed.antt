@@ -5,7 +5,7 @@ use mathlib.Core.List.{List, ◌++◌, map, map-append}
 use Prim.Native.Nat.{ℕ, ◌+◌, ◌-◌, ◌*◌, ◌≤◌}
 use native.Mathlib.Omega.{arith}
 use lib.ListN.{length, drop, length-map}
-use Rattle.bits.specs.Bits.{bits, number}
+use Rattle.bits.specs.Bits.{number}
 use Rattle.bits.proofs.Numbers.{bits-number}
 use Rattle.line.specs.Line.{six}
 use Rattle.line.proofs.LineLaws.{length-six, six-lt}

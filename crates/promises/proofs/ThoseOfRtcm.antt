@@ -14,7 +14,6 @@ use Rattle.line.specs.Answer.{six_of, says_six}
 use Rattle.line.proofs.LineLaws.{byte-six, six-byte, byte-data, six-says}
 use Rattle.word.specs.Word.{Row, rows, parity_bit, d29*, d30*, D, data_of, passes}
 use Rattle.word.proofs.Linearity.{passes-equal, passes-turned, data-turned}
-use Rattle.word.proofs.Sending.{only-sent}
 use Rattle.word.proofs.Tables.{tables_agree}
 use Rattle.frame.specs.Header.{factors, state_of, preambled, n_of, header_of, first_word, second_word}
 use Rattle.frame.specs.Widths.{state_outside, header_outside, late}

@@ -1,6 +1,6 @@
 -- DEMAND 2, sentence by sentence: the papers' frames, parity and records are in ThoseOfRtcm; here a record that is written and read, and a frame that
 -- is read, made anew and written. Assumes nothing.
-use Rattle.std.specs.Prelude.{◌≡◌, Bool, false, cond, List, [], ◌∷◌, ◌++◌, ◌↔◌, ℕ, ◌+◌, ◌*◌, ◌≤◌, ◌<◌, eqb, length, take, drop, get_or}
+use Rattle.std.specs.Prelude.{◌≡◌, Bool, false, cond, List, ◌++◌, ◌↔◌, ℕ, ◌+◌, ◌*◌, ◌≤◌, ◌<◌, eqb, length, take, drop, get_or}
 use Rattle.answer.specs.Order.{refuses, answers}
 use Rattle.bits.specs.Fields.{AreBytes}
 use Rattle.bits.specs.Rows.{FillAfter}

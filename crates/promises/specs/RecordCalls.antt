@@ -142,7 +142,7 @@ pub record RecordCalls : Type 2 where
       (λ κs (frame, (buffer, _)). read_text frame buffer.now)
       (λ κs (_, (buffer, _)). buffer.now) (λ κs (frame, (buffer, _)). buffer_after frame buffer.now)
   pub make-text : Answered make_text.Reads.Asked make_text.Reads.Learnt make_text.Statement.statement
-      (λ κs (header, (text, _)). make_text header (text .now))
+      (λ κs (header, (text, _)). make_text header text.now)
   -- record_observations
   pub quantity-of : Answered quantity_of.Reads.Asked quantity_of.Reads.Learnt quantity_of.Statement.statement
       (λ κs (kind, _). quantity_of kind)

@@ -47,8 +47,8 @@ pub record StreamCalls : Type 2 where
   pub word-passes : Answered word-passes.Reads.Asked word-passes.Reads.Learnt word-passes.Statement.statement
       (λ κs (window, _). passes (bits 32 window))
   pub read-rows : AnsweredLent read_rows.Reads.Asked read_rows.Reads.Learnt read_rows.Statement.statement
-      (λ κs (reader, (bytes, (rows, _))). rows_by reader bytes.now (rows .now))
-      (λ κs (_, (_, (rows, _))). rows .now) (λ κs (reader, (bytes, (rows, _))). rows_to reader bytes.now (rows .now))
+      (λ κs (reader, (bytes, (rows, _))). rows_by reader bytes.now rows.now)
+      (λ κs (_, (_, (rows, _))). rows.now) (λ κs (reader, (bytes, (rows, _))). rows_to reader bytes.now rows.now)
   -- writer
   pub writer-open : AnsweredLent writer-open.Reads.Asked writer-open.Reads.Learnt writer-open.Statement.statement
       (λ κs (buffer, _). opened_by buffer.now)

@@ -1,3 +1,2 @@
 // The demands, sentence by sentence, and the worked values: statements in specs/, proofs in proofs/.
 #![tactic(auto)]
-
