@@ -8,7 +8,7 @@ fn main() {
     println!("cargo:rerun-if-env-changed=RTCM2_LIBRARY");
     println!("cargo:rerun-if-changed={folder}/librtcm2.a");
     if !Path::new(&folder).join("librtcm2.a").exists() {
-        println!("cargo:warning={folder}/librtcm2.a is not there: `rt staticlib rtcm2` makes it, or RTCM2_LIBRARY names its folder");
+        println!("cargo:warning={folder}/librtcm2.a is not there: `make` makes it, or RTCM2_LIBRARY names its folder");
     }
     println!("cargo:rustc-link-search=native={folder}");
     println!("cargo:rustc-link-lib=static=rtcm2");
