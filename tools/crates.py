@@ -63,19 +63,24 @@ def exported_functions(root):
     return [function for function in read_crate(root, EXPORTS if exports else LIBRARY).functions if function.exported]
 
 
-def below(root):
-    """The crates in the order of crates.txt, and the crates of the repository that each names. Words between a crate's name and the `:` say how
-    it is built."""
+def named(root):
+    """The crates in the order of crates.txt, and the libraries that each names, of the repository and of the kit. Words between a crate's name and
+    the `:` say how it is built."""
     lines = (line.split("#")[0].strip() for line in (Path(root) / "crates.txt").read_text().splitlines())
-    named = {line.split()[0].rstrip(":"): line.split(":")[1].split() for line in lines if line}
-    return {name: [other for other in others if other in named] for name, others in named.items()}
+    return {line.split()[0].rstrip(":"): line.split(":")[1].split() for line in lines if line}
+
+
+def below(root):
+    """The same crates, and the crates of the repository that each names."""
+    libraries = named(root)
+    return {name: [other for other in others if other in libraries] for name, others in libraries.items()}
 
 
 def depends_on(root, crate):
     """Every crate of the repository that a crate rests on, directly or not."""
-    named, found, left = below(root), [], [crate]
+    others, found, left = below(root), [], [crate]
     while left:
-        for other in named[left.pop()]:
+        for other in others[left.pop()]:
             if other not in found:
                 found.append(other)
                 left.append(other)

@@ -115,10 +115,16 @@ def changed_files(folder, edit):
 
 # ---- what the prover said
 
-ERROR = re.compile(r"^(?P<file>/\S+?):\d+:\d+: error: (?:`(?P<name>[^`]+)`: )?(?P<message>.*)$")
+ERROR = re.compile(r"^(?P<file>\.?/?\S+?):\d+:\d+: error: (?:`(?P<name>[^`]+)`: )?(?P<message>.*)$")
 
 # a function that has no proof file, and needs none while its facts hold
-UNFOUND = re.compile(r"^fn \w+::(?P<path>\S+): no proof: .*; (?P<message>`search` does not close `(?P<name>[^`]+)`)")
+UNFOUND = re.compile(r"^fn \w+::(?P<path>\S+): no proof: .*; (?P<message>`search` did not prove `(?P<name>[^`]+)`)")
+
+# a fact that the proof files leave to `search`, which did not prove it; the line of its function follows
+OPEN = re.compile(r"^note: src/\S+?:\d+:\d+: (?P<message>it is not proved that .*\(`(?P<name>[^`]+)`\))$")
+
+# what became of a function
+VERDICT = re.compile(r"^(?:fn|enum|struct) \w+::(?P<path>\S+): (?P<verdict>.*)$")
 
 # a declaration rests on another one that failed, so that this says nothing of itself
 RESTS = "was not admitted"
@@ -127,7 +133,11 @@ RESTS = "was not admitted"
 FORM = re.compile(r"has no field|that can be named from here")
 
 # a fact that is not proved: an equation of other sides, or one that was looked for and not found
-FACT = re.compile(r"two types|two values|expected type `(?:Path \(|.*(?:Core\.Path| ≡ ))|does not hold|missing equation|`(?:simp|rw|search|omega)\b")
+FACT = re.compile(r"two types|two values|expected type `(?:Path |.*(?:Core\.Path| ≡ ))|does not hold|missing equation|`(?:simp|rw|search|omega)\b"
+                  r"|it is not proved that")
+
+# what is left to `search` of such a function is not tried before the functions that it calls are proved
+WAITS = re.compile(r"^fn \w+::(?P<path>\S+): no.*(?:which is not proved|which are not proved)")
 
 
 @dataclass
@@ -138,8 +148,14 @@ class Failure:
 
 def failures(log):
     """The errors of a log that do not rest on others, by the function whose proof they stand in; of a law, by its name."""
-    found = {}
+    found, left_open = {}, []
     for line in log.splitlines():
+        is_open, verdict = OPEN.match(line), VERDICT.match(line)
+        if is_open:
+            left_open.append(Failure(is_open["name"], is_open["message"]))
+        elif verdict and left_open:
+            found.setdefault(verdict["path"], []).extend(left_open)
+            left_open = []
         match = ERROR.match(line) or UNFOUND.match(line)
         if not match or RESTS in match["message"]:
             continue
@@ -150,12 +166,17 @@ def failures(log):
 
 
 def proof_of(file):
-    """The function whose proof a file is: proofs/MODULE/NAME/Proof.antt."""
+    """The function whose proof a file is of: proofs/MODULE/NAME/Answers.antt, or its invariants, or a whole proof."""
     parts = Path(file).parts
-    if parts[-1] != "Proof.antt" or "proofs" not in parts:
+    if parts[-1] not in ("Answers.antt", "Invariants.antt", "Proof.antt") or "proofs" not in parts:
         return None
     last = len(parts) - 1 - parts[::-1].index("proofs")
     return "::".join(parts[last + 1:-1])
+
+
+def waiting(log):
+    """The functions of which not all was tried, as they call others that are not proved."""
+    return {match["path"] for match in map(WAITS.match, log.splitlines()) if match}
 
 
 def judge(edit, log):

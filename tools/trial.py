@@ -1,38 +1,60 @@
-"""A scratch repository in which a changed copy of one crate is checked over what is proved below it."""
+"""A changed copy of one crate, checked over what is proved below it."""
 
 import os
 import shutil
 import subprocess
 import tempfile
-import time
 from pathlib import Path
 
-from crates import depends_on
+from crates import depends_on, named
+
+PARTS = ("src", "specs", "proofs")
 
 
-def rt_words():
-    """The command that stands for `rt`: RT, where it is set."""
-    return os.environ.get("RT", "rt").split()
+def kit():
+    """The folder of the kit: RATTLE_HOME, or the one in which `rt` stands."""
+    command = shutil.which("rt")
+    if "RATTLE_HOME" not in os.environ and not command:
+        raise SystemExit("rt is not to be found")
+    return Path(os.environ.get("RATTLE_HOME") or Path(command).resolve().parent.parent)
 
 
-def wait_for(root, crate):
-    """Waits until every crate below this one is proved."""
-    stamps = [Path(root) / "target" / "stamp" / other for other in depends_on(root, crate)]
-    while not all(stamp.exists() for stamp in stamps):
-        time.sleep(1)
+def rattle():
+    """The compiler, which `rt` calls too."""
+    return str(kit() / "bin/rattle")
+
+
+def proved(root, crate):
+    """The folder where `rt check` of a crate above, or `rt ci`, leaves a library that it has proved."""
+    return Path(root) / "crates" / crate / "out/rlib"
+
+
+def words_for(root, crate):
+    """What the compiler is told of a crate: its root file, the libraries that it names, and where those that these rest on are."""
+    below = depends_on(root, crate)
+    for other in below:
+        if not (proved(root, other) / f"{other}.rlib").exists():
+            raise SystemExit(f"{other} is not proved here: (cd crates/{crate} && rt check) proves what lies below {crate}")
+    library = lambda name: proved(root, name) / f"{name}.rlib" if name in below else kit() / "rlibs" / f"{name}.rlib"
+    is_program = (Path(root) / "crates" / crate / "src/main.rt").exists()
+    words = ["--crate-name", crate, "src/main.rt" if is_program else "src/lib.rt"]
+    for name in ["std"] + named(root)[crate]:
+        words += ["--extern", f"{name}={library(name)}"]
+    for folder in [kit() / "rlibs"] + [proved(root, other) for other in below]:
+        words += ["-L", f"dependency={folder}"]
+    words += ["--antt-project", str(kit() / "rattle/logic/antt-project.json"), "--logic-built", str(kit() / "logic_built")]
+    return words + ["--jobs", str(min(4, os.cpu_count() or 1))]
 
 
 class Trial:
-    """The crate's sources, specs and proofs are copied. The crates below it, and what is proved of them, are the repository's own."""
+    """The crate's sources, specs and proofs are copied. The libraries below it are the repository's own, as they are proved there. A check begins
+    with what those before it in the same trial have proved."""
 
     def __init__(self, root, crate):
         self.root, self.crate = Path(root).resolve(), crate
-        for other in depends_on(root, crate):
-            if not (self.root / "target/stamp" / other).exists():
-                raise SystemExit(f"{other} is not proved: rt check {crate}")
+        self.words = words_for(self.root, crate)
         self.room = Path(tempfile.mkdtemp(prefix=f"{crate}-"))
-        self.folder = self.room / "crates" / crate
-        self.lay_out()
+        self.folder = self.room / crate
         self.renew()
 
     def __enter__(self):
@@ -41,24 +63,15 @@ class Trial:
     def __exit__(self, *_):
         shutil.rmtree(self.room)
 
-    def lay_out(self):
-        shutil.copy(self.root / "crates.txt", self.room)
-        for part in ("crates", "target/rlib", "target/stamp"):
-            (self.room / part).mkdir(parents=True)
-        for other in depends_on(self.root, self.crate):
-            (self.room / "crates" / other).symlink_to(self.root / "crates" / other)
-            (self.room / "target/rlib" / f"{other}.rlib").symlink_to(self.root / "target/rlib" / f"{other}.rlib")
-            shutil.copy(self.root / "target/stamp" / other, self.room / "target/stamp")
-
     def renew(self):
         """The crate as it is, with nothing changed."""
         shutil.rmtree(self.folder, ignore_errors=True)
-        for part in ("src", "specs", "proofs"):
+        for part in PARTS:
             if (self.root / "crates" / self.crate / part).exists():
                 shutil.copytree(self.root / "crates" / self.crate / part, self.folder / part)
 
     def check(self):
-        """The status and the whole output of `rt dev`: 0 where the crate is proved."""
-        done = subprocess.run(rt_words() + ["dev", self.crate], cwd=self.room, env={**os.environ, "RT_CUT": "0"},
-                              stdout=subprocess.PIPE, stderr=subprocess.STDOUT, text=True, check=False)
+        """The status and the whole output of a check: 0 where the crate is proved."""
+        done = subprocess.run([rattle(), "check", *self.words, "--incremental", str(self.room / "kept")], cwd=self.folder, stdin=subprocess.DEVNULL,
+                              stdout=subprocess.PIPE, stderr=subprocess.STDOUT, text=True, errors="replace", check=False)
         return done.returncode, done.stdout
