@@ -77,40 +77,40 @@ pub record LibraryCalls : Type 2 where
   pub state-size : Answered rtcm2_state_size.Reads.Asked rtcm2_state_size.Reads.Learnt rtcm2_state_size.Statement.statement
       (λ κs a. state_size)
   pub start : AnsweredLent rtcm2_start.Reads.Asked rtcm2_start.Reads.Learnt rtcm2_start.Statement.statement
-      (λ κs (state, _). number_of (started_in (state .now)))
-      (λ κs (state, _). state .now) (λ κs (state, _). left (started_in (state .now)) (λ r. state_put r (state .now)) (state .now))
+      (λ κs (state, _). number_of (started_in state.now))
+      (λ κs (state, _). state.now) (λ κs (state, _). left (started_in state.now) (λ r. state_put r state.now) state.now)
   pub counts : AnsweredLent {B = ℕ × ℕ} rtcm2_counts.Reads.Asked rtcm2_counts.Reads.Learnt rtcm2_counts.Statement.statement
-      (λ κs (state, _). number_of (counts_in (state .now)))
+      (λ κs (state, _). number_of (counts_in state.now))
       (λ κs (_, (odd, (even, _))). (odd.now, even.now))
-      (λ κs (state, (odd, (even, _))). let s = counts_in (state .now) in (left s (λ t. t.odd) odd.now, left s (λ t. t.even) even.now))
+      (λ κs (state, (odd, (even, _))). let s = counts_in state.now in (left s (λ t. t.odd) odd.now, left s (λ t. t.even) even.now))
   pub feed : AnsweredLent rtcm2_feed.Reads.Asked rtcm2_feed.Reads.Learnt rtcm2_feed.Statement.statement
-      (λ κs (state, (byte, _)). number_of (fed_in (state .now) byte))
-      (λ κs (state, _). state .now)
-      (λ κs (state, (byte, _)). left (fed_in (state .now) byte) (λ n. state_put n.reader (state .now)) (state .now))
+      (λ κs (state, (byte, _)). number_of (fed_in state.now byte))
+      (λ κs (state, _). state.now)
+      (λ κs (state, (byte, _)). left (fed_in state.now byte) (λ n. state_put n.reader state.now) state.now)
   pub feed-all : AnsweredLent {B = List ℕ × (ℕ × ℕ)} rtcm2_feed_all.Reads.Asked rtcm2_feed_all.Reads.Learnt rtcm2_feed_all.Statement.statement
-      (λ κs (state, (bytes, _)). number_of (fed_all_in (state .now) bytes.now))
-      (λ κs (state, (_, (used, (passed, _)))). (state .now, (used.now, passed.now)))
-      (λ κs (state, (bytes, (used, (passed, _)))). let s = fed_all_in (state .now) bytes.now in
-      (left s (λ f. state_put f.reader (state .now)) (state .now), (left s (λ f. f.used) used.now, left s (λ f. f.passed) passed.now)))
+      (λ κs (state, (bytes, _)). number_of (fed_all_in state.now bytes.now))
+      (λ κs (state, (_, (used, (passed, _)))). (state.now, (used.now, passed.now)))
+      (λ κs (state, (bytes, (used, (passed, _)))). let s = fed_all_in state.now bytes.now in
+      (left s (λ f. state_put f.reader state.now) state.now, (left s (λ f. f.used) used.now, left s (λ f. f.passed) passed.now)))
   pub line_read : AnsweredLent {B = List ℕ × (List ℕ × (ℕ × (ℕ × ℕ)))} rtcm2_read.Reads.Asked rtcm2_read.Reads.Learnt rtcm2_read.Statement.statement
-      (λ κs (state, (bytes, (rows, _))). number_of (rows_in (state .now) bytes.now rows.now))
-      (λ κs (state, (_, (rows, (used, (passed, (count, _)))))). (state .now, (rows.now, (used.now, (passed.now, count.now)))))
-      (λ κs (state, (bytes, (rows, (used, (passed, (count, _)))))). let s = rows_in (state .now) bytes.now rows.now in (
-        left s (λ x. state_put x.reader (state .now)) (state .now),
+      (λ κs (state, (bytes, (rows, _))). number_of (rows_in state.now bytes.now rows.now))
+      (λ κs (state, (_, (rows, (used, (passed, (count, _)))))). (state.now, (rows.now, (used.now, (passed.now, count.now)))))
+      (λ κs (state, (bytes, (rows, (used, (passed, (count, _)))))). let s = rows_in state.now bytes.now rows.now in (
+        left s (λ x. state_put x.reader state.now) state.now,
         (
-          left s (λ x. rows_to (state_in (state .now)) bytes.now rows.now) rows.now,
+          left s (λ x. rows_to (state_in state.now) bytes.now rows.now) rows.now,
           (left s (λ x. x.used) used.now, (left s (λ x. x.passed) passed.now, left s (λ x. x.count) count.now)),
         ),
       ))
   pub line-end : AnsweredLent rtcm2_end.Reads.Asked rtcm2_end.Reads.Learnt rtcm2_end.Statement.statement
-      (λ κs (state, _). number_of (ended_in (state .now)))
-      (λ κs (state, _). state .now)
-      (λ κs (state, _). left (ended_in (state .now)) (λ n. start_put n.reader.candidate n.reader.ended (state .now)) (state .now))
+      (λ κs (state, _). number_of (ended_in state.now))
+      (λ κs (state, _). state.now)
+      (λ κs (state, _). left (ended_in state.now) (λ n. start_put n.reader.candidate n.reader.ended state.now) state.now)
   pub line-take : AnsweredLent {B = List ℕ × (List ℕ × (ℕ × (ℕ × (ℕ × ℕ))))} rtcm2_take.Reads.Asked rtcm2_take.Reads.Learnt rtcm2_take.Statement.statement
-      (λ κs (state, (frame, _)). number_of (taken_in (state .now) frame.now))
-      (λ κs (state, (frame, (length, (at, (d29, (d30, _)))))). (state .now, (frame.now, (length.now, (at.now, (d29.now, d30.now))))))
-      (λ κs (state, (frame, (length, (at, (d29, (d30, _)))))). let s = taken_in (state .now) frame.now in (
-        left s (λ v. start_put v.1.reader.candidate v.1.reader.ended (state .now)) (state .now),
+      (λ κs (state, (frame, _)). number_of (taken_in state.now frame.now))
+      (λ κs (state, (frame, (length, (at, (d29, (d30, _)))))). (state.now, (frame.now, (length.now, (at.now, (d29.now, d30.now))))))
+      (λ κs (state, (frame, (length, (at, (d29, (d30, _)))))). let s = taken_in state.now frame.now in (
+        left s (λ v. start_put v.1.reader.candidate v.1.reader.ended state.now) state.now,
         (
           left s (λ v. held_by v.1.frame frame.now) frame.now,
           (
@@ -160,16 +160,16 @@ pub record LibraryCalls : Type 2 where
       ))
   -- rtcm2::words
   pub keep-words : AnsweredLent {B = List ℕ × ℕ} rtcm2_keep_words.Reads.Asked rtcm2_keep_words.Reads.Learnt rtcm2_keep_words.Statement.statement
-      (λ κs (frame, (d29, (d30, (words, _)))). number_of (words_kept (frame_said frame.now) d29 d30 (words .now)))
-      (λ κs (_, (_, (_, (words, (length, _))))). (words .now, length.now))
+      (λ κs (frame, (d29, (d30, (words, _)))). number_of (words_kept (frame_said frame.now) d29 d30 words.now))
+      (λ κs (_, (_, (_, (words, (length, _))))). (words.now, length.now))
       (λ κs (frame, (d29, (d30, (words, (length, _))))). let s = frame_said frame.now in
-      (words_held s d29 d30 (words .now), words_size s d29 d30 (words .now) length.now))
+      (words_held s d29 d30 words.now, words_size s d29 d30 words.now length.now))
   pub recall-words : AnsweredLent {B = List ℕ × (ℕ × (ℕ × (ℕ × ℕ)))}
       rtcm2_recall_words.Reads.Asked rtcm2_recall_words.Reads.Learnt rtcm2_recall_words.Statement.statement
-      (λ κs (words, (frame, _)). number_of (back_said (live_said (words .now)) frame.now))
-      (λ κs (_, (frame, (d29, (d30, (read, (length, _)))))). (frame.now, (d29.now, (d30.now, (read .now, length.now)))))
-      (λ κs (words, (frame, (d29, (d30, (read, (length, _)))))). let s = live_said (words .now) in let b = back_said s frame.now in
-      (back_held s frame.now, (left b d29_back d29.now, (left b d30_back d30.now, (left b read_back (read .now), left b length_back length.now)))))
+      (λ κs (words, (frame, _)). number_of (back_said (live_said words.now) frame.now))
+      (λ κs (_, (frame, (d29, (d30, (read, (length, _)))))). (frame.now, (d29.now, (d30.now, (read.now, length.now)))))
+      (λ κs (words, (frame, (d29, (d30, (read, (length, _)))))). let s = live_said words.now in let b = back_said s frame.now in
+      (back_held s frame.now, (left b d29_back d29.now, (left b d30_back d30.now, (left b read_back read.now, left b length_back length.now)))))
   -- rtcm2::beacon
   pub check-profile : Answered rtcm2_check_profile.Reads.Asked rtcm2_check_profile.Reads.Learnt rtcm2_check_profile.Statement.statement
       (λ κs (frame, _). number_of (profile_said (frame_said frame.now)))
@@ -184,8 +184,8 @@ pub record LibraryCalls : Type 2 where
   -- rtcm2::values
   pub prc-mm : AnsweredLent {B = ℕ × ℤ} rtcm2_prc_mm.Reads.Asked rtcm2_prc_mm.Reads.Learnt rtcm2_prc_mm.Statement.statement
       (λ κs (scale, (prc, _)). number_of (prc_said scale prc))
-      (λ κs (_, (_, (stop, (mm, _)))). (stop.now, mm .now))
-      (λ κs (scale, (prc, (stop, (mm, _)))). let s = prc_said scale prc in (left s stop_flag stop.now, left s exact_or0 (mm .now)))
+      (λ κs (_, (_, (stop, (mm, _)))). (stop.now, mm.now))
+      (λ κs (scale, (prc, (stop, (mm, _)))). let s = prc_said scale prc in (left s stop_flag stop.now, left s exact_or0 mm.now))
   pub rrc-mm-s : AnsweredLent {B = ℕ × ℤ} rtcm2_rrc_mm_s.Reads.Asked rtcm2_rrc_mm_s.Reads.Learnt rtcm2_rrc_mm_s.Statement.statement
       (λ κs (scale, (rrc, _)). number_of (rrc_said scale rrc))
       (λ κs (_, (_, (stop, (rate, _)))). (stop.now, rate.now))
@@ -196,31 +196,31 @@ pub record LibraryCalls : Type 2 where
   pub udre-limit-mm : AnsweredLent {B = ℕ × ℕ}
       rtcm2_udre_limit_mm.Reads.Asked rtcm2_udre_limit_mm.Reads.Learnt rtcm2_udre_limit_mm.Statement.statement
       (λ κs (health, (udre, _)). number_of (limit_said health udre))
-      (λ κs (_, (_, (limited, (mm, _)))). (limited.now, mm .now))
+      (λ κs (_, (_, (limited, (mm, _)))). (limited.now, mm.now))
       (λ κs (health, (udre, (limited, (mm, _)))). let s = limit_said health udre in
-      (left s limit_flag limited.now, left s limit_or0 (mm .now)))
+      (left s limit_flag limited.now, left s limit_or0 mm.now))
   pub cn0-dbhz : AnsweredLent {B = ℕ × ℕ} rtcm2_cn0_dbhz.Reads.Asked rtcm2_cn0_dbhz.Reads.Learnt rtcm2_cn0_dbhz.Statement.statement
       (λ κs (code, _). number_of (strength_said code))
-      (λ κs (_, (tracked, (dbhz, _))). (tracked.now, dbhz .now))
-      (λ κs (code, (tracked, (dbhz, _))). let s = strength_said code in (left s tracked_flag tracked.now, left s db_hz_or0 (dbhz .now)))
+      (λ κs (_, (tracked, (dbhz, _))). (tracked.now, dbhz.now))
+      (λ κs (code, (tracked, (dbhz, _))). let s = strength_said code in (left s tracked_flag tracked.now, left s db_hz_or0 dbhz.now))
   pub letter-of : AnsweredLent rtcm2_letter_of.Reads.Asked rtcm2_letter_of.Reads.Learnt rtcm2_letter_of.Statement.statement
       (λ κs (code, _). number_of (letter_said code))
-      (λ κs (_, (letter, _)). letter .now) (λ κs (code, (letter, _)). left (letter_said code) (λ k. k) (letter .now))
+      (λ κs (_, (letter, _)). letter.now) (λ κs (code, (letter, _)). left (letter_said code) (λ k. k) letter.now)
   -- rtcm2::window
   pub remainder : AnsweredLent rtcm2_remainder.Reads.Asked rtcm2_remainder.Reads.Learnt rtcm2_remainder.Statement.statement
       (λ κs (window, _). number_of (remainder_said window))
-      (λ κs (_, (remainder, _)). remainder .now) (λ κs (window, (remainder, _)). left (remainder_said window) (λ k. k) (remainder .now))
+      (λ κs (_, (remainder, _)). remainder.now) (λ κs (window, (remainder, _)). left (remainder_said window) (λ k. k) remainder.now)
   -- the mender
   pub mend : AnsweredLent {B = List ℕ × (List ℕ × (ℕ × (ℕ × ℕ)))} rtcm2_mend.Reads.Asked rtcm2_mend.Reads.Learnt rtcm2_mend.Statement.statement
       (λ κs (bytes, (at, (searching, (report, _)))). number_of (mend_said bytes.now at searching report.now))
-      (λ κs (bytes, (_, (_, (report, (step, (read, (written, _))))))). (bytes.now, (report.now, (step.now, (read .now, written.now)))))
+      (λ κs (bytes, (_, (_, (report, (step, (read, (written, _))))))). (bytes.now, (report.now, (step.now, (read.now, written.now)))))
       (λ κs (bytes, (at, (searching, (report, (step, (read, (written, _))))))). let s = mend_said bytes.now at searching report.now in (
         bytes_to bytes.now (is_nonzero searching) report.now,
         (
           output_to bytes.now at (is_nonzero searching) report.now,
           (
             left s (λ v. step_number v.0) step.now,
-            (left s (λ v. on_of v.0 (length bytes.now)) (read .now), left s (λ v. v.1) written.now),
+            (left s (λ v. on_of v.0 (length bytes.now)) read.now, left s (λ v. v.1) written.now),
           ),
         ),
       ))

@@ -33,7 +33,7 @@ pub record LibraryGenerals : Type 2 where
   -- rtcm2::general: the list
   pub count-generals : AnsweredLent rtcm2_count_generals.Reads.Asked rtcm2_count_generals.Reads.Learnt rtcm2_count_generals.Statement.statement
       (λ κs (frame, _). number_of (count_said (frame_said frame.now)))
-      (λ κs (_, (count, _)). count .now) (λ κs (frame, (count, _)). left (count_said (frame_said frame.now)) (λ k. k) (count .now))
+      (λ κs (_, (count, _)). count.now) (λ κs (frame, (count, _)). left (count_said (frame_said frame.now)) (λ k. k) count.now)
   pub read-head : AnsweredLent {B = ℕ × (ℕ × (ℕ × (ℕ × ℕ)))}
       rtcm2_read_head.Reads.Asked rtcm2_read_head.Reads.Learnt rtcm2_read_head.Statement.statement
       (λ κs (frame, _). number_of (head_said (frame_said frame.now)))
@@ -78,12 +78,12 @@ pub record LibraryGenerals : Type 2 where
   pub general-prc-mm : AnsweredLent {B = ℕ × ℤ}
       rtcm2_general_prc_mm.Reads.Asked rtcm2_general_prc_mm.Reads.Learnt rtcm2_general_prc_mm.Statement.statement
       (λ κs (prc, _). number_of (general_prc_said prc))
-      (λ κs (_, (stop, (mm, _))). (stop.now, mm .now))
-      (λ κs (prc, (stop, (mm, _))). let s = general_prc_said prc in (left s stop_flag stop.now, left s exact_or0 (mm .now)))
+      (λ κs (_, (stop, (mm, _))). (stop.now, mm.now))
+      (λ κs (prc, (stop, (mm, _))). let s = general_prc_said prc in (left s stop_flag stop.now, left s exact_or0 mm.now))
   pub delay-mm : AnsweredLent {B = ℕ × ℕ} rtcm2_delay_mm.Reads.Asked rtcm2_delay_mm.Reads.Learnt rtcm2_delay_mm.Statement.statement
       (λ κs (delay, _). number_of (delay_said delay))
-      (λ κs (_, (usable, (mm, _))). (usable.now, mm .now))
-      (λ κs (delay, (usable, (mm, _))). let s = delay_said delay in (left s usable_flag usable.now, left s delay_or0 (mm .now)))
+      (λ κs (_, (usable, (mm, _))). (usable.now, mm.now))
+      (λ κs (delay, (usable, (mm, _))). let s = delay_said delay in (left s usable_flag usable.now, left s delay_or0 mm.now))
   pub general-udre : AnsweredLent {B = ℕ × ℕ}
       rtcm2_general_udre.Reads.Asked rtcm2_general_udre.Reads.Learnt rtcm2_general_udre.Statement.statement
       (λ κs (health, (udre, _)). number_of (general_limit_said health udre))

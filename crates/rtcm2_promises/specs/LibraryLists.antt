@@ -31,7 +31,7 @@ pub record LibraryLists : Type 2 where
   pub count-corrections : AnsweredLent
       rtcm2_count_corrections.Reads.Asked rtcm2_count_corrections.Reads.Learnt rtcm2_count_corrections.Statement.statement
       (λ κs (frame, _). number_of (count_said correction_list (frame_said frame.now)))
-      (λ κs (_, (count, _)). count .now) (λ κs (frame, (count, _)). left (count_said correction_list (frame_said frame.now)) (λ k. k) (count .now))
+      (λ κs (_, (count, _)). count.now) (λ κs (frame, (count, _)). left (count_said correction_list (frame_said frame.now)) (λ k. k) count.now)
   pub correction-at : AnsweredLent rtcm2_correction_at.Reads.Asked rtcm2_correction_at.Reads.Learnt rtcm2_correction_at.Statement.statement
       (λ κs (frame, (index, (bytes, _))). number_of (row_to (correction_list.row Gps) (entry_said correction_list (frame_said frame.now) index) bytes.now))
       (λ κs (_, (_, (bytes, _))). bytes.now)
@@ -48,7 +48,7 @@ pub record LibraryLists : Type 2 where
   pub count-healths : AnsweredLent
       rtcm2_count_healths.Reads.Asked rtcm2_count_healths.Reads.Learnt rtcm2_count_healths.Statement.statement
       (λ κs (frame, _). number_of (count_said health_list (frame_said frame.now)))
-      (λ κs (_, (count, _)). count .now) (λ κs (frame, (count, _)). left (count_said health_list (frame_said frame.now)) (λ k. k) (count .now))
+      (λ κs (_, (count, _)). count.now) (λ κs (frame, (count, _)). left (count_said health_list (frame_said frame.now)) (λ k. k) count.now)
   pub health-at : AnsweredLent rtcm2_health_at.Reads.Asked rtcm2_health_at.Reads.Learnt rtcm2_health_at.Statement.statement
       (λ κs (frame, (index, (bytes, _))). number_of (row_to (health_list.row Gps) (entry_said health_list (frame_said frame.now) index) bytes.now))
       (λ κs (_, (_, (bytes, _))). bytes.now)

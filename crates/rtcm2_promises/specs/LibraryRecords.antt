@@ -64,7 +64,7 @@ pub record LibraryRecords : Type 2 where
   pub count-observations : AnsweredLent
       rtcm2_count_observations.Reads.Asked rtcm2_count_observations.Reads.Learnt rtcm2_count_observations.Statement.statement
       (λ κs (frame, _). number_of (observations.count_said (frame_said frame.now)))
-      (λ κs (_, (count, _)). count .now) (λ κs (frame, (count, _)). left (observations.count_said (frame_said frame.now)) (λ k. k) (count .now))
+      (λ κs (_, (count, _)). count.now) (λ κs (frame, (count, _)). left (observations.count_said (frame_said frame.now)) (λ k. k) count.now)
   pub read-epoch : AnsweredLent {B = ℕ × (ℕ × ℕ)}
       rtcm2_read_epoch.Reads.Asked rtcm2_read_epoch.Reads.Learnt rtcm2_read_epoch.Statement.statement
       (λ κs (frame, _). number_of (observations.epoch_said (frame_said frame.now)))
@@ -112,13 +112,13 @@ pub record LibraryRecords : Type 2 where
       (held_to s frame.now, size_to s frame.now length.now))
   -- rtcm2::text
   pub read-text : AnsweredLent {B = List ℕ × ℕ} rtcm2_read_text.Reads.Asked rtcm2_read_text.Reads.Learnt rtcm2_read_text.Statement.statement
-      (λ κs (frame, (text, _)). number_of (text_said (frame_said frame.now) (text .now)))
-      (λ κs (_, (text, (length, _))). (text .now, length.now))
+      (λ κs (frame, (text, _)). number_of (text_said (frame_said frame.now) text.now))
+      (λ κs (_, (text, (length, _))). (text.now, length.now))
       (λ κs (frame, (text, (length, _))). let s = frame_said frame.now in
-      (text_after s (text .now), texts.count_after s (text .now) length.now))
+      (text_after s text.now, texts.count_after s text.now length.now))
   pub make-text : AnsweredLent {B = List ℕ × ℕ} rtcm2_make_text.Reads.Asked rtcm2_make_text.Reads.Learnt rtcm2_make_text.Statement.statement
       (λ κs (kind, (station, (z, (sequence, (health, (text, (frame, _))))))).
-      number_of (kept_to (texts.make_said kind station z sequence health (text .now)) frame.now))
+      number_of (kept_to (texts.make_said kind station z sequence health text.now) frame.now))
       (λ κs (_, (_, (_, (_, (_, (_, (frame, (length, _)))))))). (frame.now, length.now))
-      (λ κs (kind, (station, (z, (sequence, (health, (text, (frame, (length, _)))))))). let s = texts.make_said kind station z sequence health (text .now) in
+      (λ κs (kind, (station, (z, (sequence, (health, (text, (frame, (length, _)))))))). let s = texts.make_said kind station z sequence health text.now in
       (held_to s frame.now, size_to s frame.now length.now))

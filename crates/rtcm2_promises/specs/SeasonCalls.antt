@@ -36,21 +36,21 @@ pub record SeasonAnswered : Type 2 where
       (λ κs (_, (bytes, _)). bytes.now) (λ κs (row, (bytes, _)). row_after report_row row bytes.now)
   -- rtcm2::season
   pub start : AnsweredLent rtcm2_season_start.Reads.Asked rtcm2_season_start.Reads.Learnt rtcm2_season_start.Statement.statement
-      (λ κs (report, _). number_of (season_started (report .now)))
-      (λ κs (report, _). report .now) (λ κs (report, _). left (season_started (report .now)) (λ r. report_put r (report .now)) (report .now))
+      (λ κs (report, _). number_of (season_started report.now))
+      (λ κs (report, _). report.now) (λ κs (report, _). left (season_started report.now) (λ r. report_put r report.now) report.now)
   pub journal : AnsweredLent {B = List ℕ × ℕ} rtcm2_season_journal.Reads.Asked rtcm2_season_journal.Reads.Learnt rtcm2_season_journal.Statement.statement
-      (λ κs (report, (bytes, _)). number_of (journal_said (report .now) bytes.now))
-      (λ κs (report, (_, (used, _))). (report .now, used.now))
-      (λ κs (report, (bytes, (used, _))). let s = journal_said (report .now) bytes.now in
-      (left s (λ j. report_put j.report (report .now)) (report .now), left s (λ j. j.used) used.now))
+      (λ κs (report, (bytes, _)). number_of (journal_said report.now bytes.now))
+      (λ κs (report, (_, (used, _))). (report.now, used.now))
+      (λ κs (report, (bytes, (used, _))). let s = journal_said report.now bytes.now in
+      (left s (λ j. report_put j.report report.now) report.now, left s (λ j. j.used) used.now))
   pub add : AnsweredLent rtcm2_season_add.Reads.Asked rtcm2_season_add.Reads.Learnt rtcm2_season_add.Statement.statement
       (λ κs (first, (second, _)). number_of (add_said first.now second.now))
       (λ κs (first, _). first.now)
       (λ κs (first, (second, _)). left (add_said first.now second.now) (λ a. report_put a.report first.now) first.now)
   pub row : AnsweredLent rtcm2_season_row.Reads.Asked rtcm2_season_row.Reads.Learnt rtcm2_season_row.Statement.statement
-      (λ κs (report, (index, (row, _))). number_of (row_to report_row (row_said (report .now) index) (row .now)))
-      (λ κs (_, (_, (row, _))). row .now)
-      (λ κs (report, (index, (row, _))). row_held report_row (row_said (report .now) index) (row .now))
+      (λ κs (report, (index, (row, _))). number_of (row_to report_row (row_said report.now index) row.now))
+      (λ κs (_, (_, (row, _))). row.now)
+      (λ κs (report, (index, (row, _))). row_held report_row (row_said report.now index) row.now)
 
 -- "A refusal carries its number from the table .."; where 5 stands more than once, several conditions have it
 pub record SeasonNumbers : Type 0 where
