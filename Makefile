@@ -15,7 +15,7 @@ TO = $(DESTDIR)$(PREFIX)
 all: command
 
 # The library is proved before it is built; what is proved already is not proved again.
-$(LIBRARY): crates.txt $(shell find crates -name '*.rt' -o -name '*.antt')
+$(LIBRARY): crates.txt $(shell find crates -name out -prune -o '(' -name '*.rt' -o -name '*.antt' ')' -print)
 	.ci/staticlib
 
 command: $(LIBRARY)

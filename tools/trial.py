@@ -7,6 +7,7 @@ import tempfile
 from pathlib import Path
 
 from crates import depends_on, named
+from edits import BadEdit, changed_files, judge_alone, must_fail_edits
 
 PARTS = ("src", "specs", "proofs")
 
@@ -25,16 +26,30 @@ def rattle():
 
 
 def proved(root, crate):
-    """The folder where `rt check` of a crate above, or `rt ci`, leaves a library that it has proved."""
+    """The folder where `rt` leaves a library that it has proved."""
     return Path(root) / "crates" / crate / "out/rlib"
+
+
+def is_left_by_ci(root, crate):
+    """Whether a library is as `rt ci` has proved it. Other commands of `rt` leave a stamp beside theirs, by which they see what has changed."""
+    library, folder = proved(root, crate) / f"{crate}.rlib", Path(root) / "crates" / crate
+    texts = [file for part in PARTS for file in [folder / part, *(folder / part).rglob("*")] if file.exists()]
+    return library.exists() and not (proved(root, crate) / "stamp").exists() and max(file.stat().st_mtime for file in texts) < library.stat().st_mtime
+
+
+def prove_below(root, crate):
+    """Has what lies below a crate proved, where `rt ci` has not just done so."""
+    if all(is_left_by_ci(root, other) for other in depends_on(root, crate)):
+        return
+    done = subprocess.run(["rt", "check", "--only", ""], cwd=Path(root) / "crates" / crate, stdin=subprocess.DEVNULL, stdout=subprocess.PIPE,
+                          stderr=subprocess.STDOUT, text=True, errors="replace", check=False)
+    if done.returncode != 0:
+        raise SystemExit(f"{crate}: what lies below it is not proved\n{done.stdout}")
 
 
 def words_for(root, crate):
     """What the compiler is told of a crate: its root file, the libraries that it names, and where those that these rest on are."""
     below = depends_on(root, crate)
-    for other in below:
-        if not (proved(root, other) / f"{other}.rlib").exists():
-            raise SystemExit(f"{other} is not proved here: (cd crates/{crate} && rt check) proves what lies below {crate}")
     library = lambda name: proved(root, name) / f"{name}.rlib" if name in below else kit() / "rlibs" / f"{name}.rlib"
     is_program = (Path(root) / "crates" / crate / "src/main.rt").exists()
     words = ["--crate-name", crate, "src/main.rt" if is_program else "src/lib.rt"]
@@ -52,6 +67,7 @@ class Trial:
 
     def __init__(self, root, crate):
         self.root, self.crate = Path(root).resolve(), crate
+        prove_below(self.root, crate)
         self.words = words_for(self.root, crate)
         self.room = Path(tempfile.mkdtemp(prefix=f"{crate}-"))
         self.folder = self.room / crate
@@ -75,3 +91,19 @@ class Trial:
         done = subprocess.run([rattle(), "check", *self.words, "--incremental", str(self.room / "kept")], cwd=self.folder, stdin=subprocess.DEVNULL,
                               stdout=subprocess.PIPE, stderr=subprocess.STDOUT, text=True, errors="replace", check=False)
         return done.returncode, done.stdout
+
+    def refusal(self):
+        """The log of a check that refuses the crate."""
+        status, log = self.check()
+        if status != 1 or "\nlogic=not-proved" not in log:
+            raise BadEdit("\n".join([f"{self.crate}: the check ended with {status}, and did not refuse the crate", *log.splitlines()[-5:]]))
+        return log
+
+
+def try_edit(root, crate, label):
+    """What is amiss with an edit of must-fail/, tried alone."""
+    edit = must_fail_edits(root, crate)[label]
+    with Trial(root, crate) as trial:
+        for place, text in changed_files(trial.folder, edit).items():
+            (trial.folder / place).write_text(text, encoding="utf-8")
+        return judge_alone(edit, trial.refusal())
