@@ -7,7 +7,7 @@ SIGNS = {"<": "lt", "<=": "le", ">": "gt", ">=": "ge", "==": "eq", "!=": "ne"}
 TURNED = {"<": ">", "<=": ">=", ">": "<", ">=": "<=", "==": "==", "!=": "!="}
 WORD = r"-?[\w.:]+(?:\((?:[^()]|\([^()]*\))*\)|\[[^\[\]]*\])?"
 SIDE = rf"{WORD}(?: [-+*/%] {WORD})*"
-CONDITION = re.compile(rf"(?P<left>{SIDE}) (?P<sign>[<>=!]=|[<>]) (?P<right>{SIDE})|\bif (?P<not>!?)(?P<test>{WORD}) \{{")
+CONDITION = re.compile(rf"(?P<left>{SIDE}) (?P<sign>[<>=!]=|[<>]) (?P<right>{SIDE})|\bif (?P<not>!?)(?P<test>{WORD}) +\{{")
 NUMBER = re.compile(r"-?[0-9]\w*")
 CONSTANT = re.compile(r"(?:\w+::)*([A-Z][A-Z0-9_]*)")
 
