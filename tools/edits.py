@@ -136,8 +136,8 @@ FORM = re.compile(r"has no field|that can be named from here")
 UNASKED = re.compile(r"`goal\.(?P<name>[^`]+)`: module `[^`]+\.Goals` has no `(?P=name)`")
 
 # a fact that is not proved: an equation of other sides, or one that was looked for and not found
-FACT = re.compile(r"two types|two values|expected type `(?:Path |.*(?:Core\.Path| ≡ | ≤ | < |◌≤◌|◌<◌))|does not hold|missing equation|`(?:simp|rw|search|omega)\b"
-                  r"|it is not proved that")
+FACT = re.compile(r"two (?:types|sides|values)|expected type `(?:Path |.*(?:Core\.Path| ≡ |◌≡◌ |Claims\.AllOf| ≤ | < |◌≤◌|◌<◌))|does not hold|missing equation"
+                  r"|`(?:simp|rw|search|omega)\b|it is not proved that")
 
 # what is left to `search` of such a function is not tried before the functions that it calls are proved
 WAITS = re.compile(r"^fn \w+::(?P<path>\S+): no.*(?:which is not proved|which are not proved)")
