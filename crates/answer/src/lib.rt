@@ -1,3 +1,2 @@
 // Answers and orders of refusals: definitions in specs/, laws in proofs/.
 #![tactic(auto)]
-

@@ -1,5 +1,5 @@
 -- `all` is safe and ends: by a loop over the bytes that `feed_all` uses. Assumes nothing.
-use Rattle.std.proofs.Common.{◌-◌, ◌≤◌, length, rules}
+use Rattle.std.proofs.Common.{◌-◌, ◌≤◌, length}
 use Rattle.bench.proofs.all.Given as goal
 
 abbrev pub invariant-loop-at : goal.invariant-loop-at

@@ -1,5 +1,5 @@
 -- `each` is safe and ends: by a loop over the bytes. Assumes nothing.
-use Rattle.std.proofs.Common.{◌-◌, ◌≤◌, length, rules}
+use Rattle.std.proofs.Common.{◌-◌, ◌≤◌, length}
 use Rattle.bench.proofs.each.Given as goal
 
 abbrev pub invariant-loop-at : goal.invariant-loop-at

@@ -1,5 +1,5 @@
 -- `emptied` is safe and ends: by a loop of at most sixteen turns. Assumes nothing.
-use Rattle.std.proofs.Common.{◌-◌, ◌≤◌, rules}
+use Rattle.std.proofs.Common.{◌-◌, ◌≤◌}
 use Rattle.bench.proofs.emptied.Given as goal
 
 abbrev pub invariant-loop-k : goal.invariant-loop-k

@@ -1,6 +1,5 @@
 -- `frame_widths` meets its contract: the five tests in the order of the definition. Assumes nothing.
 use mathlib.Core.Path.{sym, ◌∙◌}
-use borrow.Author.Rules.{rules}
 use borrow.Author.Tests.{lt-ltb, le-ltb}
 use Rattle.frame.specs.Widths.{outside}
 use Rattle.frame.proofs.WidthLaws.{any-nonzero}

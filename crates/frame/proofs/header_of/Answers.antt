@@ -1,5 +1,4 @@
 -- `header_of` meets its contract: the law on the fields of both words. Assumes nothing.
-use borrow.Author.Rules.{rules}
 use Rattle.frame.proofs.HeaderLaws.{header-number}
 use Rattle.frame.proofs.header_of.Goals as goal
 

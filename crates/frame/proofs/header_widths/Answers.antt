@@ -1,6 +1,5 @@
 -- `header_widths` meets its contract. Assumes nothing.
 use mathlib.Core.Path.{sym, ◌∙◌}
-use borrow.Author.Rules.{rules}
 use Rattle.frame.proofs.header_widths.Goals as goal
 
 pub returns-then-header_outside : goal.returns-then-header_outside

@@ -2,7 +2,6 @@
 use mathlib.Core.Bool.{false}
 use mathlib.Core.Path.{◌≡◌, sym, ap₂, ◌∙◌}
 use borrow.Author.Tests.{lt-ltb, le-ltb}
-use borrow.Author.Rules.{rules}
 use Rattle.frame.specs.declared.HeaderWords.TheVariants.{Words}
 use Rattle.frame.specs.Widths.{header_outside}
 use Rattle.frame.proofs.HeaderLaws.{first-number, second-number}

@@ -1,6 +1,5 @@
 -- `health_of` meets its contract. Assumes nothing.
 use mathlib.Core.Path.{sym, ◌∙◌}
-use borrow.Author.Rules.{rules}
 use Rattle.frame.proofs.health_of.Goals as goal
 
 pub returns-then-state_outside : goal.returns-then-state_outside

@@ -1,7 +1,6 @@
 -- `kind_of` meets its contract. Assumes nothing.
 use mathlib.Core.Path.{◌≡◌, refl}
 use Prim.Native.Nat.{ℕ, zero, suc}
-use borrow.Author.Rules.{rules}
 use Rattle.frame.specs.Header.{kind_of}
 use Rattle.frame.proofs.kind_of.Goals as goal
 

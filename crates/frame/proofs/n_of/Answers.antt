@@ -1,5 +1,4 @@
 -- `n_of` meets its contract: the law on the third field of word 2. Assumes nothing.
-use borrow.Author.Rules.{rules}
 use Rattle.frame.proofs.HeaderLaws.{n-number}
 use Rattle.frame.proofs.n_of.Goals as goal
 

@@ -1,5 +1,4 @@
 -- The blank frame has type 0, and no data words. Assumes nothing.
-use borrow.Author.Rules.{rules}
 use Rattle.frame.specs.Frames.{blank}
 use Rattle.frame.proofs.no_frame.Goals as goal
 

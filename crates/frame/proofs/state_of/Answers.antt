@@ -1,5 +1,4 @@
 -- `state_of` meets its contract: the table of factors is the definition's. Assumes nothing.
-use borrow.Author.Rules.{rules}
 use borrow.Author.Tests.{lt-ltb, le-ltb, eq-eqb, ne_eqb}
 use Rattle.frame.specs.Header.{factors, state_of}
 use Rattle.frame.proofs.state_of.Goals as goal

@@ -1,5 +1,4 @@
 -- `byte_of` meets its contract: the six bits mirrored, with top bits 01. Assumes nothing.
-use borrow.Author.Rules.{rules}
 use mathlib.Core.Path.{ap}
 use Prim.Native.Nat.{◌+◌}
 use Rattle.line.specs.Line.{byte_of}

@@ -1,5 +1,4 @@
 -- `mirrored` meets its contract: six bits put one by one in the other order. Assumes nothing.
-use borrow.Author.Rules.{rules}
 use Rattle.line.proofs.LineLaws.{mirrored-law, mirrored-lt}
 use Rattle.line.proofs.mirrored.Goals as goal
 

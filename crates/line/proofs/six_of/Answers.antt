@@ -1,5 +1,4 @@
 -- `six_of` meets its contract: the test of the top bits, and the six bits mirrored. Assumes nothing.
-use borrow.Author.Rules.{rules}
 use borrow.Author.Tests.{eq-eqb, ne_eqb}
 use mathlib.Core.Path.{ap}
 use Rattle.line.specs.Line.{six}

@@ -1,8 +1,7 @@
 -- `digits_in` meets its contract: by a loop that counts a digit for each division by ten. Assumes nothing.
-use mathlib.Core.Path.{◌≡◌, sym, ap, ◌∙◌}
-use Prim.Native.Nat.{◌+◌, ◌-◌, ◌≤◌}
+use mathlib.Core.Path.{sym, ap, ◌∙◌}
+use Prim.Native.Nat.{◌+◌, ◌-◌}
 use native.Mathlib.Omega.{arith}
-use Rattle.printing.specs.Printing.{digits_up_to}
 use Rattle.printing.proofs.DigitLaws.{count-last, count-on, count-end}
 use Rattle.printing.proofs.digits_in.Goals as goal
 

@@ -1,8 +1,7 @@
 -- `put_digits` meets its contract: by a loop that stores the last of the digits left. Assumes nothing.
 use mathlib.Core.Path.{◌≡◌, refl, sym, ap, ◌∙◌}
-use Prim.Native.Nat.{◌≤◌}
 use native.Mathlib.Omega.{arith}
-use lib.ListN.{length, length-set}
+use lib.ListN.{length-set}
 use lib.Seq.{sets}
 use Rattle.printing.specs.Printing.{last_digits}
 use Rattle.printing.proofs.DigitLaws.{store-digit}

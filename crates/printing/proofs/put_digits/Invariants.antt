@@ -1,11 +1,9 @@
 -- `put_digits` meets its contract: by a loop that stores the last of the digits left. Assumes nothing.
-use mathlib.Core.Path.{◌≡◌, refl, sym, ap, ◌∙◌}
+use mathlib.Core.Path.{◌≡◌}
 use Prim.Native.Nat.{◌≤◌}
-use native.Mathlib.Omega.{arith}
-use lib.ListN.{length, length-set}
+use lib.ListN.{length}
 use lib.Seq.{sets}
 use Rattle.printing.specs.Printing.{last_digits}
-use Rattle.printing.proofs.DigitLaws.{store-digit}
 use Rattle.printing.proofs.put_digits.Given as goal
 
 -- storing the digits that are left is storing all of them

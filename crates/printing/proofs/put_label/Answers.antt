@@ -1,9 +1,9 @@
 -- `put_label` meets its contract: by a loop that stores one byte after the other. Assumes nothing.
-use mathlib.Core.Path.{◌≡◌, refl, sym, ap, ◌∙◌}
-use Prim.Native.Nat.{◌+◌, ◌-◌, ◌≤◌}
+use mathlib.Core.Path.{refl, sym, ap, ◌∙◌}
+use Prim.Native.Nat.{◌+◌}
 use native.Mathlib.Nat.{add-zero}
 use native.Mathlib.Omega.{arith}
-use lib.ListN.{length, drop, length-set, drop_of_length-le}
+use lib.ListN.{length-set, drop_of_length-le}
 use lib.Seq.{sets}
 use Rattle.printing.proofs.StoreLaws.{sets-next}
 use Rattle.printing.proofs.put_label.Goals as goal

@@ -1,11 +1,8 @@
 -- `put_label` meets its contract: by a loop that stores one byte after the other. Assumes nothing.
-use mathlib.Core.Path.{◌≡◌, refl, sym, ap, ◌∙◌}
+use mathlib.Core.Path.{◌≡◌}
 use Prim.Native.Nat.{◌+◌, ◌-◌, ◌≤◌}
-use native.Mathlib.Nat.{add-zero}
-use native.Mathlib.Omega.{arith}
-use lib.ListN.{length, drop, length-set, drop_of_length-le}
+use lib.ListN.{length, drop}
 use lib.Seq.{sets}
-use Rattle.printing.proofs.StoreLaws.{sets-next}
 use Rattle.printing.proofs.put_label.Given as goal
 
 -- storing what is left from here on is storing the whole label

@@ -3,7 +3,6 @@ use mathlib.Core.Path.{refl, sym, ◌∙◌}
 use Prim.Native.Nat.{◌+◌, ◌≤◌}
 use native.Mathlib.Omega.{arith}
 use lib.ListN.{length}
-use borrow.Author.Rules.{rules}
 use Rattle.printing.proofs.StoreLaws.{length-stored}
 use Rattle.printing.proofs.PutLaws.{enough, label-short, labelled-short, labelled-put}
 use Rattle.printing.proofs.put_labelled.Goals as goal

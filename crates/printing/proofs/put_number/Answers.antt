@@ -3,7 +3,6 @@ use mathlib.Core.Path.{sym, ◌∙◌}
 use Prim.Native.Nat.{◌+◌}
 use native.Mathlib.Omega.{arith}
 use lib.ListN.{length}
-use borrow.Author.Rules.{rules}
 use Rattle.printing.proofs.PutLaws.{enough, number_short, number_put}
 use Rattle.printing.proofs.put_number.Goals as goal
 

@@ -30,8 +30,7 @@ pub code-requires : goal.code-requires
 code-requires c =
     let is : to_z w16 (of_z w16 c.args.z) ≡ c.args.z = to_z-of_z w16 c.args.z c.ranges.z in
     let inside : mag c.args.z < 2 ^ 13 = in-width 13 8191 refl c.args.z (ap (λ (x : ℤ). lt_z x (negsuc 8191)) (sym is) ∙ c.if-z-ltminus8192.false)
-        (ap (λ (x : ℤ). lt_z (pos 8191) x) (sym is) ∙ c.if-z-gt8191.false) in
-    (
+    (ap (λ (x : ℤ). lt_z (pos 8191) x) (sym is) ∙ c.if-z-gt8191.false) in (
       omega arith,
       subst (λ (x : ℤ). mag x < 2 ^ 13) (sym (wide_is w16 c.args.z c.ranges.z (up w16 _ c.ranges.z (omega arith)))) inside,
     )
@@ -40,6 +39,6 @@ pub returns : goal.returns
 returns c =
     let is : to_z w16 (of_z w16 c.args.z) ≡ c.args.z = to_z-of_z w16 c.args.z c.ranges.z in
     let inside : mag c.args.z < 2 ^ 13 = in-width 13 8191 refl c.args.z (ap (λ (x : ℤ). lt_z x (negsuc 8191)) (sym is) ∙ c.if-z-ltminus8192.false)
-        (ap (λ (x : ℤ). lt_z (pos 8191) x) (sym is) ∙ c.if-z-gt8191.false) in
+    (ap (λ (x : ℤ). lt_z (pos 8191) x) (sym is) ∙ c.if-z-gt8191.false) in
     c.code.ensures ∙ ap (code 13) (wide_is w16 c.args.z c.ranges.z (up w16 _ c.ranges.z (omega arith)))
     ∙ sym (within-code 13 c.args.z inside)

@@ -14,10 +14,10 @@ overflow_cast-z c = widened w16 c.args.z c.ranges.z (up w16 _ c.ranges.z (omega 
 
 pub code-requires : goal.code-requires
 code-requires c = (
-      omega arith,
-      subst (λ (x : ℤ). mag x < 2 ^ 15) (sym (wide_is w16 c.args.z c.ranges.z (up w16 _ c.ranges.z (omega arith))))
-          c.ranges.z.sfits,
-    )
+  omega arith,
+  subst (λ (x : ℤ). mag x < 2 ^ 15) (sym (wide_is w16 c.args.z c.ranges.z (up w16 _ c.ranges.z (omega arith))))
+      c.ranges.z.sfits,
+)
 
 pub returns : goal.returns
 returns c = c.code.ensures ∙ ap (code 15) (wide_is w16 c.args.z c.ranges.z (up w16 _ c.ranges.z (omega arith)))

@@ -14,10 +14,10 @@ overflow_cast-z c = widened w8 c.args.z c.ranges.z (up w8 _ c.ranges.z (omega ar
 
 pub code-requires : goal.code-requires
 code-requires c = (
-      omega arith,
-      subst (λ (x : ℤ). mag x < 2 ^ 7) (sym (wide_is w8 c.args.z c.ranges.z (up w8 _ c.ranges.z (omega arith))))
-          c.ranges.z.sfits,
-    )
+  omega arith,
+  subst (λ (x : ℤ). mag x < 2 ^ 7) (sym (wide_is w8 c.args.z c.ranges.z (up w8 _ c.ranges.z (omega arith))))
+      c.ranges.z.sfits,
+)
 
 pub returns : goal.returns
 returns c = c.code.ensures ∙ ap (code 7) (wide_is w8 c.args.z c.ranges.z (up w8 _ c.ranges.z (omega arith)))

@@ -2,7 +2,6 @@
 use mathlib.Core.Path.{sym, ◌∙◌}
 use native.Mathlib.Omega.{arith}
 use lib.Pow.{pow_pos}
-use borrow.Author.Rules.{rules}
 use Rattle.bits.specs.Rows.{data_bits}
 use Rattle.bits.proofs.FieldLaws.{fits-field}
 use Rattle.record_fields.proofs.PackCode.{field_in_lem, field-wide, field_past, field-none, field-law, field_below}
@@ -17,17 +16,17 @@ returns-then-width-gt32 c = (
 
 pub returns-then-width-eq0 : goal.returns-then-width-eq0
 returns-then-width-eq0 c = (
-      sym (field-none c.args.words.now c.args.offset c.args.width c.if-width-eq0.true),
-      pow_pos
-          c.args.width,
-    )
+  sym (field-none c.args.words.now c.args.offset c.args.width c.if-width-eq0.true),
+  pow_pos
+      c.args.width,
+)
 
 pub returns-then-offset-width : goal.returns-then-offset-width
 returns-then-offset-width c = (
-      sym (field_past c.args.words.now c.args.offset c.args.width
-          (omega arith) (omega arith)),
-      pow_pos c.args.width,
-    )
+  sym (field_past c.args.words.now c.args.offset c.args.width
+      (omega arith) (omega arith)),
+  pow_pos c.args.width,
+)
 
 pub overflow_cast-result : goal.overflow_cast-result
 overflow_cast-result c =

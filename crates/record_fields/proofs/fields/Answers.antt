@@ -1,12 +1,8 @@
 -- `fields` meets its contract: the places passed hold their fields, the others zeros, and the rest of the row is what the rest of the
 -- table reads. Assumes nothing.
-use mathlib.Core.Path.{◌≡◌, refl, sym, ◌∙◌}
-use mathlib.Core.List.{[], ◌++◌}
-use Prim.Native.Nat.{◌+◌, ◌*◌, ◌-◌, ◌≤◌}
+use mathlib.Core.Path.{refl, sym, ◌∙◌}
 use native.Mathlib.Omega.{arith}
-use lib.ListN.{length, take, drop, length-set}
-use borrow.Author.Rules.{rules}
-use Rattle.record_fields.specs.Tables.{padded, row, fields_in}
+use lib.ListN.{length-set}
 use Rattle.record_fields.proofs.TableLaws.{fields-next, fields-none, fields-end, zeros-next}
 use Rattle.record_fields.proofs.fields.Goals as goal
 

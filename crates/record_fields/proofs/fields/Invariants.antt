@@ -1,12 +1,10 @@
 -- `fields` meets its contract: the places passed hold their fields, the others zeros, and the rest of the row is what the rest of the
 -- table reads. Assumes nothing.
-use mathlib.Core.Path.{◌≡◌, refl, sym, ◌∙◌}
+use mathlib.Core.Path.{◌≡◌}
 use mathlib.Core.List.{[], ◌++◌}
 use Prim.Native.Nat.{◌+◌, ◌*◌, ◌-◌, ◌≤◌}
-use native.Mathlib.Omega.{arith}
-use lib.ListN.{length, take, drop, length-set}
+use lib.ListN.{length, take, drop}
 use Rattle.record_fields.specs.Tables.{padded, row, fields_in}
-use Rattle.record_fields.proofs.TableLaws.{fields-next, fields-none, fields-end, zeros-next}
 use Rattle.record_fields.proofs.fields.Given as goal
 
 abbrev pub invariant-loop-i : goal.invariant-loop-i

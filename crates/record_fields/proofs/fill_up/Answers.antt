@@ -1,5 +1,4 @@
 -- `fill_up` meets its contract. Assumes nothing.
-use borrow.Author.Rules.{rules}
 use Rattle.record_fields.proofs.PackCode.{fill_none, fill-some}
 use Rattle.record_fields.proofs.fill_up.Goals as goal
 

@@ -1,6 +1,5 @@
 -- `flush` meets its contract. Assumes nothing.
 use native.Mathlib.Omega.{arith}
-use borrow.Author.Rules.{rules}
 use Rattle.record_fields.proofs.PackCode.{flush-short, flush-full, flush-one}
 use Rattle.record_fields.proofs.flush.Goals as goal
 

@@ -1,7 +1,6 @@
 -- `no_rows` meets its contract. Assumes nothing.
 use mathlib.Core.Path.{ap}
 use mathlib.Core.Bool.{false}
-use borrow.Author.Rules.{rules}
 use Rattle.record_fields.specs.Tables.{no_rows}
 use Rattle.record_fields.proofs.no_rows.Goals as goal
 

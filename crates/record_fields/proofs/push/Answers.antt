@@ -1,6 +1,5 @@
 -- `push` meets its contract. Assumes nothing.
 use native.Mathlib.Omega.{arith}
-use borrow.Author.Rules.{rules}
 use Rattle.record_fields.proofs.PackCode.{push-law, push-wide, push-fits, flush-held}
 use Rattle.record_fields.proofs.push.Goals as goal
 

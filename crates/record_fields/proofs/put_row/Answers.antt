@@ -1,7 +1,6 @@
 -- `put_row` meets its contract: the values pushed, and the range held. Assumes nothing.
 use mathlib.Core.Path.{sym, ap, ap₂, ◌∙◌}
 use mathlib.Core.Bool.{◌||◌}
-use borrow.Author.Rules.{rules}
 use Rattle.record_fields.specs.Tables.{row_out, put_row}
 use Rattle.record_fields.proofs.put_row.Goals as goal
 

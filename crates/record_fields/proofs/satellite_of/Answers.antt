@@ -1,6 +1,5 @@
 -- `satellite_of` meets its contract. Assumes nothing.
 use borrow.Author.Tests.{eq-eqb, ne_eqb}
-use borrow.Author.Rules.{rules}
 use Rattle.record_fields.proofs.satellite_of.Goals as goal
 
 pub returns-then-five-eq0 : goal.returns-then-five-eq0

@@ -2,7 +2,6 @@
 use mathlib.Core.Path.{◌∙◌}
 use native.Mathlib.Omega.{arith}
 use mir.Syntax.{w32}
-use borrow.Author.Rules.{rules}
 use Rattle.record_fields.proofs.SignedCode.{narrowed, narrow-is, meant-fits, up}
 use Rattle.record_fields.proofs.signed32.Goals as goal
 

@@ -3,7 +3,6 @@ use mathlib.Core.Path.{◌∙◌}
 use Prim.Native.Nat.{◌%◌}
 use native.Mathlib.Omega.{arith}
 use mir.Syntax.{w8}
-use borrow.Author.Rules.{rules}
 use Rattle.record_fields.proofs.SignedCode.{narrowed, narrow-is, meant-fits, up}
 use Rattle.record_fields.proofs.signed8.Goals as goal
 

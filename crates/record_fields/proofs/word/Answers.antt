@@ -2,7 +2,6 @@
 use mathlib.Core.Path.{refl}
 use native.Mathlib.Omega.{arith}
 use lib.ListN.{get_or-eq_default}
-use borrow.Author.Rules.{rules}
 use Rattle.record_fields.proofs.word.Goals as goal
 
 pub returns-then-j-ge31 : goal.returns-then-j-ge31

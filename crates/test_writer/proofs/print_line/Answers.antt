@@ -1,7 +1,4 @@
 -- `print_line` is safe and ends. Assumes nothing.
-use Prim.Native.Nat.{◌-◌}
-use lib.ListN.{length}
-use borrow.Author.Rules.{rules}
 use Rattle.test_writer.proofs.print_line.Goals as goal
 
 pub loop-i-init : goal.loop-i-init

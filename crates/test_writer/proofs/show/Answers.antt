@@ -1,6 +1,4 @@
 -- `show` is safe and ends. Assumes nothing.
-use Prim.Native.Nat.{◌-◌}
-use borrow.Author.Rules.{rules}
 use Rattle.test_writer.proofs.show.Goals as goal
 
 pub loop-i-init : goal.loop-i-init

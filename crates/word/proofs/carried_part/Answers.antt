@@ -1,5 +1,4 @@
 -- `carried_part` meets its contract: the columns of the two carried bits. Assumes nothing.
-use borrow.Author.Rules.{rules}
 use Rattle.word.proofs.Tables.{carried-columns}
 use Rattle.word.proofs.carried_part.Goals as goal
 

@@ -1,5 +1,4 @@
 -- `data_of` meets its contract: the data bits of the window, polarity undone. Assumes nothing.
-use borrow.Author.Rules.{rules}
 use mathlib.Core.Path.{◌∙◌}
 use Rattle.word.proofs.Computes.{data-law}
 use Rattle.word.proofs.data_of.Goals as goal

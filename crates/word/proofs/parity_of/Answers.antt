@@ -1,5 +1,4 @@
 -- `parity_of` meets its contract: six masks, by the law of the rows. Assumes nothing.
-use borrow.Author.Rules.{rules}
 use Rattle.word.proofs.Computes.{parity-law}
 use Rattle.word.proofs.parity_of.Goals as goal
 

@@ -1,5 +1,4 @@
 -- `remainder` meets its contract: four entries, the carried bits and the received parity, by the law of the tables. Assumes nothing.
-use borrow.Author.Rules.{rules}
 use Rattle.word.proofs.Tables.{remainder-tables}
 use Rattle.word.proofs.remainder.Goals as goal
 

@@ -1,5 +1,4 @@
 -- `test` meets its contract: passed where the remainder is zero, else failed with it. Assumes nothing.
-use borrow.Author.Rules.{rules}
 use Rattle.word.proofs.Testing.{zero-passes, other-fails}
 use Rattle.word.proofs.test.Goals as goal
 

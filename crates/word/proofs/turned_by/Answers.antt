@@ -1,5 +1,4 @@
 -- `turned_by` meets its contract: the data turned over where D30* is one. Assumes nothing.
-use borrow.Author.Rules.{rules}
 use Rattle.word.proofs.Computes.{turned-law}
 use Rattle.word.proofs.turned_by.Goals as goal
 

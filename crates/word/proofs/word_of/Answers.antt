@@ -1,6 +1,5 @@
 -- `word_of` meets its contract: the two refusals, then the data and their parity. Assumes nothing.
 use native.Mathlib.Omega.{arith}
-use borrow.Author.Rules.{rules}
 use borrow.Author.Tests.{le-leb, lt-leb}
 use Rattle.bits.specs.Bits.{bits}
 use Rattle.word.specs.Word.{d29*, d30*}

@@ -1,6 +1,5 @@
 -- `code_of` meets its contract: case by case. Assumes nothing.
 use mathlib.Core.Path.{sym, ap, ◌∙◌}
-use borrow.Author.Rules.{rules}
 use Rattle.frame.specs.Header.{code_of}
 use Rattle.frame.proofs.code.code_of.Goals as goal
 

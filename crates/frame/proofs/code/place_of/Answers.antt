@@ -1,10 +1,9 @@
 -- `place_of` meets its contract: by a loop that has passed other factors only. Assumes nothing.
-use mathlib.Core.Path.{◌≡◌, sym, ◌∙◌}
-use Prim.Native.Nat.{◌+◌, ◌≤◌, ◌-◌}
+use mathlib.Core.Path.{sym, ◌∙◌}
+use Prim.Native.Nat.{◌≤◌}
 use native.Mathlib.Omega.{arith}
-use lib.ListN.{length, drop}
-use borrow.Author.Rules.{rules}
-use Rattle.frame.specs.Header.{factors, place_in}
+use lib.ListN.{length}
+use Rattle.frame.specs.Header.{factors}
 use Rattle.frame.proofs.StateLaws.{place-hit, place-miss, place_end, length-factors}
 use Rattle.frame.proofs.code.place_of.Goals as goal
 

@@ -1,10 +1,8 @@
 -- `place_of` meets its contract: by a loop that has passed other factors only. Assumes nothing.
-use mathlib.Core.Path.{◌≡◌, sym, ◌∙◌}
+use mathlib.Core.Path.{◌≡◌}
 use Prim.Native.Nat.{◌+◌, ◌≤◌, ◌-◌}
-use native.Mathlib.Omega.{arith}
-use lib.ListN.{length, drop}
+use lib.ListN.{drop}
 use Rattle.frame.specs.Header.{factors, place_in}
-use Rattle.frame.proofs.StateLaws.{place-hit, place-miss, place_end, length-factors}
 use Rattle.frame.proofs.code.place_of.Given as goal
 
 abbrev pub invariant-loop-i : goal.invariant-loop-i

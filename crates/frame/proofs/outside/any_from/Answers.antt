@@ -1,12 +1,10 @@
 -- `any_from` meets its contract: by a loop that has passed no such word. Assumes nothing.
-use mathlib.Core.Path.{◌≡◌, refl, sym, ◌∙◌}
-use Prim.Native.Nat.{◌≤◌, ◌<◌, ◌-◌}
+use mathlib.Core.Path.{sym, ◌∙◌}
+use Prim.Native.Nat.{◌≤◌, ◌<◌}
 use native.Mathlib.Omega.{arith}
 use lib.Dec.{leb}
-use lib.ListN.{length, drop}
-use borrow.Author.Rules.{rules}
+use lib.ListN.{length}
 use borrow.Author.Tests.{le-leb, lt-leb}
-use Rattle.frame.specs.Widths.{any_of}
 use Rattle.frame.proofs.WidthLaws.{any-hit, any-miss, any-end}
 use Rattle.frame.proofs.outside.any_from.Goals as goal
 

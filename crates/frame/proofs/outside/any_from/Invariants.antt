@@ -1,12 +1,9 @@
 -- `any_from` meets its contract: by a loop that has passed no such word. Assumes nothing.
-use mathlib.Core.Path.{◌≡◌, refl, sym, ◌∙◌}
-use Prim.Native.Nat.{◌≤◌, ◌<◌, ◌-◌}
-use native.Mathlib.Omega.{arith}
+use mathlib.Core.Path.{◌≡◌}
+use Prim.Native.Nat.{◌-◌}
 use lib.Dec.{leb}
-use lib.ListN.{length, drop}
-use borrow.Author.Tests.{le-leb, lt-leb}
+use lib.ListN.{drop}
 use Rattle.frame.specs.Widths.{any_of}
-use Rattle.frame.proofs.WidthLaws.{any-hit, any-miss, any-end}
 use Rattle.frame.proofs.outside.any_from.Given as goal
 
 abbrev pub invariant-loop-i : goal.invariant-loop-i

@@ -1,6 +1,5 @@
 -- `header_outside` meets its contract: the two tests in the order of the definition. Assumes nothing.
 use mathlib.Core.Path.{sym, ◌∙◌}
-use borrow.Author.Rules.{rules}
 use Rattle.frame.specs.Widths.{header_outside}
 use Rattle.frame.proofs.outside.header_outside.Goals as goal
 

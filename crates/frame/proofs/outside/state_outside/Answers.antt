@@ -1,7 +1,6 @@
 -- `state_outside` meets its contract: a factor is missing exactly where its place is 6. Assumes nothing.
 use mathlib.Core.Path.{sym, ap, ◌∙◌}
 use lib.Dec.{eqb}
-use borrow.Author.Rules.{rules}
 use Rattle.frame.specs.Widths.{state_outside}
 use Rattle.frame.proofs.StateLaws.{factor-outside}
 use Rattle.frame.proofs.outside.state_outside.Goals as goal

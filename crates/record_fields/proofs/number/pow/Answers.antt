@@ -1,6 +1,5 @@
 -- `pow` meets its contract. Assumes nothing.
 use lib.Pow.{pow_pos}
-use borrow.Author.Rules.{rules}
 use Rattle.record_fields.proofs.PackCode.{shifted_one}
 use Rattle.record_fields.proofs.number.pow.Goals as goal
 

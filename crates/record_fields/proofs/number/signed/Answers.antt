@@ -1,7 +1,6 @@
 -- `signed` meets its contract: from half the range on, less two to the width. Assumes nothing.
 use Prim.Native.Nat.{◌^◌, ◌≤◌, ◌<◌}
 use native.Mathlib.Omega.{arith}
-use borrow.Author.Rules.{rules}
 use Rattle.record_fields.proofs.SignedCode.{signed_low, power-fits, apart_fits, signed_high}
 use Rattle.record_fields.proofs.number.signed.Goals as goal
 

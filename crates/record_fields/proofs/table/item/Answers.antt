@@ -1,6 +1,5 @@
 -- `item` meets its contract. Assumes nothing.
 use mathlib.Core.Path.{sym}
-use borrow.Author.Rules.{rules}
 use lib.ListN.{get_or-eq_default}
 use Rattle.record_fields.proofs.table.item.Goals as goal
 

@@ -1,10 +1,6 @@
 -- `push_all` meets its contract: what is left of the table is to be pushed after what is there. Assumes nothing.
-use mathlib.Core.Path.{◌≡◌, refl, sym, ◌∙◌}
-use Prim.Native.Nat.{◌-◌, ◌≤◌}
+use mathlib.Core.Path.{refl, sym, ◌∙◌}
 use native.Mathlib.Omega.{arith}
-use lib.ListN.{length, drop}
-use borrow.Author.Rules.{rules}
-use Rattle.record_fields.specs.Packing.{pushed_all}
 use Rattle.record_fields.proofs.TableLaws.{push-next, push-end}
 use Rattle.record_fields.proofs.table.push_all.Goals as goal
 

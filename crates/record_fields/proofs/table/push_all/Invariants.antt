@@ -1,10 +1,8 @@
 -- `push_all` meets its contract: what is left of the table is to be pushed after what is there. Assumes nothing.
-use mathlib.Core.Path.{◌≡◌, refl, sym, ◌∙◌}
+use mathlib.Core.Path.{◌≡◌}
 use Prim.Native.Nat.{◌-◌, ◌≤◌}
-use native.Mathlib.Omega.{arith}
 use lib.ListN.{length, drop}
 use Rattle.record_fields.specs.Packing.{pushed_all}
-use Rattle.record_fields.proofs.TableLaws.{push-next, push-end}
 use Rattle.record_fields.proofs.table.push_all.Given as goal
 
 abbrev pub invariant-loop-i : goal.invariant-loop-i

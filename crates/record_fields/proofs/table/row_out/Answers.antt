@@ -1,10 +1,6 @@
 -- `row_out` meets its contract: the values passed are in their ranges. Assumes nothing.
-use mathlib.Core.Path.{◌≡◌, refl, sym, ◌∙◌}
-use Prim.Native.Nat.{◌-◌, ◌≤◌}
+use mathlib.Core.Path.{refl, sym, ◌∙◌}
 use native.Mathlib.Omega.{arith}
-use lib.ListN.{length, drop}
-use borrow.Author.Rules.{rules}
-use Rattle.record_fields.specs.Tables.{row_out}
 use Rattle.record_fields.proofs.TableLaws.{out-low, out-high, out-fine, out-end}
 use Rattle.record_fields.proofs.table.row_out.Goals as goal
 

@@ -1,10 +1,8 @@
 -- `row_out` meets its contract: the values passed are in their ranges. Assumes nothing.
-use mathlib.Core.Path.{◌≡◌, refl, sym, ◌∙◌}
+use mathlib.Core.Path.{◌≡◌}
 use Prim.Native.Nat.{◌-◌, ◌≤◌}
-use native.Mathlib.Omega.{arith}
 use lib.ListN.{length, drop}
 use Rattle.record_fields.specs.Tables.{row_out}
-use Rattle.record_fields.proofs.TableLaws.{out-low, out-high, out-fine, out-end}
 use Rattle.record_fields.proofs.table.row_out.Given as goal
 
 abbrev pub invariant-loop-i : goal.invariant-loop-i
