@@ -7,7 +7,7 @@ pub mod frames;
 pub mod general;
 mod header;
 pub mod health;
-pub mod line;
+pub mod listening;
 pub mod mending;
 pub mod null;
 pub mod observation;

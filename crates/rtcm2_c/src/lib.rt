@@ -6,7 +6,7 @@ pub mod correction;
 pub mod frames;
 pub mod general;
 pub mod health;
-pub mod line;
+pub mod listening;
 pub mod mending;
 pub mod null;
 pub mod observation;

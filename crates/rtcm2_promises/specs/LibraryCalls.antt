@@ -29,13 +29,13 @@ use Rattle.rtcm2_state.proofs.candidate_in
 use Rattle.rtcm2_state.proofs.hold.hold
 use Rattle.rtcm2_state.proofs.put_start
 use Rattle.rtcm2_state.proofs.put_state
-use Rattle.rtcm2.proofs.line.rtcm2_state_size
-use Rattle.rtcm2.proofs.line.rtcm2_start
-use Rattle.rtcm2.proofs.line.rtcm2_feed
-use Rattle.rtcm2.proofs.line.rtcm2_feed_all
-use Rattle.rtcm2.proofs.line.rtcm2_counts
-use Rattle.rtcm2.proofs.line.rtcm2_end
-use Rattle.rtcm2.proofs.line.rtcm2_take
+use Rattle.rtcm2.proofs.listening.rtcm2_state_size
+use Rattle.rtcm2.proofs.listening.rtcm2_start
+use Rattle.rtcm2.proofs.listening.rtcm2_feed
+use Rattle.rtcm2.proofs.listening.rtcm2_feed_all
+use Rattle.rtcm2.proofs.listening.rtcm2_counts
+use Rattle.rtcm2.proofs.listening.rtcm2_end
+use Rattle.rtcm2.proofs.listening.rtcm2_take
 use Rattle.rtcm2.proofs.turns.rtcm2_read
 use Rattle.rtcm2.proofs.send.rtcm2_open as rtcm2-open
 use Rattle.rtcm2.proofs.send.rtcm2_write
@@ -73,7 +73,7 @@ pub record LibraryCalls : Type 2 where
   pub put-state : AnsweredLent put_state.Reads.Asked put_state.Reads.Learnt put_state.Statement.statement
       (λ κs (reader, (bytes, _)). stored_by reader.candidate bytes.now)
       (λ κs (_, (bytes, _)). bytes.now) (λ κs (reader, (bytes, _)). state_put reader bytes.now)
-  -- rtcm2::line
+  -- rtcm2::listening
   pub state-size : Answered rtcm2_state_size.Reads.Asked rtcm2_state_size.Reads.Learnt rtcm2_state_size.Statement.statement
       (λ κs a. state_size)
   pub start : AnsweredLent rtcm2_start.Reads.Asked rtcm2_start.Reads.Learnt rtcm2_start.Statement.statement

@@ -7,7 +7,7 @@ use Rattle.rtcm2_state.specs.State.{holds_state, state_in, state_put}
 use Rattle.rtcm2_state.proofs.Quiet.{quiet-taken}
 use Rattle.rtcm2.specs.Line.{fed_in}
 use Rattle.rtcm2.proofs.LineLaws.{number-refused, number-answered, left_alone, left-put, read_none, read-refused, read_done}
-use Rattle.rtcm2.proofs.line.rtcm2_feed.Goals as goal
+use Rattle.rtcm2.proofs.listening.rtcm2_feed.Goals as goal
 
 pub returns-then-not-holds_state : goal.returns-then-not-holds_state
 unfolding fed_in

@@ -6,7 +6,7 @@ use Rattle.reader.specs.declared.FedAll.{FedAll}
 use Rattle.rtcm2_state.specs.State.{holds_state, state_in, state_put}
 use Rattle.rtcm2.specs.Line.{fed_all_in}
 use Rattle.rtcm2.proofs.LineLaws.{number-refused, number-answered, left_alone, left-put, read_none, read-refused, read_done}
-use Rattle.rtcm2.proofs.line.rtcm2_feed_all.Goals as goal
+use Rattle.rtcm2.proofs.listening.rtcm2_feed_all.Goals as goal
 
 pub returns-then-not-holds_state : goal.returns-then-not-holds_state
 unfolding fed_all_in

@@ -10,7 +10,7 @@ ghost use Rattle.rtcm2.specs.Line.{started_in, counts_in, fed_in, fed_all_in, en
 pub extern "C" fn rtcm2_state_size() -> usize
     ensures { result ≡ state_size }
 {
-    rtcm2::line::rtcm2_state_size()
+    rtcm2::listening::rtcm2_state_size()
 }
 
 // Starts a reader: the first bytes become a fresh state. Refusal: 13.
@@ -19,7 +19,7 @@ pub extern "C" fn rtcm2_start(state: &mut [u8]) -> u8
     ensures value { result ≡ number_of (started_in state.old) }
     ensures state_after { state.new ≡ left (started_in state.old) (λ r. state_put r state.old) state.old }
 {
-    rtcm2::line::rtcm2_start(state)
+    rtcm2::listening::rtcm2_start(state)
 }
 
 // The counters of a reader: positions that a word ruled out by an odd number of ones in its remainder, and by an even number. Refusal: 5.
@@ -29,7 +29,7 @@ pub extern "C" fn rtcm2_counts(state: &[u8], odd: &mut u32, even: &mut u32) -> u
     ensures odd_after { odd.new ≡ left (counts_in state.now) (λ t. t.odd) odd.old }
     ensures even_after { even.new ≡ left (counts_in state.now) (λ t. t.even) even.old }
 {
-    rtcm2::line::rtcm2_counts(state, odd, even)
+    rtcm2::listening::rtcm2_counts(state, odd, even)
 }
 
 // Feeds one byte of the line. Refusals: 5, 3, 2, 1.
@@ -38,7 +38,7 @@ pub extern "C" fn rtcm2_feed(state: &mut [u8], byte: u8) -> u8
     ensures value { result ≡ number_of (fed_in state.old byte) }
     ensures state_after { state.new ≡ left (fed_in state.old byte) (λ n. state_put n.reader state.old) state.old }
 {
-    rtcm2::line::rtcm2_feed(state, byte)
+    rtcm2::listening::rtcm2_feed(state, byte)
 }
 
 // Feeds bytes until a frame waits or none is left. Refusals: 5, 3, 2.
@@ -55,7 +55,7 @@ pub extern "C" fn rtcm2_feed_all(
     ensures used_after { used.new ≡ left (fed_all_in state.old bytes.now) (λ f. f.used) used.old }
     ensures passed_after { passed.new ≡ left (fed_all_in state.old bytes.now) (λ f. f.passed) passed.old }
 {
-    rtcm2::line::rtcm2_feed_all(state, bytes, used, passed)
+    rtcm2::listening::rtcm2_feed_all(state, bytes, used, passed)
 }
 
 // The input has ended. Refusals: 5, 3, 2.
@@ -65,7 +65,7 @@ pub extern "C" fn rtcm2_end(state: &mut [u8]) -> u8
     ensures state_after { state.new ≡ left (ended_in state.old)
         (λ n. start_put n.reader.candidate n.reader.ended state.old) state.old }
 {
-    rtcm2::line::rtcm2_end(state)
+    rtcm2::listening::rtcm2_end(state)
 }
 
 // Takes the frame that waits: its record, the record's length, the position of its first bit and the two bits before it. Refusals: 5, 4, 13.
@@ -88,5 +88,5 @@ pub extern "C" fn rtcm2_take(
     ensures d29_after { d29.new ≡ left (taken_in state.old frame.old) (λ v. v.1.frame.carried.d29) d29.old }
     ensures d30_after { d30.new ≡ left (taken_in state.old frame.old) (λ v. v.1.frame.carried.d30) d30.old }
 {
-    rtcm2::line::rtcm2_take(state, frame, length, at, d29, d30)
+    rtcm2::listening::rtcm2_take(state, frame, length, at, d29, d30)
 }

@@ -31,7 +31,7 @@ use Rattle.rtcm2.proofs.LineLaws.{
   taken-within,
   unkept-alone,
 }
-use Rattle.rtcm2.proofs.line.rtcm2_take.Goals as goal
+use Rattle.rtcm2.proofs.listening.rtcm2_take.Goals as goal
 
 -- the length of the record, and what taking left; what goes into each place
 abbrev Both : Type 0

@@ -3,7 +3,7 @@ use mathlib.Core.Path.{sym, ap, ◌∙◌}
 use Rattle.reader.specs.declared.Tally.{Tally}
 use Rattle.reader.specs.declared.Reader.{Reader}
 use Rattle.rtcm2.proofs.LineLaws.{number-refused, number-answered, left_alone, left-put, counts-none, counts-held}
-use Rattle.rtcm2.proofs.line.rtcm2_counts.Goals as goal
+use Rattle.rtcm2.proofs.listening.rtcm2_counts.Goals as goal
 
 pub returns-then-not-holds_state : goal.returns-then-not-holds_state
 returns-then-not-holds_state c =

@@ -6,7 +6,7 @@ use Rattle.reader.specs.declared.Next.{Next}
 use Rattle.rtcm2_state.specs.State.{holds_state, state_in, start_put}
 use Rattle.rtcm2.specs.Line.{ended_in}
 use Rattle.rtcm2.proofs.LineLaws.{number-refused, number-answered, left_alone, left-put, read_none, read-refused, read_done}
-use Rattle.rtcm2.proofs.line.rtcm2_end.Goals as goal
+use Rattle.rtcm2.proofs.listening.rtcm2_end.Goals as goal
 
 pub returns-then-not-holds_state : goal.returns-then-not-holds_state
 unfolding ended_in

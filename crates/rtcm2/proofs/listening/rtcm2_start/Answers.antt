@@ -2,7 +2,7 @@
 use mathlib.Core.Path.{ap, ◌∙◌}
 use Rattle.rtcm2_state.specs.State.{state_put}
 use Rattle.rtcm2.proofs.LineLaws.{number-refused, number-answered, left_alone, left-put, start-short, start-done}
-use Rattle.rtcm2.proofs.line.rtcm2_start.Goals as goal
+use Rattle.rtcm2.proofs.listening.rtcm2_start.Goals as goal
 
 pub returns-then-state-lt-SIZE : goal.returns-then-state-lt-SIZE
 returns-then-state-lt-SIZE c =
