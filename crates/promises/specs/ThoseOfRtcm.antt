@@ -154,7 +154,7 @@ pub record RecordsOfRtcm : Type 0 where
   pub udre-1 : LimitIs 1 4000
   pub udre-2 : LimitIs 2 8000
   pub udre-3 : (s : State) → state_outside s ≡ false → says_limit (udre_limit s 3) ≡ answers no_limit
-  -- C/N0: code 0 is not tracked, 1 to 31 are 25 to 55 d_b_hz
+  -- C/N0: code 0 is not tracked, 1 to 31 are 25 to 55 dBHz
   pub cn0-0 : says_strength (cn0_db_hz 0) ≡ answers not_tracked
   pub cn0 : (code : ℕ) → 1 ≤ code → code ≤ 31 → says_strength (cn0_db_hz code) ≡ answers (db_hz (24 + code))
   -- the time of a health entry, 5 minutes each; a Z count, 0.6 s each

@@ -88,7 +88,7 @@ pub fn rtcm2_udre_limit_mm(health: u8, udre: u8, limited: &mut u8, mm: &mut u32)
     }
 }
 
-// C/N0 in d_b_hz. Order 10.
+// C/N0 in dBHz. Order 10.
 pub fn rtcm2_cn0_dbhz(code: u8, tracked: &mut u8, dbhz: &mut u8) -> u8
     ensures value { result ≡ number_of (strength_said code) }
     ensures tracked_after { tracked.new ≡ left (strength_said code) tracked_flag tracked.old }

@@ -45,7 +45,7 @@ pub extern "C" fn rtcm2_udre_limit_mm(health: u8, udre: u8, limited: &mut u8, mm
     rtcm2::values::rtcm2_udre_limit_mm(health, udre, limited, mm)
 }
 
-// C/N0 in d_b_hz. Order 10.
+// C/N0 in dBHz. Order 10.
 #[unsafe(no_mangle)]
 pub extern "C" fn rtcm2_cn0_dbhz(code: u8, tracked: &mut u8, dbhz: &mut u8) -> u8
     ensures value { result ≡ number_of (strength_said code) }
