@@ -137,7 +137,7 @@ UNASKED = re.compile(r"`goal\.(?P<name>[^`]+)`: module `[^`]+\.Goals` has no `(?
 
 # a fact that is not proved: an equation of other sides, or one that was looked for and not found
 FACT = re.compile(r"two (?:types|sides|values)|expected type `(?:Path |.*(?:Core\.Path| ≡ |◌≡◌ |Claims\.AllOf| ≤ | < |◌≤◌|◌<◌))|does not hold|missing equation"
-                  r"|`(?:simp|rw|search|omega)\b|it is not proved that")
+                  r"|`(?:simp|rw|search|omega)\b|it is not proved that|expected type `(\S+) [^`]*`, but this has type `\1 ")
 
 # what is left to `search` of such a function is not tried before the functions that it calls are proved
 WAITS = re.compile(r"^fn \w+::(?P<path>\S+): no.*(?:which is not proved|which are not proved)")
