@@ -4,7 +4,7 @@ use mathlib.Core.Bool.{Bool, true, false, not, cond}
 use mathlib.Core.List.{List, [], ◌∷◌, ◌++◌}
 use Prim.Native.Nat.{ℕ}
 use lib.Dec.{ltb}
-use Rattle.answer.specs.Order.{refuses, answers, Check, in_order}
+use Rattle.answer.specs.Order.{refuses, answers, in_order}
 use Rattle.answer.proofs.OrderLaws.{says-order}
 use Rattle.bits.specs.Bits.{is_nonzero}
 use Rattle.line.specs.Line.{is_data}
@@ -30,7 +30,7 @@ use Rattle.rtcm2_rows.specs.declared.row.Put.TheVariants as put
 use Rattle.rtcm2_rows.specs.Corrections as correction
 use Rattle.rtcm2_rows.specs.Observations as observation
 use Rattle.rtcm2_rows.specs.Generals as general
-use Rattle.rtcm2.proofs.ObservationOrders as orders
+use Rattle.rtcm2.proofs.ObservationOrders as observations-in-order
 use Rattle.rtcm2.proofs.GeneralOrders as generals
 use Rattle.rtcm2.specs.Generals.{head_of}
 use Rattle.rtcm2.specs.Lists.{LibraryList}
@@ -109,12 +109,12 @@ library-numbers = record {
   keep-words = λ bs fits d29 d30 words. ordered (orders.keep_words_order bs d29 d30 words) _ (keep-words-order bs fits d29 d30 words) refl refl;
   recall-words = λ bs frame. ordered (orders.restore_order bs frame) _ (restore-order bs frame) refl refl;
   lists = each-list list-numbers;
-  count-observations = λ bs fits. ordered (orders.observations_counted bs) _ (orders.observations-counted bs fits) refl refl;
-  read-epoch = λ bs fits. ordered (orders.epoch_order bs) _ (orders.epoch-order bs fits) refl refl;
-  observation-at = λ e bs fits i lent. ordered (orders.observation_order e bs i lent) _ (orders.observation-row-order bs fits e i lent) refl refl;
+  count-observations = λ bs fits. ordered (orders.observations_counted bs) _ (observations-in-order.observations-counted bs fits) refl refl;
+  read-epoch = λ bs fits. ordered (orders.epoch_order bs) _ (observations-in-order.epoch-order bs fits) refl refl;
+  observation-at = λ e bs fits i lent. ordered (orders.observation_order e bs i lent) _ (observations-in-order.observation-row-order bs fits e i lent) refl refl;
   make-observations = λ kind station z sequence code e f s t bs buffer.
       ordered (orders.observations_order kind station z sequence code e (record { frequency = f; smoothing = s; time = t }) bs buffer) _
-      (orders.observations-made kind station z sequence code e (record { frequency = f; smoothing = s; time = t }) bs buffer) refl refl;
+      (observations-in-order.observations-made kind station z sequence code e (record { frequency = f; smoothing = s; time = t }) bs buffer) refl refl;
   read-position = λ bs fits. ordered (orders.position_order bs) _ (reads.position-order bs fits) refl refl;
   make-position = λ kind station z sequence code x y up buffer.
       ordered (orders.position_made_order kind station z sequence code (record { x = x; y = y; z = up }) buffer) _
@@ -133,7 +133,7 @@ library-numbers = record {
   check-profile = λ bs fits. ordered (orders.profile_read_order bs) _ (profile-order bs fits) refl refl;
   cut-corrections = λ kind station z sequence code bs buffer.
       ordered (orders.cut_kept_order kind station z sequence code bs buffer) _ (cut-order kind station z sequence code bs buffer) refl refl;
-  read-null = λ bs fits. ordered (orders.null_order bs) _ (reads.null_order bs fits) refl refl;
+  read-null = λ bs fits. ordered (orders.null_order bs) _ (reads.null_order_lem bs fits) refl refl;
   make-null = λ kind station z sequence code n buffer.
       ordered (orders.null_made_order kind station z sequence code n buffer) _ (makes.null-made kind station z sequence code buffer n) refl refl;
   read-text = λ bs fits buffer. ordered (orders.text_read_order bs buffer) _ (reads.text-order bs fits buffer) refl refl;

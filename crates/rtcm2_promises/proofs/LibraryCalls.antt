@@ -12,15 +12,15 @@ library-calls = record {
   hold = record { asks_nothing = λ κs a. tt; settles = λ κs a z e p. p.0; leaves = λ κs a z e p. p.1; ends = rtcm2_state.hold.hold.Met.met };
   put-start = record { asks_nothing = λ κs a. tt; settles = λ κs a z e p. p.0; leaves = λ κs a z e p. p.1; ends = rtcm2_state.put_start.Met.met };
   put-state = record { asks_nothing = λ κs a. tt; settles = λ κs a z e p. p.0; leaves = λ κs a z e p. p.1; ends = rtcm2_state.put_state.Met.met };
-  state-size = record { asks_nothing = λ κs a. tt; settles = λ κs a z e p. p; ends = rtcm2.line.rtcm2_state_size.Met.met };
-  start = record { asks_nothing = λ κs a. tt; settles = λ κs a z e p. p.0; leaves = λ κs a z e p. p.1; ends = rtcm2.line.rtcm2_start.Met.met };
-  counts = record { asks_nothing = λ κs a. tt; settles = λ κs a z e p. p.0; leaves = λ κs a z e p. two-places p.1; ends = rtcm2.line.rtcm2_counts.Met.met };
-  feed = record { asks_nothing = λ κs a. tt; settles = λ κs a z e p. p.0; leaves = λ κs a z e p. p.1; ends = rtcm2.line.rtcm2_feed.Met.met };
+  state-size = record { asks_nothing = λ κs a. tt; settles = λ κs a z e p. p; ends = rtcm2.listening.rtcm2_state_size.Met.met };
+  start = record { asks_nothing = λ κs a. tt; settles = λ κs a z e p. p.0; leaves = λ κs a z e p. p.1; ends = rtcm2.listening.rtcm2_start.Met.met };
+  counts = record { asks_nothing = λ κs a. tt; settles = λ κs a z e p. p.0; leaves = λ κs a z e p. two-places p.1; ends = rtcm2.listening.rtcm2_counts.Met.met };
+  feed = record { asks_nothing = λ κs a. tt; settles = λ κs a z e p. p.0; leaves = λ κs a z e p. p.1; ends = rtcm2.listening.rtcm2_feed.Met.met };
   feed-all = record {
     asks_nothing = λ κs a. tt;
     settles = λ κs a z e p. p.0;
     leaves = λ κs a z e p. three-places p.1;
-    ends = rtcm2.line.rtcm2_feed_all.Met.met;
+    ends = rtcm2.listening.rtcm2_feed_all.Met.met;
   };
   line_read = record {
     asks_nothing = λ κs a. tt;
@@ -28,12 +28,12 @@ library-calls = record {
     leaves = λ κs a z e p. place-and p.1.0 (four-places p.1.1);
     ends = rtcm2.turns.rtcm2_read.Met.met;
   };
-  line-end = record { asks_nothing = λ κs a. tt; settles = λ κs a z e p. p.0; leaves = λ κs a z e p. p.1; ends = rtcm2.line.rtcm2_end.Met.met };
+  line-end = record { asks_nothing = λ κs a. tt; settles = λ κs a z e p. p.0; leaves = λ κs a z e p. p.1; ends = rtcm2.listening.rtcm2_end.Met.met };
   line-take = record {
     asks_nothing = λ κs a. tt;
     settles = λ κs a z e p. p.0;
     leaves = λ κs a z e p. place-and p.1.0 (place-and p.1.1.0 (four-places p.1.1.1));
-    ends = rtcm2.line.rtcm2_take.Met.met;
+    ends = rtcm2.listening.rtcm2_take.Met.met;
   };
   line-open = record { asks_nothing = λ κs a. tt; settles = λ κs a z e p. p.0; leaves = λ κs a z e p. p.1; ends = rtcm2.send.rtcm2_open.Met.met };
   write = record { asks_nothing = λ κs a. tt; settles = λ κs a z e p. p.0; leaves = λ κs a z e p. four-places p.1; ends = rtcm2.send.rtcm2_write.Met.met };

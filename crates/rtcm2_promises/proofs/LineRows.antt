@@ -15,11 +15,11 @@ use Rattle.rtcm2.specs.Answer.{number_of, left}
 use Rattle.rtcm2.specs.Line.{done_by, rows_in}
 use Rattle.rtcm2.proofs.LineStorable.{call-storable, left-storable}
 use Rattle.promises.specs.Calls.{Call, after, after_all}
-use Rattle.promises.specs.Turns.{RowCall, one, reads, Came, came, came_all, spelled}
+use Rattle.promises.specs.Turns.{RowCall, reads, Came, came, came_all, spelled}
 use Rattle.promises.proofs.CarriesItsNumber.{carries-its-number}
 use Rattle.promises.proofs.ChangesNeither.{changes-neither}
 use Rattle.promises.proofs.Turns.{spelled-one}
-use Rattle.rtcm2_promises.specs.LineCalls.{says_number, begun_in}
+use Rattle.rtcm2_promises.specs.LineCalls.{says_number}
 use Rattle.rtcm2_promises.specs.LineRows.{ReadCall, line, read, ReadRoom, asks_rows, read_after, read_after_all, reader_after, RepliesAlike, LibraryRows}
 use Rattle.rtcm2_promises.proofs.Told.{number-told, left-told}
 use Rattle.rtcm2_promises.proofs.Called.{Called, called-started, called-call}

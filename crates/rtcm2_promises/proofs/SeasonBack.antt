@@ -16,7 +16,6 @@ use Rattle.season_reports.specs.Reports.{most_rows, rows_in, report_with, report
 use Rattle.season_reports.specs.Tables.{SoundRow}
 use Rattle.season_reports.specs.declared.Row.{Row}
 use Rattle.season_reports.specs.declared.Report.{Report}
-use Rattle.season_reports.specs.declared.Adding.TheVariants as adding
 use Rattle.season_reports.specs.declared.Added.{Added}
 use Rattle.season_reports.specs.declared.JournalReport.{JournalReport}
 use Rattle.season_reports.proofs.PlaceLaws.{each_append, each_at}

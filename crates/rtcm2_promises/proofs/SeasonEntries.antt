@@ -3,7 +3,7 @@
 use mathlib.Core.Path.{◌≡◌, refl, sym, subst}
 use mathlib.Core.Bool.{Bool, true, false, cond}
 use mathlib.Core.List.{List, [], ◌∷◌, ◌++◌, map}
-use Prim.Native.Nat.{ℕ, zero, suc, ◌+◌, ◌-◌, ◌*◌, ◌^◌, ◌≤◌, ◌<◌}
+use Prim.Native.Nat.{ℕ, zero, suc, ◌-◌, ◌*◌, ◌^◌, ◌≤◌, ◌<◌}
 use native.Mathlib.Nat.{le_trans, mul-le-mul_right}
 use native.Mathlib.Omega.{arith}
 use lib.Dec.{ltb, eqb}
@@ -32,7 +32,7 @@ use Rattle.record_corrections.specs.declared.CorrectionRead.TheVariants as read
 use Rattle.record_corrections.specs.Corrections.{coding, least, most, numbers, out_of_range, count_corrections, correction_at}
 use Rattle.record_values.specs.Values.{exactly, stop, is_lowest, step_of, signed_value, prc_value}
 use Rattle.record_values.proofs.Products.{abs-product}
-use Rattle.season_reports.specs.Season.{Entry, reading_of, reading_row, entry_row}
+use Rattle.season_reports.specs.Season.{reading_of, reading_row, entry_row}
 use Rattle.season_reports.specs.Journals.{one_entry, entries_after, entries_counted, entries_read, then_on, contents_from}
 use Rattle.season_reports.specs.Reports.{journal_rows}
 use Rattle.season_reports.specs.Tables.{SoundRow}

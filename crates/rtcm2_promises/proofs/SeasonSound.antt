@@ -3,7 +3,7 @@
 use mathlib.Core.Path.{◌≡◌, refl, sym, ap₂, subst, ◌∙◌}
 use mathlib.Core.Bool.{Bool, true, false, true≢false, cond, ◌||◌}
 use mathlib.Core.List.{List, [], ◌∷◌}
-use Prim.Native.Nat.{ℕ, zero, suc, ◌-◌, ◌%◌, ◌^◌}
+use Prim.Native.Nat.{ℕ, zero, suc, ◌%◌, ◌^◌}
 use native.Mathlib.Nat.{mod-lt}
 use native.Mathlib.Omega.{arith}
 use lib.Dec.{ltb, eqb}
@@ -22,7 +22,6 @@ use Rattle.season_reports.specs.declared.Row.{Row}
 use Rattle.season_reports.specs.declared.Report.{Report}
 use Rattle.season_reports.specs.declared.Extremes.{Extremes}
 use Rattle.season_reports.specs.declared.Extremes.TheVariants.{Absent, Present}
-use Rattle.season_reports.specs.declared.Adding.TheVariants as adding
 use Rattle.season_reports.proofs.RightLaws.{sum_fits}
 use Rattle.season_reports.proofs.TableLaws.{rows_back, SoundRows}
 use Rattle.season_reports.proofs.EndLaws.{Running, RunsTo, run-rows, run-start}
