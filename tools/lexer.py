@@ -1,4 +1,4 @@
-"""The tokens of Rattle sources. A clause of a contract, with its name, and a `ghost use` item are one token each."""
+"""The tokens of Rattle sources. A clause of a contract, with its name, a ghost field and a `ghost use` item are one token each."""
 
 import re
 from dataclasses import dataclass
@@ -30,7 +30,7 @@ class Token:
 
 
 def tokens(text, file="?"):
-    """The tokens of a source without spaces and comments. A clause of a contract, with its name, and a `ghost use` are one token each."""
+    """The tokens of a source without spaces and comments. A clause of a contract, with its name, a ghost field and a `ghost use` are one token each."""
     found, at = [], 0
     while at < len(text):
         match = TOKEN.match(text, at)
@@ -48,17 +48,18 @@ def tokens(text, file="?"):
     return found
 
 
-# what stands before the braces of a clause: its name, where it has one
+# what stands before the braces of a clause: its name, where it has one; and of a ghost field
 HEAD = re.compile(r"\s+(?:[A-Za-z_]\w*\s*)?(?=\{)")
+FIELD = re.compile(r"\s+[A-Za-z_]\w*:\s*(?=\{)")
 
 
 def clause_end(text, at, word, file):
-    """Where the braces of a clause close, or the `;` of a `ghost use` item stands."""
-    if word == "ghost":
-        if not re.compile(r"\s+use\b").match(text, at):
-            raise Unread(f"{file}:{line_of(text, at)}: a `ghost` item of another form than `ghost use` is not read")
+    """Where the braces of a clause or a ghost field close, or the `;` of a `ghost use` item stands."""
+    if word == "ghost" and re.compile(r"\s+use\b").match(text, at):
         return text.index(";", at) + 1
-    head = HEAD.match(text, at)
+    head = (FIELD if word == "ghost" else HEAD).match(text, at)
+    if not head and word == "ghost":
+        raise Unread(f"{file}:{line_of(text, at)}: a `ghost` item of another form than `ghost use` or a field is not read")
     if not head:
         raise Unread(f"{file}:{line_of(text, at)}: a clause of another form than `{word} NAME {{ .. }}` is not read")
     depth = 0

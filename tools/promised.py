@@ -18,6 +18,9 @@ ASKED, LEARNT, STATEMENT = ".Reads.Asked", ".Reads.Learnt", ".Statement.statemen
 # a call of the library says this of what it says
 NUMBER_OF = "number_of"
 
+# the error of a call that refuses
+REFUSAL = re.compile(r"\bRefusal\b")
+
 # what is promised of lists is said over a value of these types: where the values stand, by which definition, and what says a record of each of them
 LISTS = {
     "ListLayout": ("crates/promises/specs/RecordLayouts.antt", "list_of", "EachList"),
@@ -168,7 +171,7 @@ class Answers:
         """A value of the type can be a refusal."""
         return type is not None and (
             (type.crate, type.name) in self.said or "Refused" in type.variants
-            or any(self.refuses(self.type_of(type.crate, inner)) for _, inner in type.fields))
+            or any(REFUSAL.search(inner) or self.refuses(self.type_of(type.crate, inner)) for _, inner in type.fields))
 
     def untold(self):
         """Public enums with a refusal that no definition says in the table's terms, by themselves or in a struct."""
@@ -178,7 +181,7 @@ class Answers:
                 if type.public and "Refused" in type.variants and (type.crate, type.name) not in told]
 
     def can_refuse(self, function):
-        return self.refuses(self.type_of(function.crate, function.answer)) or any(re.search(rf"\b{NUMBER_OF}\b", clause.fact) for clause in function.ensures)
+        return bool(REFUSAL.search(function.answer)) or self.refuses(self.type_of(function.crate, function.answer)) or any(re.search(rf"\b{NUMBER_OF}\b", clause.fact) for clause in function.ensures)
 
     def handed_back(self, function):
         """The states that are passed and returned, by their place among the parameters and the field of the answer: of one type, the first in the first."""

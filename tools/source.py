@@ -116,6 +116,8 @@ class Reader:
 
     def item(self, owner, public_place):
         if self.all[self.at].kind in CLAUSES:
+            if self.all[self.at].kind == "ghost" and not self.peek().startswith("use"):
+                self.unread("a ghost item outside a struct is not read")
             self.at += 1
             return
         if self.peek() == "#" and self.all[self.at + 1].text == "!":
@@ -139,7 +141,7 @@ class Reader:
             self.type(word, public)
         elif word == "use":
             self.use(public and public_place)
-        elif word in ("const", "type"):
+        elif word in ("const", "static", "type"):
             self.constant()
         else:
             self.at -= 1
@@ -234,6 +236,8 @@ class Reader:
         if self.peek() == "{":
             for part in split(self.inside("{", "}"), ","):
                 words = [token.text for token in part]
+                if part[0].kind == "ghost":
+                    continue
                 if word == "enum":
                     variants.append(words[0])
                 else:
