@@ -1,11 +1,18 @@
 -- What all answers have in common: a refusal is a number of the table, and a call refuses with the first number of its order that applies.
 -- Assumes nothing.
-use Rattle.std.specs.Prelude.{◌≡◌, Bool, true, false, cond, List, [], ◌∷◌, ◌++◌, ℕ}
+use Rattle.std.specs.Prelude.{◌≡◌, Bool, true, false, cond, Result, Ok, Err, List, [], ◌∷◌, ◌++◌, ℕ}
+use Rattle.answer.specs.declared.Refusal.{Refusal}
+use Rattle.answer.specs.Table.{refusal_number}
 
 -- What an answer says in the table's terms: a refusal's number alone, or the values. Each answer type has a definition into this one.
 pub data Says (A : Type 0) : Type 0 where
   refuses : ℕ → Says A
   answers : A → Says A
+
+-- what a result says: of its value, `told`
+abbrev pub says : {A B : Type 0} → (A → B) → Result A Refusal → Says B
+says told (Ok a) = answers (told a)
+says told (Err refusal) = refuses (refusal_number refusal)
 
 -- a number of the table, and whether it applies
 abbrev pub Check : Type 0

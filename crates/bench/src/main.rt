@@ -22,15 +22,13 @@ struct Count {
 fn emptied(reader: Reader, frames: u64) -> Count {
     let mut r = reader;
     let mut count = frames;
-    let mut k: usize = 0;
-    while k < 16 {
+    for _ in 0..16 {
         if !r.candidate.waits {
             break;
         }
         let taken = reader::take(r);
         r = taken.reader;
-        count = std::num::wrapping_add_u64(count, 1);
-        k += 1;
+        count = count.wrapping_add(1);
     }
     Count {
         reader: r,
@@ -43,6 +41,7 @@ fn all(bytes: &[u8]) -> u64 {
     let mut r = reader::new();
     let mut frames: u64 = 0;
     let mut at: usize = 0;
+    // kept: a while over what each call uses, since with a `for` the count took a quarter more time
     while at < bytes.len() {
         let fed = reader::feed_all(r, &bytes[at..]);
         let used = fed.used;
@@ -65,11 +64,9 @@ fn all(bytes: &[u8]) -> u64 {
 fn each(bytes: &[u8]) -> u64 {
     let mut r = reader::new();
     let mut frames: u64 = 0;
-    let mut at: usize = 0;
-    while at < bytes.len() {
-        let fed = reader::feed(r, bytes[at]);
+    for byte in bytes {
+        let fed = reader::feed(r, *byte);
         r = fed.reader;
-        at += 1;
         if r.candidate.waits {
             let next = emptied(r, frames);
             r = next.reader;
@@ -79,24 +76,16 @@ fn each(bytes: &[u8]) -> u64 {
     frames
 }
 
-// The frames of one round.
-fn round(bytes: &[u8], singly: bool) -> u64 {
-    if singly {
-        return each(bytes);
-    }
-    all(bytes)
-}
-
-// The frames of a hundred rounds. No two rounds have the same bytes, so that each is worked out.
-fn rounds(bytes: &[u8], singly: bool) -> u64 {
+// The frames of a hundred rounds, counted in one of the two ways. No two rounds have the same bytes, so that each is worked out.
+fn rounds<F: Fn(&[u8]) -> u64>(bytes: &[u8], frames_in: F) -> u64
+    requires { F.IsAlwaysCallable frames_in }
+{
     let mut frames: u64 = 0;
-    let mut k: usize = 0;
-    while k < 100 {
-        if bytes.len() < k {
-            return frames;
-        }
-        frames = std::num::wrapping_add_u64(frames, round(&bytes[k..], singly));
-        k += 1;
+    for from in 0..100usize {
+        let Some(round) = bytes.get(from..) else {
+            break;
+        };
+        frames = frames.wrapping_add(frames_in(round));
     }
     frames
 }
@@ -118,9 +107,9 @@ fn main(rt: HostRuntime) {
     let mut buffer = [0u8; 400000];
     let n = io::read_full(STDIN, &mut buffer);
     if asked(&rt, b'a') {
-        show(rounds(&buffer[..n], false));
+        show(rounds(&buffer[..n], all));
     }
     if asked(&rt, b'e') {
-        show(rounds(&buffer[..n], true));
+        show(rounds(&buffer[..n], each));
     }
 }

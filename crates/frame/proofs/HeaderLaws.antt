@@ -11,11 +11,11 @@ use borrow.Author.Tests.{eqb-true, le-ltb}
 use Rattle.bits.specs.Bits.{bits, number}
 use Rattle.bits.specs.Fields.{field_at, fields_at, packed, Fit}
 use Rattle.bits.proofs.FieldLaws.{fits-field, fields-packed, packed-fields, length-packed, fields_bits, number-packed}
+use Rattle.std.specs.Prelude.{Ok}
 use Rattle.frame.specs.Header.{preamble, preambled, kind_of, n_of, header_of, first_word, second_word, state_of, code_of}
 use Rattle.frame.specs.Widths.{header_outside}
 use Rattle.frame.specs.Answer.{header_words}
 use Rattle.frame.specs.declared.Header.{Header}
-use Rattle.frame.specs.declared.HeaderWords.TheVariants.{Words}
 use Rattle.frame.proofs.StateLaws.{code_lt, state-code, code-state, state-inside}
 use Rattle.frame.proofs.WidthLaws.{Inside, to_inside, from-inside}
 
@@ -161,5 +161,5 @@ unfolding second_word
 second-number h n i l = omega (arith, number-packed second_widths (second_values h n) (second_fits h n i l))
 
 -- what is answered for a header within its widths
-pub words-answered : (h : Header) (n : ℕ) → header_outside h ≡ false → n ≤ 31 → header_words h n ≡ Words (number (first_word h)) (number (second_word h n))
+pub words-answered : (h : Header) (n : ℕ) → header_outside h ≡ false → n ≤ 31 → header_words h n ≡ Ok (number (first_word h), number (second_word h n))
 words-answered h n e l = rw (e, le-ltb 31 n l)

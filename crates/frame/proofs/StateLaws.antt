@@ -4,12 +4,14 @@ use mathlib.Core.Path.{◌≡◌, refl, sym, ap, ◌∙◌}
 use mathlib.Core.Bool.{Bool, true, false, not, ◌&&◌, ◌||◌, cond, false≢true, and-eq-true_iff}
 use mathlib.Core.List.{List, [], ◌∷◌}
 use Prim.Native.Nat.{ℕ, zero, suc, ◌+◌, ◌≤◌, ◌<◌}
-use native.Mathlib.Numerals.{add-one}
 use native.Mathlib.Omega.{arith}
 use lib.Dec.{ltb, eqb, eqb-suc-suc, eqb-zero-suc}
-use lib.ListN.{length, drop, get_or, drop_of_length-le}
-use lib.Seq.{drop-cons}
-use borrow.Author.Tests.{ltb-true, eqb-true, lt-ltb, eq-eqb, ne_eqb, not-false}
+use lib.ListN.{length, get_or}
+use borrow.Author.Tests.{ltb-true, ltb-false, eqb-true, lt-ltb, not-false}
+use Rattle.std.specs.List.{position_or_len}
+use Rattle.std.specs.Option.{unwrap_or}
+use Rattle.std.specs.Prelude.{Option, Some, None}
+use Rattle.std.proofs.lemmas.List.Recursion.{is_position_or_len}
 use Rattle.frame.specs.Header.{factors, place_in, state_of, code_of}
 use Rattle.frame.specs.Widths.{any_of, state_outside}
 use Rattle.frame.specs.declared.State.{State}
@@ -46,15 +48,23 @@ at_place x (y ∷ ys) e = go (eqb x y) refl e (at_place x ys)
     go true q h later = (omega arith, sym (eqb-true x y q))
     go false q h later = let l = later h in (omega arith, l.1)
 
--- looked for from place i on
-pub place-hit : (x i : ℕ) (ys : List ℕ) → i < length ys → x ≡ get_or ys i 0 → i + place_in x (drop i ys) ≡ i
-place-hit x i ys h e = rw (drop-cons ys i 0 h, eq-eqb x (get_or ys i 0) e) (omega arith)
+-- as `position` finds it
+pub place-found : (x : ℕ) (ys : List ℕ) (r : Option ℕ)
+    → r ≡ cond (ltb (position_or_len (eqb x) ys) (length ys)) (Some (position_or_len (eqb x) ys)) None → unwrap_or r (length ys) ≡ place_in x ys
+place-found x ys r e = ap (λ o. unwrap_or o (length ys)) e ∙ go (ltb place (length ys)) refl ∙ sym same
+  where
+    place : ℕ
+    place = position_or_len (eqb x) ys
 
-pub place-miss : (x i : ℕ) (ys : List ℕ) → i < length ys → (x ≡ get_or ys i 0 → ⊥) → i + place_in x (drop i ys) ≡ i + 1 + place_in x (drop (i + 1) ys)
-place-miss x i ys h e = rw (drop-cons ys i 0 h, ne_eqb x (get_or ys i 0) e, add-one i) (omega arith)
+    one_more : (k : ℕ) → suc k ≡ 1 + k
+    one_more k = omega arith
 
-pub place_end : (x i : ℕ) (ys : List ℕ) → length ys ≤ i → i + place_in x (drop i ys) ≡ i
-place_end x i ys h = rw (drop_of_length-le ys h) (omega arith)
+    same : place_in x ys ≡ place
+    same = is_position_or_len (place_in x) (eqb x) refl (λ y zs. ap (cond (eqb x y) zero) (one_more (place_in x zs))) ys
+
+    go : (t : Bool) → ltb place (length ys) ≡ t → unwrap_or (cond t (Some place) None) (length ys) ≡ place
+    go true q = refl
+    go false q = omega (arith, ltb-false place (length ys) q, same, place-le x ys)
 
 -- ---- states and codes
 

@@ -9,41 +9,39 @@ use lib.Dec.{leb, leb-suc-suc, leb-zero}
 use lib.ListN.{length, drop, get_or, replicate, drop_of_length-le}
 use lib.Seq.{drop-cons}
 use borrow.Author.Tests.{leb-true, leb-false, ltb-false, le-leb, lt-leb, le-ltb, not-false}
+use Rattle.std.specs.List.{list_any}
+use Rattle.std.proofs.lemmas.List.Recursion.{same_from_clauses}
 use Rattle.frame.specs.Frames.{Below}
 use Rattle.bits.specs.Bits.{is_nonzero}
 use Rattle.frame.specs.Widths.{any_of, is_wide, state_outside, numbers_outside, header_outside}
 use Rattle.frame.specs.declared.Header.{Header}
-use Rattle.frame.specs.declared.Widths.TheVariants.{Within, Outside}
-use Rattle.frame.specs.declared.Clock.TheVariants.{Hour, Late}
+use Rattle.answer.specs.Table.{refused, granted}
+use Rattle.answer.specs.declared.Refusal.{Refusal}
+use Rattle.answer.specs.declared.Refusal.TheVariants.{Width, ZCount}
+use Rattle.std.specs.Prelude.{Err}
 
 -- ---- the test that a stage's answer tells of
 
-module _ {A : Type 0} (refused passed : A) (apart : refused ≡ passed → ⊥) where
-  told-true : (b : Bool) → refused ≡ cond b refused passed → b ≡ true
-  told-true true e = refl
-  told-true false e = absurd (apart e)
+told-refused : {e : Refusal} (r : Refusal) (b : Bool) → Err e ≡ cond b (Err r) granted → b ≡ true
+told-refused r true is = refl
+told-refused r false is = let z : ◌≡◌ {A = ℕ} 0 1 = cc in absurd (omega arith)
 
-  told-false : (b : Bool) → passed ≡ cond b refused passed → b ≡ false
-  told-false true e = absurd (apart (sym e))
-  told-false false e = refl
+told-granted : (r : Refusal) (b : Bool) → granted ≡ cond b (Err r) granted → b ≡ false
+told-granted r true is = let z : ◌≡◌ {A = ℕ} 0 1 = cc in absurd (omega arith)
+told-granted r false is = refl
 
-outside-within : Outside ≡ Within → ⊥
-outside-within e = let z : ◌≡◌ {A = ℕ} 0 1 = cc in omega arith
+-- any refusal here tells of the one that the test gives
+pub told-outside : {e : Refusal} (b : Bool) → Err e ≡ cond b (refused 5) granted → b ≡ true
+told-outside = told-refused Width
 
-late-hour : Late ≡ Hour → ⊥
-late-hour e = let z : ◌≡◌ {A = ℕ} 0 1 = cc in omega arith
+pub told-within : (b : Bool) → granted ≡ cond b (refused 5) granted → b ≡ false
+told-within = told-granted Width
 
-pub told-outside : (b : Bool) → Outside ≡ cond b Outside Within → b ≡ true
-told-outside = told-true Outside Within outside-within
+pub told-late : {e : Refusal} (b : Bool) → Err e ≡ cond b (refused 7) granted → b ≡ true
+told-late = told-refused ZCount
 
-pub told-within : (b : Bool) → Within ≡ cond b Outside Within → b ≡ false
-told-within = told-false Outside Within outside-within
-
-pub told-late : (b : Bool) → Late ≡ cond b Late Hour → b ≡ true
-told-late = told-true Late Hour late-hour
-
-pub told-hour : (b : Bool) → Hour ≡ cond b Late Hour → b ≡ false
-told-hour = told-false Late Hour late-hour
+pub told-hour : (b : Bool) → granted ≡ cond b (refused 7) granted → b ≡ false
+told-hour = told-granted ZCount
 
 -- ---- a header
 
@@ -90,6 +88,10 @@ from-inside h i =
     )
 
 -- ---- a list of words
+
+-- as `any` tests them
+pub any_listed : (p : ℕ → Bool) (ws : List ℕ) → any_of p ws ≡ list_any p ws
+any_listed p = same_from_clauses (any_of p) (list_any p) (λ w. ◌||◌ (p w)) refl (λ w ws. refl) (λ w ws. refl)
 
 -- a test of the words from i on, by the word at i
 pub any-hit : (p : ℕ → Bool) (i : ℕ) (ws : List ℕ) → i < length ws → p (get_or ws i 0) ≡ true → any_of p (drop i ws) ≡ true

@@ -1,10 +1,12 @@
 -- A word and its k bytes are inverse, by the field law over the layout of k bytes. Assumes nothing.
-use mathlib.Core.Path.{◌≡◌, refl, sym, ap, ◌∙◌}
+use mathlib.Core.Path.{◌≡◌, refl, sym, ap, ap₂, ◌∙◌}
 use mathlib.Core.List.{List, [], ◌∷◌, ◌++◌, append-nil, append_assoc}
-use Prim.Native.Nat.{ℕ, zero, suc, ◌+◌, ◌*◌, ◌/◌, ◌%◌, ◌^◌, ◌<◌}
+use Prim.Native.Nat.{ℕ, zero, suc, ◌+◌, ◌-◌, ◌*◌, ◌/◌, ◌%◌, ◌^◌, ◌≤◌, ◌<◌}
 use native.Mathlib.Nat.{zero-add, mod-eq_of_lt}
 use native.Mathlib.Omega.{arith}
-use lib.ListN.{length}
+use lib.ListN.{length, take, drop, get_or, replicate}
+use borrow.Rule.Slice.PartMut.{put_mid}
+use Rattle.std.specs.Int.{w32, byte_at, bytes_high_first, to_be_bytes, from_be_bytes}
 use Rattle.bits.specs.Bits.{bits, number}
 use Rattle.bits.specs.Fields.{fields_at, packed, span, octets, AreBytes}
 use Rattle.bits.proofs.Numbers.{length-bits, number-bits, number_lt, bits-number, number_append}
@@ -33,6 +35,29 @@ pub length-bytes : (k w : ℕ) → length (bytes_of k w) ≡ k
 length-bytes zero w = ap length (bytes-none w)
 length-bytes (suc k) w = ap length (bytes-first k w) ∙ ap suc (length-bytes k w)
 
+-- the lowest k of the four bytes of the library
+byte-shifted : (k w : ℕ) → k < 4 → byte_at k w ≡ w / 2 ^ (8 * k) % 256
+byte-shifted zero w h = omega arith
+byte-shifted (suc zero) w h = refl
+byte-shifted (suc (suc zero)) w h = refl
+byte-shifted (suc (suc (suc zero))) w h = refl
+byte-shifted (suc (suc (suc (suc k)))) w h = absurd (omega arith)
+
+high-first : (k w : ℕ) → k ≤ 4 → bytes_high_first k w ≡ bytes_of k w
+high-first zero w h = sym (bytes-none w)
+high-first (suc k) w h = ap₂ ◌∷◌ (byte-shifted k w (omega arith)) (high-first k w (omega arith)) ∙ sym (bytes-first k w)
+
+pub lowest-bytes : (k w : ℕ) → k ≤ 4 → take (4 - (4 - k)) (drop (4 - k) (to_be_bytes w32 w)) ≡ bytes_of k w
+lowest-bytes k w h = go k h ∙ high-first k w h
+  where
+    go : (j : ℕ) → j ≤ 4 → take (4 - (4 - j)) (drop (4 - j) (to_be_bytes w32 w)) ≡ bytes_high_first j w
+    go zero h = refl
+    go (suc zero) h = refl
+    go (suc (suc zero)) h = refl
+    go (suc (suc (suc zero))) h = refl
+    go (suc (suc (suc (suc zero)))) h = refl
+    go (suc (suc (suc (suc (suc j))))) h = absurd (omega arith)
+
 -- ---- the word of bytes
 
 pub word_none : word_in [] ≡ 0
@@ -55,6 +80,18 @@ word-snoc bs b h =
     ap number (packed-append bs (b ∷ []) ∙ ap (λ p. packed (octets (length bs)) bs ++ p) (append-nil (bits 8 b)))
     ∙ number_append (packed (octets (length bs)) bs) (bits 8 b)
     ∙ rw (length-bits 8 b, number-bits 8 b, mod-eq_of_lt h)
+
+-- up to four bytes behind zeros, as the library reads them
+pub word-behind : (bs : List ℕ) → ((i : ℕ) → get_or bs i 0 < 256) → length bs ≤ 4
+    → from_be_bytes w32 (put_mid (4 - length bs) (4 - (4 - length bs)) (replicate 4 0) bs) ≡ word_in bs
+word-behind [] b h = omega (arith, word_none)
+word-behind (p ∷ []) b h = omega (arith, word_none, word-snoc [] p (b 0))
+word-behind (p ∷ q ∷ []) b h = omega (arith, word_none, word-snoc [] p (b 0), word-snoc (p ∷ []) q (b 1))
+word-behind (p ∷ q ∷ r ∷ []) b h =
+    omega (arith, word_none, word-snoc [] p (b 0), word-snoc (p ∷ []) q (b 1), word-snoc (p ∷ q ∷ []) r (b 2))
+word-behind (p ∷ q ∷ r ∷ s ∷ []) b h =
+    omega (arith, word_none, word-snoc [] p (b 0), word-snoc (p ∷ []) q (b 1), word-snoc (p ∷ q ∷ []) r (b 2), word-snoc (p ∷ q ∷ r ∷ []) s (b 3))
+word-behind (p ∷ q ∷ r ∷ s ∷ t ∷ bs) b h = absurd (omega arith)
 
 -- ---- inverse both ways
 

@@ -1,7 +1,7 @@
 -- Records of every form, over the form's mark and its bytes a word: a record starts well and gives its words back, whatever follows;
 -- and bytes that start well are the record of their words. Assumes nothing.
 use mathlib.Core.Path.{◌≡◌, refl, sym, ap, ap₂, ◌∙◌}
-use mathlib.Core.Bool.{not, ◌&&◌, and-eq-true_iff}
+use mathlib.Core.Bool.{Bool, true, false, not, ◌&&◌, ◌||◌, and-eq-true_iff}
 use mathlib.Core.List.{List, [], ◌∷◌, ◌++◌}
 use Prim.Native.Nat.{ℕ, suc, ◌+◌, ◌*◌, ◌≤◌}
 use native.Mathlib.Nat.{mul-suc}
@@ -9,7 +9,8 @@ use native.Mathlib.Omega.{arith}
 use lib.Dec.{ltb, eqb}
 use lib.ListN.{length, take, drop, get_or, replicate, length-append, length-drop}
 use lib.Seq.{take-add}
-use borrow.Author.Tests.{ltb-false, eqb-true, not-false, le-ltb, eq-eqb}
+use borrow.Author.Tests.{ltb-false, eqb-true, not-false, le-ltb, eq-eqb, ne_eqb}
+use Rattle.std.specs.List.{starts_with}
 use Rattle.answer.specs.Order.{in_order, NoneApplies}
 use Rattle.answer.proofs.OrderLaws.{order-answers, order-map, says_none}
 use Rattle.bits.specs.Fields.{Fit, AreBytes}
@@ -24,6 +25,30 @@ use Rattle.journal.proofs.WordLaws.{length-written, words-written, written-words
 -- the bytes after a record's start: k for each of N + 2 words
 words_size_lem : (k n : ℕ) → length_with k n ≡ 3 + k * suc (suc n)
 words_size_lem k n = omega (arith, mul-suc k (suc n), mul-suc k n)
+
+-- the bytes begin with the two of the mark
+pub unmarked-is : (form : ℕ) (bs : List ℕ) → not (starts_with eqb bs (mark form)) ≡ unmarked form bs
+unfolding unmarked
+unmarked-is form [] = refl
+unmarked-is form (a ∷ []) = ap not (none (eqb 0x52 a))
+  where
+    none : (t : Bool) → (t && false) ≡ false
+    none true = refl
+    none false = refl
+unmarked-is form (a ∷ b ∷ bs) =
+    ap not (ap₂ ◌&&◌ (turned 0x52 a) (all (eqb form b) ∙ turned form b))
+    ∙ ap (λ t. t || not (eqb a 0x52 && eqb b form)) (sym (le-ltb (suc (suc (length bs))) 2 (omega arith)))
+  where
+    all : (t : Bool) → (t && true) ≡ t
+    all true = refl
+    all false = refl
+
+    turned : (m n : ℕ) → eqb m n ≡ eqb n m
+    turned m n = go (eqb m n) refl
+      where
+        go : (t : Bool) → eqb m n ≡ t → eqb m n ≡ eqb n m
+        go true e = e ∙ sym (eq-eqb n m (sym (eqb-true m n e)))
+        go false e = e ∙ sym (ne_eqb n m (λ h. absurd (let z = sym e ∙ eq-eqb m n (sym h) in cc)))
 
 -- ---- what the start of a record answers
 
@@ -42,6 +67,16 @@ module _ (form k : ℕ) (bs : List ℕ) where
 
     pub start-n : n ≡ n_byte bs
     start-n = let a = order-answers Refused (N (n_byte bs)) (start_order form k bs) start-clear in cc (e, a)
+
+    -- what is answered for N and the words after it
+    pub start-passed : {A : Type 0} (refuse : ℕ → A) (rest : ℕ → List ℕ → A)
+        → in_order (start_order form k bs) refuse (rest (n_byte bs) (words_after k bs)) ≡ rest n (words_from k (n + 2) (drop 3 bs))
+    start-passed refuse rest =
+        order-answers refuse (rest (n_byte bs) (words_after k bs)) (start_order form k bs) start-clear
+        ∙ ap (λ m. rest m (words_from k (suc (suc m)) (drop 3 bs))) (sym start-n) ∙ ap (λ m. rest n (words_from k m (drop 3 bs))) two
+      where
+        two : suc (suc n) ≡ n + 2
+        two = omega arith
 
   module _ (clear : NoneApplies (start_order form k bs)) where
     pub start-few : n_byte bs ≤ 31

@@ -7,6 +7,5 @@ pub mod DataLaws
 pub mod PutLaws
 pub mod KeepLaws
 pub mod LiveLaws
-pub mod EitherLaws
 pub mod RoundTrip
 pub mod WordsTrip

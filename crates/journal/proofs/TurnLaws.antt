@@ -1,61 +1,106 @@
 -- What one turn of each loop stores or reads. Assumes nothing.
-use mathlib.Core.Path.{◌≡◌, sym, ap, ◌∙◌}
-use mathlib.Core.List.{List, [], ◌∷◌, ◌++◌}
-use Prim.Native.Nat.{ℕ, zero, suc, ◌+◌, ◌-◌, ◌*◌, ◌/◌, ◌%◌, ◌^◌, ◌≤◌, ◌<◌}
-use native.Mathlib.Nat.{lt_of_lt_of_le}
+use mathlib.Core.Path.{◌≡◌, sym, ap, ap₂, ◌∙◌}
+use mathlib.Core.List.{List, [], ◌∷◌, ◌++◌, append-nil, append_assoc}
+use Prim.Native.Nat.{ℕ, zero, suc, ◌+◌, ◌-◌, ◌*◌, ◌≤◌, ◌<◌}
 use native.Mathlib.Numerals.{add-one}
 use native.Mathlib.Omega.{arith}
-use lib.ListN.{length, take, drop, get_or, set, replicate, length-take, length-drop}
-use lib.Seq.{take-suc, drop-cons, get_or-take, get_or-drop, length-take-le, set_at, append_snoc, sets}
-use lib.Pow.{pow_mono}
+use lib.ListN.{length, take, drop, get_or, set, replicate, length-drop}
+use lib.Seq.{take-suc, drop-cons, drop-drop, get_or-drop, length-take-le, set_at, append_snoc, sets, sets-eq}
+use Rattle.std.proofs.lemmas.List.{take-replicate, drop-replicate}
+use borrow.Rule.Slice.PartMut.{put_mid}
+use Rattle.std.specs.Int.{w32, to_be_bytes, from_be_bytes}
 use Rattle.bits.proofs.Stores.{sets-append}
 use Rattle.journal.specs.Bytes.{bytes_of, word_in, written, words_from}
 use Rattle.journal.specs.Forms.{mark, record_with}
-use Rattle.journal.proofs.ByteLaws.{bytes-first, length-bytes, word_lt, word-snoc}
+use Rattle.journal.proofs.ByteLaws.{length-bytes, lowest-bytes, word-snoc, word-behind}
 use Rattle.journal.proofs.WordLaws.{length-words, words_snoc}
 
 -- ---- stores
 
--- the highest of the bytes that are left
-pub store_byte : (l : List ℕ) (next left w : ℕ) → 0 < left
-    → sets l next (bytes_of left w) ≡ sets (set l next (w / 2 ^ (8 * (left - 1)) % 256)) (next + 1) (bytes_of (left - 1) w)
-store_byte l next zero w h = absurd (omega arith)
-store_byte l next (suc k) w h =
-    ap (sets l next) (bytes-first k w)
-    ∙ ap (λ j. sets (set l next (w / 2 ^ (8 * k) % 256)) j (bytes_of k w)) (sym (add-one next))
-    ∙ ap (λ j. sets (set l next (w / 2 ^ (8 * j) % 256)) (next + 1) (bytes_of j w)) lower
+-- a word's lowest bytes
+pub store-lowest : (k : ℕ) (l : List ℕ) (i w : ℕ) {bs : List ℕ} → k ≤ 4 → i + k ≤ length l
+    → bs ≡ take (4 - (4 - k)) (drop (4 - k) (to_be_bytes w32 w)) → put_mid i (i + k - i) l bs ≡ sets l i (bytes_of k w)
+store-lowest k l i w {bs} few h e =
+    ap (put_mid i (i + k - i) l) (e ∙ lowest-bytes k w few)
+    ∙ ap (λ r. take i l ++ (bytes_of k w ++ r)) (drop-drop (i + k - i) i l ∙ ap (λ j. drop j l) past)
+    ∙ sym (sets-eq (bytes_of k w) l i room ∙ append_assoc (take i l) (bytes_of k w) (drop (i + length (bytes_of k w)) l))
   where
-    lower : k ≡ suc k - 1
-    lower = omega arith
+    past : i + (i + k - i) ≡ i + length (bytes_of k w)
+    past = omega (arith, length-bytes k w)
 
--- word i of the first n, and those after it
-pub word_next : (ws : List ℕ) (i n : ℕ) → i < n → n ≤ length ws → drop i (take n ws) ≡ get_or ws i 0 ∷ drop (i + 1) (take n ws)
-word_next ws i n h m = drop-cons (take n ws) i 0 inside ∙ rw (get_or-take n ws i 0 h, add-one i)
-  where
-    inside : i < length (take n ws)
-    inside = omega (arith, length-take-le n ws m)
+    room : i + length (bytes_of k w) ≤ length l
+    room = omega (arith, length-bytes k w)
+
+-- word i of a list, and those after it
+pub word_next : (ws : List ℕ) (i : ℕ) → i < length ws → drop i ws ≡ get_or ws i 0 ∷ drop (i + 1) ws
+word_next ws i h = drop-cons ws i 0 h ∙ rw (add-one i)
+
+pub next_place : (k at i : ℕ) → at + k * i + k ≡ at + k * (i + 1)
+next_place k at i = omega arith
 
 -- the bytes of a word, and what comes behind them
 pub store-next : (k : ℕ) (l rest : List ℕ) (i w : ℕ) → sets l i (bytes_of k w ++ rest) ≡ sets (sets l i (bytes_of k w)) (i + k) rest
 store-next k l rest i w = sets-append (bytes_of k w) rest l i ∙ ap (λ j. sets (sets l i (bytes_of k w)) (i + j) rest) (length-bytes k w)
 
--- the bytes of word i of the first n
-pub store_word : (k : ℕ) (l ws : List ℕ) (next i n : ℕ) → i < n → n ≤ length ws
-    → sets l next (written k (drop i (take n ws))) ≡ sets (sets l next (bytes_of k (get_or ws i 0))) (next + k) (written k (drop (i + 1) (take n ws)))
+-- two lists with the same words left have the same word i, and the same words after it
+pub left_same : (ws vs : List ℕ) (i : ℕ) → drop i ws ≡ drop i vs → get_or ws i 0 ≡ get_or vs i 0
+left_same ws vs i e = ap (λ j. get_or ws j 0) here ∙ sym (get_or-drop i ws 0 0) ∙ ap (λ l. get_or l 0 0) e ∙ get_or-drop i vs 0 0 ∙ ap (λ j. get_or vs j 0) (sym here)
+  where
+    here : i ≡ i + 0
+    here = omega arith
+
+pub left_later : (ws vs : List ℕ) (i : ℕ) → drop i ws ≡ drop i vs → drop (i + 1) ws ≡ drop (i + 1) vs
+left_later ws vs i e = sym (drop-drop 1 i ws) ∙ ap (drop 1) e ∙ drop-drop 1 i vs
+
+-- word i of a list at its place behind those before it
+pub store_turn : (k : ℕ) (l ws : List ℕ) (at i : ℕ) {held : List ℕ} → i < length ws → held ≡ sets l (at + k * i) (bytes_of k (get_or ws i 0))
+    → sets l (at + k * i) (written k (drop i ws)) ≡ sets held (at + k * (i + 1)) (written k (drop (i + 1) ws))
 unfolding written
-store_word k l ws next i n h m =
-    ap (λ r. sets l next (written k r)) (word_next ws i n h m) ∙ store-next k l (written k (drop (i + 1) (take n ws))) next (get_or ws i 0)
+store_turn k l ws at i {held} h e =
+    ap (λ r. sets l (at + k * i) (written k r)) (word_next ws i h) ∙ store-next k l (written k (drop (i + 1) ws)) (at + k * i) (get_or ws i 0)
+    ∙ ap₂ (λ b j. sets b j (written k (drop (i + 1) ws))) (sym e) (next_place k at i)
+
+-- a mark and N, copied to the front
+pub store_start : (l : List ℕ) (form n : ℕ) {bs : List ℕ} → 3 ≤ length l → bs ≡ mark form ++ (n ∷ []) → bs ++ drop 3 l ≡ sets l 0 (mark form ++ (n ∷ []))
+store_start l form n h e = ap (λ r. r ++ drop 3 l) e ∙ sym (sets-eq (mark form ++ (n ∷ [])) l 0 h)
 
 -- a record: its mark and N, word 1, word 2 and the data words, each where the one before ends
-pub store-record : (k : ℕ) (l : List ℕ) (form n first second : ℕ) (ws : List ℕ)
-    → sets (sets (sets (sets l 0 (mark form ++ (n ∷ []))) 3 (bytes_of k first)) (3 + k) (bytes_of k second)) (3 + k + k) (written k ws)
-    ≡ sets l 0 (record_with form k n (first ∷ second ∷ ws))
+pub store-record : (k : ℕ) (l : List ℕ) (form n first second : ℕ) (ws : List ℕ) {l₁ l₂ l₃ l₄ : List ℕ}
+    → l₁ ≡ sets l 0 (mark form ++ (n ∷ [])) → l₂ ≡ sets l₁ 3 (bytes_of k first) → l₃ ≡ sets l₂ (3 + k) (bytes_of k second)
+    → l₄ ≡ sets l₃ (3 + 2 * k) (written k ws) → l₄ ≡ sets l 0 (record_with form k n (first ∷ second ∷ ws))
 unfolding written
-store-record k l form n first second ws =
-    let start = sets l 0 (mark form ++ (n ∷ [])) in
-    sym (store-next k start (bytes_of k second ++ written k ws) 3 first ∙ store-next k (sets start 3 (bytes_of k first)) (written k ws) (3 + k) second)
+store-record k l form n first second ws {l₁ = l₁} {l₂ = l₂} e₁ e₂ e₃ e₄ =
+    e₄ ∙ ap₂ (λ m j. sets m j (written k ws)) e₃ two ∙ sym (store-next k l₂ (written k ws) (3 + k) second)
+    ∙ ap (λ m. sets m (3 + k) (bytes_of k second ++ written k ws)) e₂ ∙ sym (store-next k l₁ (bytes_of k second ++ written k ws) 3 first)
+    ∙ ap (λ m. sets m 3 (bytes_of k first ++ (bytes_of k second ++ written k ws))) e₁
+  where
+    two : 3 + 2 * k ≡ 3 + k + k
+    two = omega arith
 
 -- ---- reads
+
+-- part of bytes are bytes
+part_bytes : (bs : List ℕ) (i k : ℕ) → ((j : ℕ) → get_or bs j 0 < 256) → (j : ℕ) → get_or (take k (drop i bs)) j 0 < 256
+part_bytes bs i k b = front k (drop i bs) (λ j. rw (get_or-drop i bs j 0) (b (i + j)))
+  where
+    front : (k : ℕ) (ys : List ℕ) → ((j : ℕ) → get_or ys j 0 < 256) → (j : ℕ) → get_or (take k ys) j 0 < 256
+    front zero ys b j = omega arith
+    front (suc k) [] b j = omega arith
+    front (suc k) (y ∷ ys) b zero = b 0
+    front (suc k) (y ∷ ys) b (suc j) = front k ys (λ m. b (suc m)) j
+
+-- a word of up to four bytes
+pub read-word : (k : ℕ) (bs : List ℕ) (i : ℕ) {ys : List ℕ} → k ≤ 4 → i + k ≤ length bs → ((j : ℕ) → get_or bs j 0 < 256)
+    → ys ≡ take (i + k - i) (drop i bs) → from_be_bytes w32 (put_mid (4 - k) (4 - (4 - k)) (replicate 4 0) ys) ≡ word_in (take k (drop i bs))
+read-word k bs i {ys} few h b e =
+    ap₂ (λ j zs. from_be_bytes w32 (put_mid (4 - j) (4 - (4 - j)) (replicate 4 0) zs)) (sym long) (e ∙ ap (λ j. take j (drop i bs)) past)
+    ∙ word-behind (take k (drop i bs)) (part_bytes bs i k b) (omega (arith, long))
+  where
+    past : i + k - i ≡ k
+    past = omega arith
+
+    long : length (take k (drop i bs)) ≡ k
+    long = length-take-le k (drop i bs) (omega (arith, length-drop i bs))
 
 -- the next byte of a word
 pub word_more : (bs : List ℕ) (from i : ℕ) → from + i < length bs → get_or bs (from + i) 0 < 256
@@ -69,13 +114,6 @@ word_more bs from i h b =
     last : take (i + 1) (drop from bs) ≡ take i (drop from bs) ++ (get_or bs (from + i) 0 ∷ [])
     last = rw (add-one i, sym (get_or-drop from bs i 0)) (take-suc (drop from bs) i 0 inside)
 
--- up to three bytes leave room for one more
-pub word_small : (i : ℕ) (bs : List ℕ) → i < 4 → word_in (take i bs) < 2 ^ 24
-word_small i bs h = lt_of_lt_of_le (word_lt (take i bs)) (pow_mono short)
-  where
-    short : 8 * length (take i bs) ≤ 24
-    short = omega (arith, length-take i bs)
-
 -- the next number of an array that is 0 from there on
 pub filled : (ws : List ℕ) (m i v : ℕ) → length ws ≡ i → i < m → set (ws ++ replicate (m - i) 0) i v ≡ (ws ++ (v ∷ [])) ++ replicate (m - (i + 1)) 0
 filled ws m i v l h =
@@ -84,9 +122,30 @@ filled ws m i v l h =
     lower : m - i ≡ suc (m - (i + 1))
     lower = omega arith
 
+-- the first n of an array of zeros, of which none, and then all, are written
+pub fill_start : (m n : ℕ) → n ≤ m → take {A = ℕ} n (replicate m 0) ≡ replicate (n - 0) 0
+fill_start m n few = take-replicate n m 0 few ∙ ap (λ j. replicate j 0) none
+  where
+    none : n ≡ n - 0
+    none = omega arith
+
+pub fill-end : (f : ℕ → List ℕ) (m n i : ℕ) (ws : List ℕ) → i ≡ n → ws ≡ f i ++ replicate (n - i) 0
+    → ws ++ drop {A = ℕ} n (replicate m 0) ≡ f n ++ replicate (m - n) 0
+fill-end f m n i ws all e =
+    ap₂ ◌++◌ (e ∙ ap₂ (λ j k. f j ++ replicate k 0) all none ∙ append-nil (f n)) (drop-replicate n m 0)
+  where
+    none : n - i ≡ 0
+    none = omega arith
+
 -- the next word of such an array
 pub word-filled : (k m i : ℕ) (bs : List ℕ) → i < m
     → set (words_from k i bs ++ replicate (m - i) 0) i (word_in (take k (drop (k * i) bs))) ≡ words_from k (i + 1) bs ++ replicate (m - (i + 1)) 0
 word-filled k m i bs h =
     filled (words_from k i bs) m i (word_in (take k (drop (k * i) bs))) (length-words k i bs) h
     ∙ ap (λ ws. ws ++ replicate (m - (i + 1)) 0) (sym (words_snoc k i bs) ∙ ap (λ j. words_from k j bs) (sym (add-one i)))
+
+-- the same in a loop that reads word i from its place behind those before it
+pub fill_turn : (k n at i : ℕ) (bs ws : List ℕ) {w : ℕ} → i < n → ws ≡ words_from k i (drop at bs) ++ replicate (n - i) 0
+    → w ≡ word_in (take k (drop (at + k * i) bs)) → set ws i w ≡ words_from k (i + 1) (drop at bs) ++ replicate (n - (i + 1)) 0
+fill_turn k n at i bs ws h e v =
+    ap₂ (λ r w. set r i w) e (v ∙ ap (λ r. word_in (take k r)) (sym (drop-drop (k * i) at bs))) ∙ word-filled k n i (drop at bs) h

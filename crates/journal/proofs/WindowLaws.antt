@@ -2,30 +2,27 @@
 -- Assumes nothing.
 use mathlib.Core.Path.{◌≡◌, refl, sym, ap, ap₂, ◌∙◌}
 use mathlib.Core.Bool.{true, false}
-use mathlib.Core.List.{List, [], ◌∷◌, ◌++◌, map}
-use Prim.Native.Nat.{ℕ, zero, suc, ◌+◌, ◌-◌, ◌*◌, ◌/◌, ◌%◌, ◌^◌, ◌≤◌, ◌<◌}
+use mathlib.Core.List.{List, [], ◌∷◌, ◌++◌, map, append-nil}
+use Prim.Native.Nat.{ℕ, zero, suc, ◌+◌, ◌/◌, ◌%◌, ◌^◌, ◌≤◌, ◌<◌}
 use native.Mathlib.Nat.{mod-eq_of_lt}
-use native.Mathlib.Numerals.{add-one}
 use native.Mathlib.Omega.{arith}
 use lib.Dec.{eqb}
-use lib.ListN.{length, take, drop, get_or, set, replicate}
-use lib.Seq.{sets, drop-drop}
+use lib.ListN.{length, take, drop, get_or, set, replicate, drop_of_length-le}
+use lib.Seq.{append_snoc, take_all, length-take-le, drop-set-lt, set_at}
+use Rattle.std.proofs.lemmas.List.{take_more, take_more_set, get_or_at}
 use borrow.Author.Tests.{eqb-true, not-false, eq-eqb, ne_eqb}
+use Rattle.std.specs.Prelude.{Ok}
 use Rattle.bits.specs.Bits.{bits, number}
 use Rattle.bits.specs.Fields.{Fit}
 use Rattle.bits.proofs.Numbers.{length-bits, number-bits, number_lt, bits-number, bits-append, bits-split}
 use Rattle.word.specs.Word.{d29*, d30*, data_of, passes, sent}
 use Rattle.word.specs.Answer.{sent_at, word_of}
-use Rattle.word.specs.declared.Sent.TheVariants.{Word}
 use Rattle.word.proofs.Computes.{word-answers}
 use Rattle.word.proofs.Sending.{length-sent, data-number, data-sent, passes-sent, only-sent}
 use Rattle.frame.specs.Frames.{Below}
 use Rattle.frame.proofs.WidthLaws.{both_false}
-use Rattle.journal.specs.Bytes.{bytes_of, word_in, written, words_from}
-use Rattle.journal.specs.Forms.{mark, record_with}
 use Rattle.journal.specs.Words.{window_of, windows_from, data_in, broken_after}
-use Rattle.journal.proofs.WordLaws.{length-words, words_snoc}
-use Rattle.journal.proofs.TurnLaws.{word_next, store-next, store-record, filled}
+use Rattle.journal.proofs.TurnLaws.{word_next}
 
 -- ---- one word
 
@@ -36,11 +33,7 @@ pub window-lt : (c w : ℕ) → c < 4 → window_of c w < 2 ^ 32
 unfolding window_of
 window-lt c w h = omega (arith, sent-lt c w)
 
--- the bits that it carries on, and those before it
-pub window-last : (c w : ℕ) → number (sent_at c w) % 4 ≡ window_of c w % 4
-unfolding window_of
-window-last c w = omega arith
-
+-- the bits before it
 pub window-first : (c w : ℕ) → window_of c w / 2 ^ 30 ≡ c
 unfolding window_of
 window-first c w = omega (arith, sent-lt c w)
@@ -65,7 +58,7 @@ window-data c w h =
     ∙ number-bits 24 w ∙ mod-eq_of_lt h
 
 -- the thirty bits that the encoder answers
-pub sent-told : (c w n : ℕ) → c < 4 → w < 2 ^ 24 → word_of c w ≡ Word n → n ≡ number (sent_at c w)
+pub sent-told : (c w n : ℕ) → c < 4 → w < 2 ^ 24 → word_of c w ≡ Ok n → n ≡ number (sent_at c w)
 sent-told c w n hc hw e = let answered = word-answers c w hc hw in cc (answered, e)
 
 -- what passes is its data sent after its own carried bits
@@ -93,37 +86,22 @@ window-again v h p =
 
 -- ---- what one turn stores, finds or reads
 
--- word i of the first n, after the bits c
-pub store-window : (l ws : List ℕ) (c next i n : ℕ) → i < n → n ≤ length ws
-    → sets l next (written 4 (windows_from c (drop i (take n ws))))
-    ≡ sets (sets l next (bytes_of 4 (window_of c (get_or ws i 0)))) (next + 4) (written 4 (windows_from (window_of c (get_or ws i 0) % 4) (drop (i + 1) (take n ws))))
-unfolding written windows_from
-store-window l ws c next i n h m =
-    ap (λ r. sets l next (written 4 (windows_from c r))) (word_next ws i n h m)
-    ∙ store-next 4 l (written 4 (windows_from (window_of c (get_or ws i 0) % 4) (drop (i + 1) (take n ws)))) next (window_of c (get_or ws i 0))
-
--- a record: its start, word 1 after the bits c, word 2 and the data words each after what the one before carried on
-pub store-live : (l : List ℕ) (c n first second : ℕ) (ws : List ℕ) {l₁ l₂ l₃ l₄ : List ℕ} {c₁ c₂ : ℕ} → l₁ ≡ sets l 0 (mark 0x34 ++ (n ∷ []))
-    → (c₁ ≡ window_of c first % 4) × (l₂ ≡ sets l₁ 3 (bytes_of 4 (window_of c first)))
-    → (c₂ ≡ window_of c₁ second % 4) × (l₃ ≡ sets l₂ 7 (bytes_of 4 (window_of c₁ second)))
-    → l₄ ≡ sets l₃ 11 (written 4 (windows_from c₂ ws)) → l₄ ≡ sets l 0 (record_with 0x34 4 n (windows_from c (first ∷ second ∷ ws)))
+-- the next word of a list sent in its place, after the bits k
+pub send_turn : (ws : List ℕ) (k i : ℕ) {v : ℕ} {sent : List ℕ} → i < length ws → sent ≡ take i ws ++ windows_from k (drop i ws)
+    → v ≡ window_of k (get_or ws i 0) → sent ≡ take (i + 1) (set ws i v) ++ windows_from (v % 4) (drop (i + 1) (set ws i v))
 unfolding windows_from
-store-live l c n first second ws {c₁ = c₁} {c₂ = c₂} e₁ e₂ e₃ e₄ =
-    e₄ ∙ ap (λ m. sets m 11 (written 4 (windows_from c₂ ws))) (e₃.1 ∙ ap (λ m. sets m 7 (bytes_of 4 (window_of c₁ second))) (e₂.1
-    ∙ ap (λ m. sets m 3 (bytes_of 4 (window_of c first))) e₁))
-    ∙ store-record 4 l 0x34 n (window_of c first) (window_of c₁ second) (windows_from c₂ ws)
-    ∙ ap (λ k. sets l 0 (record_with 0x34 4 n (window_of c first ∷ window_of c₁ second ∷ windows_from k ws))) e₃.0
-    ∙ ap (λ k. sets l 0 (record_with 0x34 4 n (window_of c first ∷ window_of k second ∷ windows_from (window_of k second % 4) ws))) e₂.0
+send_turn ws k i {v} h e ev =
+    let later = drop (i + 1) ws in
+    let first = window_of k (get_or ws i 0) in
+    e ∙ ap (λ r. take i ws ++ windows_from k r) (word_next ws i h)
+    ∙ sym (append_snoc (take i ws) first (windows_from (first % 4) later))
+    ∙ ap (λ w. (take i ws ++ (w ∷ [])) ++ windows_from (w % 4) later) (sym ev)
+    ∙ ap₂ (λ a b. a ++ windows_from (v % 4) b) (sym (take_more_set ws i v h)) (sym (drop-set-lt (i + 1) ws i v (omega arith)))
 
--- the next of the words that are left
-pub left-first : (n i next : ℕ) (bs : List ℕ) → i < n
-    → words_from 4 (n - i) (drop next bs) ≡ word_in (take 4 (drop next bs)) ∷ words_from 4 (n - (i + 1)) (drop (next + 4) bs)
-unfolding words_from
-left-first n i next bs h =
-    ap (λ j. words_from 4 j (drop next bs)) lower ∙ ap (λ r. word_in (take 4 (drop next bs)) ∷ words_from 4 (n - (i + 1)) r) (drop-drop 4 next bs)
-  where
-    lower : n - i ≡ suc (n - (i + 1))
-    lower = omega arith
+pub send_all : (ws : List ℕ) (k i : ℕ) {sent : List ℕ} → length ws ≤ i → sent ≡ take i ws ++ windows_from k (drop i ws) → ws ≡ sent
+unfolding windows_from
+send_all ws k i h e =
+    sym (e ∙ ap₂ (λ a b. a ++ windows_from k b) (take_all i ws h) (drop_of_length-le ws {i = i} h) ∙ append-nil ws)
 
 module _ (c v : ℕ) (vs : List ℕ) where
   pub pair-differs : (v / 2 ^ 30 ≡ c → ⊥) → broken_after c (v ∷ vs) ≡ true
@@ -150,15 +128,31 @@ length-map f (x ∷ a) = ap suc (length-map f a)
 pub length-data : (vs : List ℕ) → length (data_in vs) ≡ length vs
 length-data vs = length-map (λ v. number (data_of (bits 32 v))) vs
 
--- the data of the next word of an array that is 0 from there on
-pub data-filled : (m i : ℕ) (bs : List ℕ) → i < m
-    → set (data_in (words_from 4 i bs) ++ replicate (m - i) 0) i (number (data_of (bits 32 (word_in (take 4 (drop (4 * i) bs))))))
-    ≡ data_in (words_from 4 (i + 1) bs) ++ replicate (m - (i + 1)) 0
-data-filled m i bs h =
-    filled (data_in (words_from 4 i bs)) m i _ (length-data (words_from 4 i bs) ∙ length-words 4 i bs) h
-    ∙ ap (λ ws. ws ++ replicate (m - (i + 1)) 0)
-    (sym (map_snoc (λ v. number (data_of (bits 32 v))) (words_from 4 i bs) (word_in (take 4 (drop (4 * i) bs))))
-    ∙ ap data_in (sym (words_snoc 4 i bs) ∙ ap (λ j. words_from 4 j bs) (sym (add-one i))))
+-- the next of some words turned into its data in its place
+pub data_turn : (ws held : List ℕ) (i : ℕ) {w : ℕ} → i < length ws → held ≡ data_in (take i ws) ++ drop i ws
+    → w ≡ number (data_of (bits 32 (get_or held i 0))) → set held i w ≡ data_in (take (i + 1) ws) ++ drop (i + 1) ws
+data_turn ws held i {w} h e ew =
+    ap (λ l. set l i w) split ∙ set_at front (get_or ws i 0) later w i long ∙ sym (append_snoc front w later)
+    ∙ ap (λ l. l ++ later) (ap (λ x. front ++ (x ∷ [])) same
+    ∙ sym (map_snoc (λ v. number (data_of (bits 32 v))) (take i ws) (get_or ws i 0)) ∙ ap data_in (sym (take_more ws i 0 h)))
+  where
+    front : List ℕ
+    front = data_in (take i ws)
+
+    later : List ℕ
+    later = drop (i + 1) ws
+
+    long : length (data_in (take i ws)) ≡ i
+    long = length-data (take i ws) ∙ length-take-le i ws (omega arith)
+
+    split : held ≡ data_in (take i ws) ++ (get_or ws i 0 ∷ drop (i + 1) ws)
+    split = e ∙ ap (λ r. data_in (take i ws) ++ r) (word_next ws i h)
+
+    same : w ≡ number (data_of (bits 32 (get_or ws i 0)))
+    same = ew ∙ ap (λ v. number (data_of (bits 32 v))) (ap (λ l. get_or l i 0) split ∙ get_or_at (data_in (take i ws)) (get_or ws i 0) (drop (i + 1) ws) 0 i long)
+
+pub data_all : (ws held : List ℕ) (i : ℕ) → length ws ≤ i → held ≡ data_in (take i ws) ++ drop i ws → held ≡ data_in ws
+data_all ws held i h e = e ∙ ap₂ (λ a b. data_in a ++ b) (take_all i ws h) (drop_of_length-le ws {i = i} h) ∙ append-nil (data_in ws)
 
 -- ---- words and what is kept of them are inverse
 

@@ -1,8 +1,28 @@
-// What every form of record shares: a mark, N, and bytes for each of the N + 2 words. A form is the second byte of its mark.
-ghost use Rattle.std.specs.Prelude.{◌≡◌, [], ◌∷◌, ◌++◌, ◌+◌, ◌≤◌, length, take, drop};
+// What every form of record shares: a mark, N, and bytes for each of the N + 2 words.
+ghost use Rattle.std.specs.Prelude.{◌≡◌, ◌∷◌, ◌++◌, ◌+◌, ◌-◌, ◌≤◌, length, take, drop, replicate};
 ghost use Rattle.std.proofs.lemmas.List.Edits.{sets};
-ghost use Rattle.journal.specs.Bytes.{bytes_of, word_in};
-ghost use Rattle.journal.specs.Forms.{mark, unmarked, start_by};
+ghost use Rattle.journal.specs.Bytes.{bytes_of, word_in, words_from};
+ghost use Rattle.journal.specs.Forms.{record_with, length_with, unmarked, start_by};
+
+// A form of record: the second byte of its mark, and its bytes a word.
+#[derive(Clone, Copy)]
+pub(crate) struct Form {
+    pub byte: u8,
+    pub size: usize,
+    ghost few: { size ≤ 4 },
+}
+
+// The form that keeps the data of the words.
+pub(crate) const DATA: Form = Form {
+    byte: 0x32,
+    size: 3,
+};
+
+// The form that keeps the words: each as its two carried bits and its thirty, so that parity can tell what a disk altered.
+pub(crate) const WORDS: Form = Form {
+    byte: 0x34,
+    size: 4,
+};
 
 // N of a whole record, or the refusal's number.
 #[derive(Clone, Copy)]
@@ -14,74 +34,77 @@ pub(crate) enum Start {
 // The first byte of every mark.
 const MARK: u8 = 0x52;
 
-// Writes the mark and N.
-pub(crate) fn put_start(form: u8, n: usize, buffer: &mut [u8])
-    requires { (n ≤ 31) × (3 ≤ length buffer.old) }
-    ensures { buffer.new ≡ sets buffer.old 0 (mark form ++ (n ∷ [])) }
-{
-    buffer[0] = MARK;
-    buffer[1] = form;
-    buffer[2] = n as u8;
-}
-
-// Writes a word's bytes from `at` on, highest bits first.
-pub(crate) fn put_word(word: u32, size: usize, at: usize, buffer: &mut [u8])
+// Writes a word's lowest bytes from `at` on, highest bits first.
+fn put_word(word: u32, size: usize, at: usize, buffer: &mut [u8])
     requires { (size ≤ 4) × (at + size ≤ length buffer.old) }
     ensures { buffer.new ≡ sets buffer.old at (bytes_of size word) }
 {
-    let mut left = size;
-    let mut next = at;
-    while left > 0 {
-        left -= 1;
-        buffer[next] = ((word >> (8 * left)) % 256) as u8;
-        next += 1;
-    }
-}
-
-// The bytes do not begin with this form's mark.
-fn is_unmarked(form: u8, bytes: &[u8]) -> bool
-    ensures { result ≡ unmarked form bytes.now }
-{
-    if bytes.len() < 2 {
-        return true;
-    }
-    if bytes[0] != MARK {
-        return true;
-    }
-    bytes[1] != form
-}
-
-// N of the record of this form at the start of the bytes. Order 14, 15, 16, 15.
-pub(crate) fn start_of(form: u8, size: usize, bytes: &[u8]) -> Start
-    requires { size ≤ 4 }
-    ensures { result ≡ start_by form size bytes.now }
-{
-    if is_unmarked(form, bytes) {
-        return Start::Refused(14);
-    }
-    if bytes.len() < 3 {
-        return Start::Refused(15);
-    }
-    let n = bytes[2] as usize;
-    if n > 31 {
-        return Start::Refused(16);
-    }
-    if bytes.len() < size * n + (2 * size + 3) {
-        return Start::Refused(15);
-    }
-    Start::N(n)
+    buffer[at..at + size].copy_from_slice(&word.to_be_bytes()[4 - size..]);
 }
 
 // The word whose bytes stand from `at` on.
-pub(crate) fn word_at(size: usize, at: usize, bytes: &[u8]) -> u32
+fn word_at(size: usize, at: usize, bytes: &[u8]) -> u32
     requires { (size ≤ 4) × (at + size ≤ length bytes.now) }
     ensures { result ≡ word_in (take size (drop at bytes.now)) }
 {
-    let mut word: u32 = 0;
-    let mut i = 0;
-    while i < size {
-        word = word * 256 + bytes[at + i] as u32;
-        i += 1;
+    let mut word = [0; 4];
+    word[4 - size..].copy_from_slice(&bytes[at..at + size]);
+    u32::from_be_bytes(word)
+}
+
+impl Form {
+    // Writes a record of N and its words from the buffer's start on.
+    pub(crate) fn put(self, first: u32, second: u32, words: &[u32], buffer: &mut [u8])
+        requires { (length words.now ≤ 31) × (length_with self.size (length words.now) ≤ length buffer.old) }
+        ensures { buffer.new
+            ≡ sets buffer.old 0 (record_with self.byte self.size (length words.now) (first ∷ second ∷ words.now)) }
+    {
+        let size = self.size;
+        buffer[..3].copy_from_slice(&[MARK, self.byte, words.len() as u8]);
+        put_word(first, size, 3, buffer);
+        put_word(second, size, 3 + size, buffer);
+        for (i, word) in words.iter().enumerate() {
+            put_word(*word, size, 3 + 2 * size + size * i, buffer);
+        }
     }
-    word
+
+    // The bytes do not begin with this form's mark.
+    fn is_unmarked(self, bytes: &[u8]) -> bool
+        ensures { result ≡ unmarked self.byte bytes.now }
+    {
+        !bytes.starts_with(&[MARK, self.byte])
+    }
+
+    // N of the record of this form at the start of the bytes. Order 14, 15, 16, 15.
+    pub(crate) fn start_of(self, bytes: &[u8]) -> Start
+        ensures { result ≡ start_by self.byte self.size bytes.now }
+    {
+        if self.is_unmarked(bytes) {
+            return Start::Refused(14);
+        }
+        if bytes.len() < 3 {
+            return Start::Refused(15);
+        }
+        let n = bytes[2] as usize;
+        if n > 31 {
+            return Start::Refused(16);
+        }
+        if bytes.len() < self.size * n + (2 * self.size + 3) {
+            return Start::Refused(15);
+        }
+        Start::N(n)
+    }
+
+    // The N + 2 words of a whole record; zeros past them.
+    pub(crate) fn words_at(self, n: usize, bytes: &[u8]) -> [u32; 33]
+        requires { (n ≤ 31) × (length_with self.size n ≤ length bytes.now) }
+        ensures { result ≡ words_from self.size (n + 2) (drop 3 bytes.now) ++ replicate (31 - n) 0 }
+    {
+        let size = self.size;
+        let mut words = [0; 33];
+        for (i, word) in words[..n + 2].iter_mut().enumerate() {
+            *word = word_at(size, 3 + size * i, bytes);
+        }
+        words
+    }
 }

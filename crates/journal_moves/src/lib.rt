@@ -87,6 +87,7 @@ pub fn move_all(way: Way, bytes: &[u8], buffer: &mut [u8]) -> Piece
 {
     let mut read: usize = 0;
     let mut written: usize = 0;
+    // kept: records have lengths of their own, so no count and no iterator over the bytes gives the turns
     while read < bytes.len() {
         match move_one(way, &bytes[read..], &mut buffer[written..]) {
             Moved::Done {

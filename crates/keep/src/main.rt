@@ -12,144 +12,94 @@ const STDOUT: i32 = 1;
 // The file number of standard error.
 const STDERR: i32 = 2;
 
-// How a step of the run ended: it goes on, the input is at its end, or a call of the system failed.
-#[derive(Clone, Copy)]
-enum Step {
-    More,
-    End,
-    Failed,
+// What the system failed with.
+#[derive(Clone, Copy, Debug, PartialEq, Eq)]
+enum Failure {
+    Line,
+    Journal,
 }
 
-// What a step left.
-#[derive(Clone, Copy)]
-struct Stepped {
-    step: Step,
-    reader: Reader,
+// Says what failed.
+fn say(failure: Failure) {
+    let words: &[u8] = match failure {
+        Failure::Line => b"keep: the line cannot be read\n",
+        Failure::Journal => b"keep: the journal cannot be written\n",
+    };
+    io::write_all(STDERR, words);
 }
 
-// Writes a frame's record, or says that it cannot. No frame that is handed out is refused, and the longest record has 135 bytes.
-fn keep_frame(frame: Frame) -> bool {
+// Writes a frame's record. No frame that is handed out is refused, and the longest record has 135 bytes.
+fn keep_frame(frame: Frame) -> Result<(), Failure> {
     let mut record = [0u8; 135];
     let Kept::Done(length) = journal::keep_words(frame, &mut record) else {
-        return true;
+        return Ok(());
     };
     if length > 135 {
-        return true;
+        return Ok(());
     }
-    let is_written = io::write_all(STDOUT, &record[..length]);
-    if !is_written {
-        io::write_all(STDERR, b"keep: the journal cannot be written\n");
+    if io::write_all(STDOUT, &record[..length]) {
+        Ok(())
+    } else {
+        Err(Failure::Journal)
     }
-    is_written
 }
 
-// Takes the frames that wait and keeps them, until none waits.
-fn keep_waiting(reader: Reader) -> Stepped {
+// Takes the frames that wait and keeps them, until none waits. The turns are counted up to a number that no run uses up.
+fn keep_waiting(reader: Reader) -> Result<Reader, Failure> {
     let mut state = reader;
-    let mut turns = u64::MAX;
-    while turns > 0 {
-        turns -= 1;
+    for _ in 0..u64::MAX {
         let took = reader::take(state);
         let answer = took.answer;
         state = took.reader;
         let Answer::Done = answer else {
-            return Stepped {
-                step: Step::More,
-                reader: state,
-            };
+            break;
         };
-        if !keep_frame(took.frame) {
-            return Stepped {
-                step: Step::Failed,
-                reader: state,
-            };
-        }
+        keep_frame(took.frame)?;
     }
-    Stepped {
-        step: Step::Failed,
-        reader: state,
-    }
+    Ok(state)
 }
 
-// Feeds bytes, and keeps each frame before any byte behind it is fed.
-fn keep_bytes(reader: Reader, bytes: &[u8]) -> Stepped {
+// Feeds bytes, and keeps each frame before any byte behind it is fed. A reader whose frames are taken uses a byte at least of those that it is fed.
+fn keep_bytes(reader: Reader, bytes: &[u8]) -> Result<Reader, Failure> {
     let mut state = reader;
-    let mut from: usize = 0;
-    while from < bytes.len() {
-        let fed = reader::feed_all(state, &bytes[from..]);
-        let used = fed.used;
-        let kept = keep_waiting(fed.reader);
-        let step = kept.step;
-        state = kept.reader;
-        let Step::More = step else {
-            return Stepped {
-                step,
-                reader: state,
-            };
-        };
-        // a reader whose frames are taken uses some of the bytes that it is fed
-        if used > bytes.len() - from {
-            return Stepped {
-                step: Step::Failed,
-                reader: state,
-            };
+    let mut rest = bytes;
+    for _ in 0..bytes.len() {
+        let fed = reader::feed_all(state, rest);
+        state = keep_waiting(fed.reader)?;
+        rest = rest.get(fed.used..).unwrap_or_default();
+        if rest.is_empty() {
+            break;
         }
-        if used == 0 {
-            return Stepped {
-                step: Step::Failed,
-                reader: state,
-            };
-        }
-        from += used;
     }
-    Stepped {
-        step: Step::More,
-        reader: state,
-    }
+    Ok(state)
 }
 
-// Reads once, and keeps the frames that what came completes.
-fn keep_some(mut line: Stdin, reader: Reader) -> Stepped {
+// Reads once, and keeps the frames that what came completes; none where the input is at its end.
+fn keep_some(mut line: Stdin, reader: Reader) -> Result<Option<Reader>, Failure> {
     let mut input = io::large_buffer();
-    let Ok(n) = line.read(&mut input) else {
-        io::write_all(STDERR, b"keep: the line cannot be read\n");
-        return Stepped {
-            step: Step::Failed,
-            reader,
-        };
-    };
+    let n = line.read(&mut input).map_err(|_| Failure::Line)?;
     if n == 0 {
-        return Stepped {
-            step: Step::End,
-            reader,
-        };
+        return Ok(None);
     }
-    keep_bytes(reader, &input[..n])
+    keep_bytes(reader, &input[..n]).map(Some)
 }
 
-// Keeps all of standard input. The turns are counted down from a number that no run uses up.
-fn keep_all(line: Stdin) {
+// Keeps all of standard input, and the frames that its end releases.
+fn keep_all(line: Stdin) -> Result<(), Failure> {
     let mut state = reader::new();
-    let mut turns = u64::MAX;
-    while turns > 0 {
-        turns -= 1;
-        let stepped = keep_some(line, state);
-        let step = stepped.step;
-        state = stepped.reader;
-        match step {
-            Step::More => {}
-            Step::End => {
-                let ended = reader::end(state);
-                keep_waiting(ended.reader);
-                return;
-            }
-            Step::Failed => {
-                return;
-            }
-        }
+    for _ in 0..u64::MAX {
+        let Some(next) = keep_some(line, state)? else {
+            let ended = reader::end(state);
+            keep_waiting(ended.reader)?;
+            return Ok(());
+        };
+        state = next;
     }
+    Ok(())
 }
 
 fn main(rt: HostRuntime) {
-    keep_all(rt.stdin());
+    if let Err(failure) = keep_all(rt.stdin()) {
+        say(failure);
+    }
 }

@@ -4,9 +4,10 @@ use mathlib.Core.List.{[], ◌∷◌, map}
 use Rattle.bits.specs.Bits.{bits, number}
 use Rattle.line.specs.Line.{six}
 use Rattle.line.specs.Answer.{six_of}
-use Rattle.line.specs.declared.Six.TheVariants.{Bits, Refused}
+use Rattle.std.specs.Prelude.{Ok, Err}
+use Rattle.answer.specs.declared.Refusal.TheVariants.{NoDataByte}
 
 pub worked-sixes : map six_of (0x40 ∷ 0x41 ∷ 0x60 ∷ 0x66 ∷ 0x7F ∷ 0x59 ∷ 0x3F ∷ 0x80 ∷ [])
-    ≡ Bits 0b000000 ∷ Bits 0b100000 ∷ Bits 0b000001 ∷ Bits 0b011001 ∷ Bits 0b111111 ∷ Bits 0b100110 ∷ Refused 1 ∷ Refused 1 ∷ []
+    ≡ Ok 0b000000 ∷ Ok 0b100000 ∷ Ok 0b000001 ∷ Ok 0b011001 ∷ Ok 0b111111 ∷ Ok 0b100110 ∷ Err NoDataByte ∷ Err NoDataByte ∷ []
 unfolding bits number six
 worked-sixes = refl

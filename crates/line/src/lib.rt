@@ -6,12 +6,7 @@ ghost use Rattle.bits.specs.Bits.{bits, number};
 ghost use Rattle.line.specs.Line.{byte_of};
 ghost use Rattle.line.specs.Answer.{six_of};
 
-// The six line bits of a byte as a number, the first sent highest; or the refusal's number.
-#[derive(Clone, Copy)]
-pub enum Six {
-    Bits(u32),
-    Refused(u8),
-}
+use answer::Refusal;
 
 // The six lowest bits in the other order, one step for each: a byte has the first sent lowest, a number highest.
 fn mirrored(x: u32) -> u32
@@ -28,14 +23,14 @@ fn mirrored(x: u32) -> u32
     first * 32 + second * 16 + third * 8 + fourth * 4 + fifth * 2 + sixth
 }
 
-// The line bits of a byte, in the order sent (`mirrored`); one without top bits 01 carries none.
-pub fn six_of(byte: u8) -> Six
+// The line bits of a byte as a number, the first sent highest; one without top bits 01 carries none. Refusal: 1.
+pub fn six_of(byte: u8) -> Result<u32, Refusal>
     ensures { result ≡ six_of byte }
 {
     if byte / 64 != 1 {
-        return Six::Refused(1);
+        return Err(Refusal::NoDataByte);
     }
-    Six::Bits(mirrored(byte as u32))
+    Ok(mirrored(byte as u32))
 }
 
 // The data byte that carries the six lowest bits of `six`.

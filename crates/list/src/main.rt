@@ -10,110 +10,79 @@ const STDOUT: i32 = 1;
 // The file number of standard error.
 const STDERR: i32 = 2;
 
-// How a step of the run ended: it goes on, the input is at its end, or a call of the system failed.
-#[derive(Clone, Copy)]
-enum Step {
-    More,
-    End,
-    Failed,
+// What the system failed with.
+#[derive(Clone, Copy, Debug, PartialEq, Eq)]
+enum Failure {
+    Input,
+    Output,
 }
 
-// What a step left.
-#[derive(Clone, Copy)]
-struct Stepped {
-    step: Step,
-    listing: Listing,
+// Says what failed.
+fn say(failure: Failure) {
+    let words: &[u8] = match failure {
+        Failure::Input => b"list: the input cannot be read\n",
+        Failure::Output => b"list: the output cannot be written\n",
+    };
+    io::write_all(STDERR, words);
 }
 
-// Writes text to standard output, or says that it cannot.
-fn print_text(text: &[u8]) -> bool {
-    let is_written = io::write_all(STDOUT, text);
-    if !is_written {
-        io::write_all(STDERR, b"list: the output cannot be written\n");
+// Writes text to standard output.
+fn print_text(text: &[u8]) -> Result<(), Failure> {
+    if io::write_all(STDOUT, text) {
+        Ok(())
+    } else {
+        Err(Failure::Output)
     }
-    is_written
 }
 
 // Lists bytes, and prints their text each time that the buffer has no room for more.
-fn list_bytes(listing: Listing, bytes: &[u8]) -> Stepped {
+fn list_bytes(listing: Listing, bytes: &[u8]) -> Result<Listing, Failure> {
     let mut text = io::large_buffer();
     let mut state = listing;
     let mut from: usize = 0;
-    let mut turns = u64::MAX;
-    while turns > 0 {
-        turns -= 1;
+    for _ in 0..u64::MAX {
         let listed = listing::list_piece(state, &bytes[from..], &mut text);
         from += listed.used;
-        let written = listed.written;
         state = listed.listing;
-        if written == 0 {
-            return Stepped {
-                step: Step::More,
-                listing: state,
-            };
+        if listed.written == 0 {
+            break;
         }
-        if !print_text(&text[..written]) {
-            return Stepped {
-                step: Step::Failed,
-                listing: state,
-            };
-        }
+        print_text(&text[..listed.written])?;
     }
-    Stepped {
-        step: Step::Failed,
-        listing: state,
-    }
+    Ok(state)
 }
 
-// Reads once, and lists what came.
-fn list_some(mut stream: Stdin, listing: Listing) -> Stepped {
+// Reads once, and lists what came; none where the input is at its end.
+fn list_some(mut stream: Stdin, listing: Listing) -> Result<Option<Listing>, Failure> {
     let mut input = io::large_buffer();
-    let Ok(n) = stream.read(&mut input) else {
-        io::write_all(STDERR, b"list: the input cannot be read\n");
-        return Stepped {
-            step: Step::Failed,
-            listing,
-        };
-    };
+    let n = stream.read(&mut input).map_err(|_| Failure::Input)?;
     if n == 0 {
-        return Stepped {
-            step: Step::End,
-            listing,
-        };
+        return Ok(None);
     }
-    list_bytes(listing, &input[..n])
+    list_bytes(listing, &input[..n]).map(Some)
 }
 
 // Prints the lines that the end releases, and the last line.
-fn print_end(listing: Listing) {
+fn print_end(listing: Listing) -> Result<(), Failure> {
     let mut text = io::buffer();
     let listed = listing::finish(listing, &mut text);
-    let written = listed.written;
-    print_text(&text[..written]);
+    print_text(&text[..listed.written])
 }
 
-// Lists all of standard input. The turns are counted down from a number that no run uses up.
-fn list_all(stream: Stdin) {
+// Lists all of standard input. The turns are counted up to a number that no run uses up.
+fn list_all(stream: Stdin) -> Result<(), Failure> {
     let mut state = listing::new();
-    let mut turns = u64::MAX;
-    while turns > 0 {
-        turns -= 1;
-        let stepped = list_some(stream, state);
-        let step = stepped.step;
-        state = stepped.listing;
-        match step {
-            Step::More => {}
-            Step::End => {
-                print_end(state);
-                return;
-            }
-            Step::Failed => {
-                return;
-            }
-        }
+    for _ in 0..u64::MAX {
+        let Some(next) = list_some(stream, state)? else {
+            return print_end(state);
+        };
+        state = next;
     }
+    Ok(())
 }
 
 fn main(rt: HostRuntime) {
-    list_all(rt.stdin());
+    if let Err(failure) = list_all(rt.stdin()) {
+        say(failure);
+    }
 }

@@ -158,8 +158,12 @@ pub lines_none : (left : ℕ) (l : Listing) (bs : List ℕ) → left ≡ 0 → l
 unfolding lines_of
 lines_none left l bs e = ap (λ k. lines_of k l bs) e
 
--- the bytes left, counted from the start
-pub far-drop : {whole : Lines} {from out : List ℕ} {used written : ℕ} (k : ℕ) (l : Listing) (u v : ℕ) (bs : List ℕ)
-    → Far whole from out used written (lines_of k l (drop u (drop v bs))) → Far whole from out used written (lines_of k l (drop (v + u) bs))
-far-drop {whole} {from} {out} {used} {written} k l u v bs far =
-    subst (λ rest. Far whole from out used written (lines_of k l rest)) (drop-drop u v bs) far
+-- the lines and the bytes left, counted from the start
+pub far-drop : {whole : Lines} {from out : List ℕ} {used written : ℕ} (k i : ℕ) (l : Listing) (u v : ℕ) (bs : List ℕ)
+    → Far whole from out used written (lines_of (k - i - 1) l (drop u (drop v bs))) → Far whole from out used written (lines_of (k - (i + 1)) l (drop (v + u) bs))
+far-drop {whole} {from} {out} {used} {written} k i l u v bs far =
+    subst (λ rest. Far whole from out used written (lines_of (k - (i + 1)) l rest)) (drop-drop u v bs)
+    (subst (λ j. Far whole from out used written (lines_of j l (drop u (drop v bs)))) fewer far)
+  where
+    fewer : k - i - 1 ≡ k - (i + 1)
+    fewer = omega arith

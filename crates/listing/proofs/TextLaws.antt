@@ -8,10 +8,12 @@ use Rattle.frame.specs.Answer.{health_of}
 use Rattle.frame.specs.declared.State.{State}
 use Rattle.frame.specs.declared.Carried.{Carried}
 use Rattle.frame.proofs.WidthLaws.{both_false}
-use Rattle.frame.specs.declared.HealthCode.TheVariants.{Code, Refused}
 use Rattle.printing.specs.Printing.{decimal}
 use Rattle.printing.proofs.StoreLaws.{length-stored, length_marked, stored-then}
 use Rattle.listing.specs.Text.{space, newline, spaced, pair_last, odd_label, even_label, odd_line, frames_label, bytes_label, passed_label, last_line}
+use Rattle.std.specs.Prelude.{Ok, Err}
+use Rattle.answer.specs.Table.{refused}
+use Rattle.answer.specs.declared.Refusal.{Refusal}
 
 -- ---- a line of numbers
 
@@ -127,11 +129,11 @@ module _ (frames bytes passed place : ℕ) (l : List ℕ) (p₁ : ℕ) (l₁ : L
 -- ---- health, of a state within its widths
 
 module _ (s : State) (inside : state_outside s ≡ false) where
-  health-is : health_of s ≡ Code (code_of s)
-  health-is = ap (λ t. cond t (Refused 5) (Code (code_of s))) inside
+  health-is : health_of s ≡ Ok (code_of s)
+  health-is = ap (λ t. cond t (refused 5) (Ok (code_of s))) inside
 
-  pub health-code : (h : ℕ) → health_of s ≡ Code h → h ≡ code_of s
+  pub health-code : (h : ℕ) → health_of s ≡ Ok h → h ≡ code_of s
   health-code h e = let both = sym health-is ∙ e in cc
 
-  pub health-refused : (n : ℕ) → health_of s ≡ Refused n → ⊥
+  pub health-refused : (n : Refusal) → health_of s ≡ Err n → ⊥
   health-refused n e = let both = sym health-is ∙ e in absurd (let z : ◌≡◌ {A = ℕ} 0 1 = cc in omega arith)

@@ -1,5 +1,5 @@
 -- What the calls of a listing answer, by the reader's own calls: feeding, taking, ending. Assumes nothing.
-use Rattle.std.specs.Prelude.{ℕ, zero, suc, ◌+◌, ◌*◌, ◌/◌, ◌%◌, ◌^◌, List, [], ◌∷◌, ◌++◌, length, drop, nat_lt}
+use Rattle.std.specs.Prelude.{Result, Ok, ℕ, zero, suc, ◌+◌, ◌*◌, ◌/◌, ◌%◌, ◌^◌, List, [], ◌∷◌, ◌++◌, length, drop, nat_lt}
 use Rattle.std.proofs.lemmas.List.Edits.{sets}
 use Rattle.answer.specs.Order.{Says, Check, in_order}
 use Rattle.frame.specs.Widths.{outside}
@@ -8,13 +8,13 @@ use Rattle.reader.specs.Reading.{started, past, busy, fed_all_by, ended_by, take
 use Rattle.reader.specs.declared.Reader.{Reader}
 use Rattle.reader.specs.declared.Answer.{Answer}
 use Rattle.reader.specs.declared.Answer.TheVariants.{Done, Refused}
-use Rattle.printing.specs.declared.Printed.{Printed}
-use Rattle.printing.specs.declared.Printed.TheVariants as printed
 use Rattle.listing.specs.Text.{frame_line, odd_line, last_line}
 use Rattle.listing.specs.declared.Listing.{Listing}
 use Rattle.listing.specs.declared.Listed.{Listed}
 use Rattle.listing.specs.declared.Fed.{Fed}
 use Rattle.listing.specs.declared.Lined.{Lined}
+use Rattle.answer.specs.Table.{refused}
+use Rattle.answer.specs.declared.Refusal.{Refusal}
 
 -- nothing is read and nothing is written
 unfoldable pub begun : Listing
@@ -129,8 +129,8 @@ finish_text l out = in_order (end_order l (length out)) (λ n. out) (sets out 0 
 abbrev pub line_order : Frame → List ℕ → List Check
 line_order f out = (outside f, 5) ∷ (nat_lt (length out) line_room, 13) ∷ []
 
-unfoldable pub line_put : ℕ → Frame → List ℕ → Printed
-line_put at f out = in_order (line_order f out) printed.Refused (printed.At (length (frame_line at f)))
+unfoldable pub line_put : ℕ → Frame → List ℕ → Result ℕ Refusal
+line_put at f out = in_order (line_order f out) refused (Ok (length (frame_line at f)))
 
 -- the output buffer after it
 unfoldable pub line_to : ℕ → Frame → List ℕ → List ℕ

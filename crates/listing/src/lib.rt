@@ -9,8 +9,8 @@ ghost use Rattle.listing.specs.Listing.{ready_by, refused_listing, piece_by, pie
 
 mod text;
 
-use frame::{Frame, Widths};
-use printing::Printed;
+use answer::Refusal;
+use frame::Frame;
 use reader::{Answer, Reader};
 
 // A reader and the running totals, each modulo 2^64: frames handed out, bytes read, bytes that carry no bit.
@@ -53,6 +53,7 @@ const LINE_ROOM: usize = 7 * (20 + 1) + 3;
 const END_ROOM: usize = (16 + 2) * LINE_ROOM;
 
 // A listing of which nothing has been read.
+#[tactic(auto, unfolding(crate::specs::Listing::begun))]
 pub fn new() -> Listing
     ensures { result ≡ begun }
 {
@@ -65,48 +66,45 @@ pub fn new() -> Listing
 }
 
 // Bytes fed until a frame waits or none is left; the totals count on.
+#[tactic(auto, unfolding(crate::specs::Listing::fed_on))]
 fn fed_on(listing: Listing, input: &[u8]) -> Fed
     ensures { result ≡ fed_on listing input.now }
 {
     let fed = reader::feed_all(listing.reader, input);
     let used = fed.used;
     let reader = fed.reader;
-    let bytes = std::num::wrapping_add_u64(listing.bytes, used as u64);
-    let passed = std::num::wrapping_add_u64(listing.passed, fed.passed as u64);
+    let bytes = listing.bytes.wrapping_add(used as u64);
+    let passed = listing.passed.wrapping_add(fed.passed as u64);
     Fed {
         used,
         listing: Listing {
             reader,
-            frames: listing.frames,
             bytes,
             passed,
+            ..listing
         },
     }
 }
 
 // A frame was handed out.
+#[tactic(auto, unfolding(crate::specs::Listing::handed_on))]
 fn handed_on(listing: Listing, reader: Reader) -> Listing
     ensures { result ≡ handed_on listing reader }
 {
-    let frames = std::num::wrapping_add_u64(listing.frames, 1);
+    let frames = listing.frames.wrapping_add(1);
     Listing {
         reader,
         frames,
-        bytes: listing.bytes,
-        passed: listing.passed,
+        ..listing
     }
 }
 
 // The input has ended.
+#[tactic(auto, unfolding(crate::specs::Listing::ended_on))]
 fn ended_on(listing: Listing, reader: Reader) -> Listing
     ensures { result ≡ ended_on listing reader }
 {
-    Listing {
-        reader,
-        frames: listing.frames,
-        bytes: listing.bytes,
-        passed: listing.passed,
-    }
+    Listing { reader, ..listing }
 }
 
 // Writes at most `lines` lines: bytes are fed until a frame waits, it is taken, and so on with the bytes left.
@@ -119,9 +117,7 @@ fn put_lines(listing: Listing, input: &[u8], lines: usize, output: &mut [u8]) ->
     let mut state = listing;
     let mut used: usize = 0;
     let mut written: usize = 0;
-    let mut left = lines;
-    while 0 < left {
-        left -= 1;
+    for _ in 0..lines {
         let fed = fed_on(state, &input[used..]);
         used += fed.used;
         state = fed.listing;
@@ -233,16 +229,14 @@ pub fn finish(listing: Listing, output: &mut [u8]) -> Listed
 }
 
 // Writes the line of a frame at the start of the output, where it was found in place of the bit position: 5, 13.
-pub fn put_line(at: u64, frame: Frame, output: &mut [u8]) -> Printed
+pub fn put_line(at: u64, frame: Frame, output: &mut [u8]) -> Result<usize, Refusal>
     ensures value { result ≡ line_put at frame output.old }
     ensures output_after { output.new ≡ line_to at frame output.old }
 {
-    let Widths::Within = frame::frame_widths(frame) else {
-        return Printed::Refused(5);
-    };
+    frame::frame_widths(frame)?;
     if output.len() < LINE_ROOM {
-        return Printed::Refused(13);
+        return Err(Refusal::ShortBuffer);
     }
     let end = text::put_frame(at, frame, 0, output);
-    Printed::At(end)
+    Ok(end)
 }

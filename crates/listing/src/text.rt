@@ -1,4 +1,5 @@
 // Lines as text, in ASCII.
+// kept: a buffer with a place beside it, as `printed_by` and `printed_to`, the contract of `printing::put_number`, have them
 ghost use Rattle.std.specs.Prelude.{◌≡◌, ◌+◌, ◌≤◌, false, ◌++◌, length};
 ghost use Rattle.std.proofs.lemmas.List.Edits.{sets};
 ghost use Rattle.frame.specs.Widths.{state_outside, pair_outside};
@@ -6,8 +7,7 @@ ghost use Rattle.printing.specs.Printing.{decimal};
 ghost use Rattle.listing.specs.Listing.{numbers_room, line_room};
 ghost use Rattle.listing.specs.Text.{spaced, pair_last, frame_line, odd_line, last_line};
 
-use frame::{Carried, Frame, HealthCode};
-use printing::Printed;
+use frame::{Carried, Frame};
 
 // Writes seven numbers from `place` on, each with a space after it, and answers the place after them. There is room for all, so none is refused.
 fn put_numbers(numbers: &[u64; 7], place: usize, buffer: &mut [u8]) -> usize
@@ -16,14 +16,12 @@ fn put_numbers(numbers: &[u64; 7], place: usize, buffer: &mut [u8]) -> usize
     ensures buffer_after { buffer.new ≡ sets buffer.old place (spaced numbers.now) }
 {
     let mut next = place;
-    let mut i: usize = 0;
-    while i < 7 {
-        let Printed::At(end) = printing::put_number(numbers[i], next, buffer) else {
+    for number in numbers {
+        let Ok(end) = printing::put_number(*number, next, buffer) else {
             return place;
         };
-        buffer[end] = 32;
+        buffer[end] = b' ';
         next = end + 1;
-        i += 1;
     }
     next
 }
@@ -34,9 +32,9 @@ fn put_pair(carried: Carried, place: usize, buffer: &mut [u8]) -> usize
     ensures value { result ≡ place + 3 }
     ensures buffer_after { buffer.new ≡ sets buffer.old place (pair_last carried) }
 {
-    buffer[place] = 48 + carried.d29;
-    buffer[place + 1] = 48 + carried.d30;
-    buffer[place + 2] = 10;
+    buffer[place] = b'0' + carried.d29;
+    buffer[place + 1] = b'0' + carried.d30;
+    buffer[place + 2] = b'\n';
     place + 3
 }
 
@@ -49,7 +47,7 @@ pub(crate) fn put_frame(at: u64, frame: Frame, place: usize, buffer: &mut [u8]) 
     let carried = frame.carried;
     let header = frame.header;
     let state = header.state;
-    let HealthCode::Code(health) = frame::health_of(state) else {
+    let Ok(health) = frame::health_of(state) else {
         return place;
     };
     let numbers = [
@@ -71,7 +69,7 @@ fn put_total(label: &[u8], total: u64, place: usize, buffer: &mut [u8]) -> usize
     ensures value { (result ≡ place + length (label.now ++ decimal total)) × (result ≤ place + length label.now + 20) }
     ensures buffer_after { buffer.new ≡ sets buffer.old place (label.now ++ decimal total) }
 {
-    let Printed::At(next) = printing::put_labelled(label, total, place, buffer) else {
+    let Ok(next) = printing::put_labelled(label, total, place, buffer) else {
         return place;
     };
     next
@@ -85,7 +83,7 @@ pub(crate) fn put_odd(odd: u32, even: u32, place: usize, buffer: &mut [u8]) -> u
 {
     let first = put_total(b"odd ", odd as u64, place, buffer);
     let second = put_total(b" even ", even as u64, first, buffer);
-    buffer[second] = 10;
+    buffer[second] = b'\n';
     second + 1
 }
 
@@ -104,6 +102,6 @@ pub(crate) fn put_last(
     let first = put_total(b"frames ", frames, place, buffer);
     let second = put_total(b" bytes ", bytes, first, buffer);
     let third = put_total(b" passed ", passed, second, buffer);
-    buffer[third] = 10;
+    buffer[third] = b'\n';
     third + 1
 }

@@ -1,20 +1,17 @@
 // The files that the arguments name, and what is said where one of them fails.
-ghost use Rattle.io.specs.Counts.{IsPrefixLen};
-
 use crate::STDERR;
 use std::alloc::Global;
 use std::env::Env;
 use std::fs::{File, OpenOptions};
 use std::io::{Error, ErrorKind};
 
-// Argument number `i` at the start of a buffer: how many bytes it has, none where it is missing or too long.
-pub(crate) fn argument(rt: &HostRuntime, i: usize, buffer: &mut [u8]) -> usize
-    ensures { IsPrefixLen result buffer.new }
-{
-    match rt.arg(i, buffer) {
-        Ok(length) => length,
-        Err(_) => 0,
+// Argument number `i`, put into a buffer; none where it is missing, empty or too long.
+pub(crate) fn argument<'a>(rt: &HostRuntime, i: usize, buffer: &'a mut [u8]) -> Option<&'a [u8]> {
+    let length = rt.arg(i, buffer).ok()?;
+    if length == 0 {
+        return None;
     }
+    Some(&buffer[..length])
 }
 
 // That a name is not text, as the names of files are to be.
@@ -24,10 +21,8 @@ fn no_text() -> Error {
 
 // Opens a file to be read.
 pub(crate) fn open_read(rt: &HostRuntime, path: &[u8]) -> Result<File, Error> {
-    match std::str::from_utf8(path) {
-        Ok(name) => File::open(rt, name),
-        Err(_) => Err(no_text()),
-    }
+    let name = std::str::from_utf8(path).map_err(|_| no_text())?;
+    File::open(rt, name)
 }
 
 // Makes a file that is not there yet, to be written.
@@ -35,10 +30,8 @@ pub(crate) fn create(rt: &HostRuntime, path: &[u8]) -> Result<File, Error> {
     let mut options = OpenOptions::new();
     options.write(true);
     options.create_new(true);
-    match std::str::from_utf8(path) {
-        Ok(name) => options.open(rt, name),
-        Err(_) => Err(no_text()),
-    }
+    let name = std::str::from_utf8(path).map_err(|_| no_text())?;
+    options.open(rt, name)
 }
 
 // Writes what a failure is: the system's words, without the number that std puts behind them.

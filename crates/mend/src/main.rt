@@ -42,15 +42,11 @@ fn mend_files(rt: &HostRuntime, input_path: &[u8], output_path: &[u8]) {
 fn main(rt: HostRuntime) {
     let mut input_path = io::buffer();
     let mut output_path = io::buffer();
-    let input_length = argument(&rt, 1, &mut input_path);
-    let output_length = argument(&rt, 2, &mut output_path);
-    if input_length == 0 || output_length == 0 {
+    let input = argument(&rt, 1, &mut input_path);
+    let output = argument(&rt, 2, &mut output_path);
+    let (Some(input), Some(output)) = (input, output) else {
         io::write_all(STDERR, b"usage: mend IN OUT\n");
         return;
-    }
-    mend_files(
-        &rt,
-        &input_path[..input_length],
-        &output_path[..output_length],
-    );
+    };
+    mend_files(&rt, input, output);
 }

@@ -13,7 +13,7 @@ pub(crate) fn print_stretch(at: u64, stretch: u64) {
     if stretch == 0 {
         return;
     }
-    print_number(b"passed ", std::num::wrapping_sub_u64(at, stretch));
+    print_number(b"passed ", at.wrapping_sub(stretch));
     print_number(b" ", stretch);
     io::write_all(STDOUT, b"\n");
 }

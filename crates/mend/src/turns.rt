@@ -1,98 +1,67 @@
 // All of IN mended to OUT, a turn for each read.
 use crate::STDERR;
-use crate::course::{Course, begun};
+use crate::course::Course;
 use crate::progress::print_progress;
 use crate::report::print_totals;
-use crate::window::{mend_window, move_down};
+use crate::window::mend_window;
 use std::fs::File;
 use std::io::{Read, Write};
 
-// How a turn ended: the input goes on, it is at its end, or a call of the system failed; and how many bytes are kept for the next one.
-#[derive(Clone, Copy)]
-enum Reading {
-    More,
-    End,
-    Failed,
-}
+// A turn that failed; what failed is said.
+#[derive(Clone, Copy, Debug, PartialEq, Eq)]
+struct Failed;
 
-#[derive(Clone, Copy)]
-struct Turn {
-    reading: Reading,
-    kept: usize,
-    course: Course,
-}
-
-// A turn that failed, with what it says.
-fn failure(what: &[u8], course: Course) -> Turn {
+// Says what failed.
+fn say_failed(what: &[u8]) -> Failed {
     io::write_all(STDERR, what);
-    Turn {
-        reading: Reading::Failed,
-        kept: 0,
-        course,
-    }
+    Failed
 }
 
-// Reads once behind the bytes that are kept, mends, and writes what was dealt with.
+// Reads once behind the bytes that are kept, mends, and writes what was dealt with. Answers how many bytes are kept for the next turn; none where the
+// input is at its end.
 fn mend_some(
     input: &mut File,
     output: &mut File,
     kept: usize,
-    course: Course,
+    course: &mut Course,
     buffer: &mut [u8],
-) -> Turn {
+) -> Result<Option<usize>, Failed> {
     if buffer.len() <= kept {
-        return failure(b"mend: the buffer is too small\n", course);
+        return Err(say_failed(b"mend: the buffer is too small\n"));
     }
     let Ok(got) = input.read(&mut buffer[kept..]) else {
-        return failure(b"mend: IN cannot be read\n", course);
+        return Err(say_failed(b"mend: IN cannot be read\n"));
     };
     let end = kept + got;
-    let piece = mend_window(course, got == 0, &mut buffer[..end]);
-    let used = piece.used;
-    let after = piece.course;
-    if end < used {
-        return failure(b"mend: the window is too small\n", after);
-    }
+    let used = mend_window(course, got == 0, &mut buffer[..end]);
     if output.write_all(&buffer[..used]).is_err() {
-        return failure(b"mend: OUT cannot be written\n", after);
+        return Err(say_failed(b"mend: OUT cannot be written\n"));
     }
-    move_down(used, end - used, buffer);
-    let mut reading = Reading::More;
     if got == 0 {
-        reading = Reading::End;
+        return Ok(None);
     }
-    Turn {
-        reading,
-        kept: end - used,
-        course: after,
-    }
+    buffer.copy_within(used..end, 0);
+    Ok(Some(end - used))
 }
 
-// Mends all of IN, and prints the totals. The turns are counted down from a number that no run uses up.
+// Mends all of IN, and prints the totals. The turns are counted up to a number that no run uses up.
 pub(crate) fn mend_all(input: &mut File, output: &mut File, is_told: bool) {
     let mut buffer = io::large_buffer();
     let mut kept: usize = 0;
-    let mut state = begun();
-    let mut turns = u64::MAX;
-    while turns > 0 {
-        turns -= 1;
-        let before = state.at;
-        let turn = mend_some(input, output, kept, state, &mut buffer);
-        kept = turn.kept;
-        state = turn.course;
+    let mut course = Course::default();
+    for _ in 0..u64::MAX {
+        let before = course.at;
+        let turn = mend_some(input, output, kept, &mut course, &mut buffer);
         if is_told {
-            print_progress(before, state.at);
+            print_progress(before, course.at);
         }
-        let reading = turn.reading;
-        match reading {
-            Reading::More => {}
-            Reading::End => {
-                print_totals(state);
+        match turn {
+            Ok(Some(left)) => kept = left,
+            Ok(None) => {
+                print_totals(course);
                 return;
             }
-            Reading::Failed => {
-                return;
-            }
+            Err(Failed) => return,
         }
     }
 }

@@ -1,4 +1,5 @@
 -- THE RESULT EQUALS WHAT WAS FIRST KEPT, where marks and N bytes are sound and no word has more than one turned bit. Assumes nothing.
+use Rattle.std.specs.Prelude.{Ok}
 use Rattle.std.proofs.Common.{◌≡◌, ℕ, zero, suc, ◌+◌, ◌-◌, ◌*◌, ◌/◌, ◌%◌, ◌^◌, ◌<◌, ◌≤◌, Bool, true, false, not, ◌||◌, eqb, ◌⊎◌, List, [], ◌∷◌, ◌++◌, map, length, get_or, replicate, sym, refl, ap, ◌∙◌, subst, ap₂, inl, inr, append-nil, le_of_suc-le-suc, not-suc-le-zero, add-zero, arith, le-ltb, eqb-true}
 use borrow.Author.Tests.{not-false}
 use Rattle.answer.specs.Order.{NoneApplies}
@@ -22,7 +23,6 @@ use Rattle.mender.specs.Records.{n_in, second_of, count_of, extent_of, windows_o
 use Rattle.mender.specs.Steps.{step_by}
 use Rattle.mender.specs.Damage.{FewTurned, OneTurned, AllTurned, joined_all}
 use Rattle.mender.specs.Run.{MendedJournal, skip_of, searches_after, joined, mended_from, mended_journal}
-use Rattle.mender.specs.declared.record.Extent.TheVariants as extent
 use Rattle.mender.specs.declared.Step.TheVariants.{Whole}
 use Rattle.mender.proofs.RecordLaws.{n-told, count_by}
 use Rattle.mender.proofs.ReadLaws.{clear_reads}
@@ -164,7 +164,7 @@ module _ (r r' : List ℕ) (t : OneTurned r r') where
         go (inl e) = count_by found (sym second) e ∙ second-n
         go (inr e) = count_by found (sym second) e.0 ∙ ap n_in e.1 ∙ second-n
 
-    placed : extent_of found ≡ extent.N n
+    placed : extent_of found ≡ Ok n
     unfolding extent_of
     placed =
         simp (
@@ -172,7 +172,7 @@ module _ (r r' : List ℕ) (t : OneTurned r r') where
           le-ltb 31 (count_of found) (omega (arith, counted, few)),
           le-ltb (length found) (4 * count_of found + 11) (omega (arith, counted, there)),
         )
-        (ap extent.N counted)
+        (ap Ok counted)
 
     back : record_for n found ≡ r
     unfolding record_for

@@ -1,11 +1,12 @@
 -- What a step saw where it says what it found. Assumes nothing.
+use Rattle.std.specs.Prelude.{Ok, Err}
 use Rattle.std.proofs.Common.{◌≡◌, ℕ, ◌+◌, ◌*◌, ◌≤◌, Bool, true, false, cond, not, eqb, ltb, List, length, refl, ltb-false, eqb-true}
 use mathlib.Core.Bool.{and-eq-true_iff}
 use borrow.Author.Tests.{not-true}
 use Rattle.journal.specs.Forms.{unmarked}
 use Rattle.mender.specs.Records.{count_of, extent_of, reads, windows_of, spoilt, record_for, whole}
 use Rattle.mender.specs.Steps.{judged_at, sought, step_by}
-use Rattle.mender.specs.declared.record.Extent.TheVariants as extent
+use Rattle.mender.specs.declared.record.NoEnd.TheVariants as none
 use Rattle.mender.specs.declared.Step.{Step}
 use Rattle.mender.specs.declared.Step.TheVariants.{End, Whole, Lost, Cut, Numberless, Passed}
 
@@ -35,7 +36,7 @@ saw-sought true bs Numberless h = tt
 saw-sought true bs Passed h = tt
 
 module _ (bs : List ℕ) (m : unmarked 0x34 bs ≡ false) where
-  saw-there : count_of bs ≤ 31 → 4 * count_of bs + 11 ≤ length bs → Saw bs (judged_at (extent.N (count_of bs)) bs)
+  saw-there : count_of bs ≤ 31 → 4 * count_of bs + 11 ≤ length bs → Saw bs (judged_at (Ok (count_of bs)) bs)
   saw-there h l = go (whole (count_of bs) bs) refl
     where
       all : AllThere bs (4 * count_of bs + 11)
@@ -50,7 +51,7 @@ module _ (bs : List ℕ) (m : unmarked 0x34 bs ≡ false) where
   saw-place = go (ltb (length bs) 11) refl (ltb 31 (count_of bs)) refl (ltb (length bs) (4 * count_of bs + 11)) refl
     where
       go : (a : Bool) → ltb (length bs) 11 ≡ a → (b : Bool) → ltb 31 (count_of bs) ≡ b → (c : Bool) → ltb (length bs) (4 * count_of bs + 11) ≡ c
-          → Saw bs (judged_at (cond a extent.Cut (cond b extent.Numberless (cond c extent.Cut (extent.N (count_of bs))))) bs)
+          → Saw bs (judged_at (cond a (Err none.Cut) (cond b (Err none.Numberless) (cond c (Err none.Cut) (Ok (count_of bs))))) bs)
       go true ea b eb c ec = tt
       go false ea true eb c ec = (m, ltb-false (length bs) 11 ea)
       go false ea false eb true ec = tt

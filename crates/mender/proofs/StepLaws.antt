@@ -1,5 +1,8 @@
 -- A step by the tests of the code: what is answered and left for each. Assumes nothing.
-use Rattle.std.proofs.Common.{◌≡◌, ℕ, ◌+◌, ◌*◌, ◌<◌, ◌≤◌, Bool, true, false, cond, ltb, List, ◌++◌, length, take, drop, sym, refl, ap, ◌∙◌, subst, ap₂, arith, take_at, ltb-false, le-ltb, lt-ltb, eq-eqb, ne_eqb}
+use Rattle.std.specs.Prelude.{Result, Ok, Err}
+use Rattle.std.proofs.Common.{◌≡◌, ℕ, ◌+◌, ◌*◌, ◌<◌, ◌≤◌, Bool, true, false, cond, not, eqb, ltb, List, [], ◌∷◌, ◌++◌, length, take, drop, sym, refl, ap, ◌∙◌, subst, ap₂, arith, take_at, ltb-false, le-ltb, lt-ltb, eq-eqb, ne_eqb}
+use Rattle.std.proofs.lemmas.Bool.Decides.{nat_tests}
+use Rattle.std.specs.List.{starts_with}
 use lib.Seq.{sets, sets-eq}
 use Rattle.bits.specs.Fields.{AreBytes}
 use Rattle.journal.specs.Forms.{unmarked}
@@ -8,8 +11,8 @@ use Rattle.mender.specs.Records.{count_of, extent_of, reads, record_for}
 use Rattle.mender.specs.Report.{changes_from, change_lines}
 use Rattle.mender.specs.Steps.{judged_at, sought, step_by, bytes_after, report_of, report_room, done_mend, found_by, missed_by, missed_text}
 use Rattle.mender.specs.Steps.{refused_mend, mend_by, bytes_to, output_to}
-use Rattle.mender.specs.declared.record.Extent.{Extent}
-use Rattle.mender.specs.declared.record.Extent.TheVariants as extent
+use Rattle.mender.specs.declared.record.NoEnd.{NoEnd}
+use Rattle.mender.specs.declared.record.NoEnd.TheVariants as none
 use Rattle.mender.specs.declared.Mended.{Mended}
 use Rattle.mender.specs.declared.Step.{Step}
 use Rattle.mender.specs.declared.Step.TheVariants.{End, Whole, Lost, Cut, Numberless, Passed}
@@ -56,14 +59,14 @@ module _ (n : ℕ) (bs : List ℕ) where
       ∙ take_at (record_for n bs) (drop (0 + length (record_for n bs)) l) (4 * n + 11) record-long
 
   module _ {read : Bool} (e : read ≡ reads (record_for n bs)) where
-    pub lost-judged : read ≡ false → judged_at (extent.N n) bs ≡ Lost (4 * n + 11)
+    pub lost-judged : read ≡ false → judged_at (Ok n) bs ≡ Lost (4 * n + 11)
     lost-judged f = ap (λ t. cond t (Whole (4 * n + 11)) (Lost (4 * n + 11))) (sym (whole-reads n bs) ∙ sym e ∙ f)
 
-    pub whole-judged : read ≡ true → judged_at (extent.N n) bs ≡ Whole (4 * n + 11)
+    pub whole-judged : read ≡ true → judged_at (Ok n) bs ≡ Whole (4 * n + 11)
     whole-judged t = ap (λ t. cond t (Whole (4 * n + 11)) (Lost (4 * n + 11))) (sym (whole-reads n bs) ∙ sym e ∙ t)
 
-  pub lost-steps : judged_at (extent.N n) bs ≡ Lost (4 * n + 11) → (s : Bool) (at : ℕ) (out : List ℕ) {r : Mended} {out' : List ℕ}
-      → r ≡ missed_by (Lost (4 * n + 11)) at s → out' ≡ sets out 0 (missed_text at s) → Stepped (sought s (judged_at (extent.N n) bs)) at bs out r bs out'
+  pub lost-steps : judged_at (Ok n) bs ≡ Lost (4 * n + 11) → (s : Bool) (at : ℕ) (out : List ℕ) {r : Mended} {out' : List ℕ}
+      → r ≡ missed_by (Lost (4 * n + 11)) at s → out' ≡ sets out 0 (missed_text at s) → Stepped (sought s (judged_at (Ok n) bs)) at bs out r bs out'
   lost-steps j s at out {r} {out'} er eo =
       subst (λ step. Stepped (sought s step) at bs out r bs out') (sym j) (missed-steps (Lost (4 * n + 11)) tt s at bs out er eo)
 
@@ -71,10 +74,10 @@ module _ (n : ℕ) (bs : List ℕ) where
   sought-whole true size = refl
   sought-whole false size = refl
 
-  pub whole-steps : (s : Bool) → judged_at (extent.N n) bs ≡ Whole (4 * n + 11) → n ≡ count_of bs → (at : ℕ) (out : List ℕ)
+  pub whole-steps : (s : Bool) → judged_at (Ok n) bs ≡ Whole (4 * n + 11) → n ≡ count_of bs → (at : ℕ) (out : List ℕ)
       {w : List ℕ} → w ≡ record_for n bs → {written : ℕ} {bs' out' : List ℕ}
       → written ≡ length (change_lines (changes_from at bs w)) → bs' ≡ w ++ drop (length w) bs → out' ≡ sets out 0 (change_lines (changes_from at bs w))
-      → Stepped (sought s (judged_at (extent.N n) bs)) at bs out (done_mend (Whole (4 * n + 11)) written) bs' out'
+      → Stepped (sought s (judged_at (Ok n) bs)) at bs out (done_mend (Whole (4 * n + 11)) written) bs' out'
   whole-steps s j count at out {w} ew {written} {bs'} {out'} er eb eo =
       subst (λ step. Stepped step at bs out (done_mend (Whole (4 * n + 11)) written) bs' out') (sym (ap (sought s) j ∙ sought-whole s (4 * n + 11))) (
         ap (done_mend (Whole (4 * n + 11))) (er ∙ ap (λ x. length (change_lines (changes_from at bs x))) same),
@@ -106,7 +109,7 @@ module _ (s : Bool) (bs : List ℕ) where
   unfolding step_by
   step-passed n u = simp (ne_eqb (length bs) 0 n, u)
 
-  pub step-judged : (length bs ≡ 0 → ⊥) → unmarked 0x34 bs ≡ false → {p : Extent} → p ≡ extent_of bs → step_by s bs ≡ sought s (judged_at p bs)
+  pub step-judged : (length bs ≡ 0 → ⊥) → unmarked 0x34 bs ≡ false → {p : Result ℕ NoEnd} → p ≡ extent_of bs → step_by s bs ≡ sought s (judged_at p bs)
   unfolding step_by
   step-judged n u e = simp (ne_eqb (length bs) 0 n, u) (ap (λ p. sought s (judged_at p bs)) (sym e))
 
@@ -123,13 +126,20 @@ module _ (s : Bool) (bs : List ℕ) where
         let t = subst (λ step. Stepped step at bs out r bs' out') (sym e) d in
         simp (le-ltb (length out) report_room h) t
 
+-- the first two bytes are tested against the mark
+pub mark-tested : (bs : List ℕ) → not (starts_with eqb bs (82 ∷ 52 ∷ [])) ≡ unmarked 0x34 bs
+unfolding unmarked
+mark-tested [] = refl
+mark-tested (x ∷ []) = grind (arith, nat_tests)
+mark-tested (x ∷ y ∷ bs) = grind (arith, nat_tests)
+
 -- N where it is found
-pub place-n : (bs : List ℕ) {n : ℕ} → extent_of bs ≡ extent.N n → (n ≡ count_of bs) × ((n ≤ 31) × (4 * n + 11 ≤ length bs))
+pub place-n : (bs : List ℕ) {n : ℕ} → extent_of bs ≡ Ok n → (n ≡ count_of bs) × ((n ≤ 31) × (4 * n + 11 ≤ length bs))
 unfolding extent_of
 place-n bs {n} = go (ltb (length bs) 11) (ltb 31 (count_of bs)) refl (ltb (length bs) (4 * count_of bs + 11)) refl
   where
     go : (a b : Bool) → ltb 31 (count_of bs) ≡ b → (c : Bool) → ltb (length bs) (4 * count_of bs + 11) ≡ c
-        → cond a extent.Cut (cond b extent.Numberless (cond c extent.Cut (extent.N (count_of bs)))) ≡ extent.N n
+        → cond a (Err none.Cut) (cond b (Err none.Numberless) (cond c (Err none.Cut) (Ok (count_of bs)))) ≡ Ok n
         → (n ≡ count_of bs) × ((n ≤ 31) × (4 * n + 11 ≤ length bs))
     go true b eb c ec e = absurd (let z : ◌≡◌ {A = ℕ} 0 1 = cc in omega arith)
     go false true eb c ec e = absurd (let z : ◌≡◌ {A = ℕ} 0 1 = cc in omega arith)

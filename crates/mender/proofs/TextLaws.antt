@@ -1,8 +1,8 @@
 -- The lines of the report: how long they are, and that they are stored part after part. Assumes nothing.
-use Rattle.std.proofs.Common.{◌≡◌, ℕ, suc, ◌+◌, ◌/◌, ◌<◌, ◌≤◌, Bool, true, false, cond, ltb, List, [], ◌∷◌, ◌++◌, length, set, sym, ◌∙◌, arith, length-append, length-set}
+use Rattle.std.proofs.Common.{◌≡◌, ℕ, suc, ◌+◌, ◌/◌, ◌<◌, ◌≤◌, Bool, true, false, cond, ltb, List, [], ◌∷◌, ◌++◌, length, set, sym, ap, ◌∙◌, arith, length-append, length-set, lt-ltb}
 use lib.Seq.{sets}
 use Rattle.printing.specs.Printing.{digits_up_to, decimal}
-use Rattle.printing.proofs.DigitLaws.{length-decimal, decimal-le, count-last}
+use Rattle.printing.proofs.DigitLaws.{length-decimal, decimal-le}
 use Rattle.printing.proofs.StoreLaws.{length-stored, stored-then}
 use Rattle.mender.specs.Report.{change_line, lost_line}
 
@@ -15,12 +15,16 @@ digits_step k n m p h = go (ltb n 10)
     go true = omega arith
     go false = omega arith
 
+digit-alone : (k n : ℕ) → n < 10 → digits_up_to (suc k) n ≡ 1
+unfolding digits_up_to
+digit-alone k n h = ap (λ t. cond t 1 (suc (digits_up_to k (n / 10)))) (lt-ltb n 10 h)
+
 -- a byte has at most three digits
 pub byte-short : (b : ℕ) → b < 256 → length (decimal b) ≤ 3
 byte-short b h = omega (arith, length-decimal b, digits_step 19 b 2 (omega arith) (digits_step 18 (b / 10) 1 (omega arith) last))
   where
     one : digits_up_to 18 (b / 10 / 10) ≡ 1
-    one = count-last 18 (b / 10 / 10) (omega arith) (omega arith)
+    one = digit-alone 17 (b / 10 / 10) (omega arith)
 
     last : digits_up_to 18 (b / 10 / 10) ≤ 1
     last = omega (arith, one)

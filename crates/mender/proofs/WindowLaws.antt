@@ -1,4 +1,5 @@
 -- PIECES: a step looks at no more than 135 bytes, so that a step on a window of a journal is the step on the journal. Assumes nothing.
+use Rattle.std.specs.Prelude.{Result, Ok, Err}
 use Rattle.std.proofs.Common.{◌≡◌, ℕ, zero, suc, ◌+◌, ◌*◌, ◌≤◌, Bool, true, false, cond, not, ◌&&◌, ◌||◌, eqb, ltb, List, ◌∷◌, ◌++◌, map, length, take, drop, sym, refl, ap, ◌∙◌, ap₂, append_assoc, arith, length-append, length-drop, ltb-false, le-ltb, ne_eqb}
 use lib.ListN.{get_or-append}
 use lib.Seq.{take-append-le, drop-append-le}
@@ -8,8 +9,8 @@ use Rattle.mender_words.specs.Words.{mended_by, mended_to}
 use Rattle.mender.specs.Records.{counted_by, count_of, extent_of, windows_of, spoilt, reads, record_for, whole}
 use Rattle.mender.specs.Report.{changes_from, change_lines}
 use Rattle.mender.specs.Steps.{judged_at, sought, step_by, bytes_after, report_of}
-use Rattle.mender.specs.declared.record.Extent.{Extent}
-use Rattle.mender.specs.declared.record.Extent.TheVariants as extent
+use Rattle.mender.specs.declared.record.NoEnd.{NoEnd}
+use Rattle.mender.specs.declared.record.NoEnd.TheVariants as none
 use Rattle.mender.specs.declared.Step.{Step}
 use Rattle.mender.specs.declared.Step.TheVariants.{End, Whole, Lost, Cut, Numberless, Passed}
 use Rattle.mender.proofs.StepLaws.{record-long}
@@ -55,30 +56,30 @@ module _ (w e : List ℕ) (h : 135 ≤ length w) where
     same_whole = ap₂ (λ vs r. not (spoilt vs) && reads r) same-windows same-record
 
   -- with so many bytes no record is cut short
-  place-known : (bs : List ℕ) → 135 ≤ length bs → extent_of bs ≡ cond (ltb 31 (count_of bs)) extent.Numberless (extent.N (count_of bs))
+  place-known : (bs : List ℕ) → 135 ≤ length bs → extent_of bs ≡ cond (ltb 31 (count_of bs)) (Err none.Numberless) (Ok (count_of bs))
   unfolding extent_of
-  place-known bs l = ap (λ t. cond t extent.Cut later) (le-ltb (length bs) 11 (omega arith)) ∙ go (ltb 31 (count_of bs)) refl
+  place-known bs l = ap (λ t. cond t (Err none.Cut) later) (le-ltb (length bs) 11 (omega arith)) ∙ go (ltb 31 (count_of bs)) refl
     where
-      later : Extent
-      later = cond (ltb 31 (count_of bs)) extent.Numberless (cond (ltb (length bs) (4 * count_of bs + 11)) extent.Cut (extent.N (count_of bs)))
+      later : Result ℕ NoEnd
+      later = cond (ltb 31 (count_of bs)) (Err none.Numberless) (cond (ltb (length bs) (4 * count_of bs + 11)) (Err none.Cut) (Ok (count_of bs)))
 
       go : (t : Bool) → ltb 31 (count_of bs) ≡ t
-          → cond t extent.Numberless (cond (ltb (length bs) (4 * count_of bs + 11)) extent.Cut (extent.N (count_of bs))) ≡ cond t extent.Numberless
-          (extent.N (count_of bs))
+          → cond t (Err none.Numberless) (cond (ltb (length bs) (4 * count_of bs + 11)) (Err none.Cut) (Ok (count_of bs))) ≡ cond t (Err none.Numberless)
+          (Ok (count_of bs))
       go true q = refl
       go false q =
-          ap (λ t. cond t extent.Cut (extent.N (count_of bs))) (le-ltb (length bs) (4 * count_of bs + 11) (omega (arith, ltb-false 31 (count_of bs) q)))
+          ap (λ t. cond t (Err none.Cut) (Ok (count_of bs))) (le-ltb (length bs) (4 * count_of bs + 11) (omega (arith, ltb-false 31 (count_of bs) q)))
 
   same_place : extent_of (w ++ e) ≡ extent_of w
   same_place =
-      place-known (w ++ e) longer ∙ ap (λ n. cond (ltb 31 n) extent.Numberless (extent.N n)) same_count ∙ sym (place-known w h)
+      place-known (w ++ e) longer ∙ ap (λ n. cond (ltb 31 n) (Err none.Numberless) (Ok n)) same_count ∙ sym (place-known w h)
 
   same-judged : judged_at (extent_of (w ++ e)) (w ++ e) ≡ judged_at (extent_of w) w
   same-judged =
       ap (λ p. judged_at p (w ++ e)) (same_place ∙ place-known w h) ∙ go (ltb 31 (count_of w)) refl ∙ sym (ap (λ p. judged_at p w) (place-known w h))
     where
       go : (t : Bool) → ltb 31 (count_of w) ≡ t
-          → judged_at (cond t extent.Numberless (extent.N (count_of w))) (w ++ e) ≡ judged_at (cond t extent.Numberless (extent.N (count_of w))) w
+          → judged_at (cond t (Err none.Numberless) (Ok (count_of w))) (w ++ e) ≡ judged_at (cond t (Err none.Numberless) (Ok (count_of w))) w
       go true q = refl
       go false q = ap (λ t. cond t (Whole (4 * count_of w + 11)) (Lost (4 * count_of w + 11))) (same_whole (count_of w) (ltb-false 31 (count_of w) q))
 

@@ -1,5 +1,5 @@
 -- The record at a mark: which N counts, where it ends, and its bytes after mending. Assumes nothing.
-use Rattle.std.specs.Prelude.{ℕ, suc, ◌+◌, ◌*◌, Bool, true, false, cond, not, ◌&&◌, ◌||◌, List, [], ◌∷◌, map, length, take, drop, nat_lt}
+use Rattle.std.specs.Prelude.{ℕ, suc, ◌+◌, ◌*◌, Bool, true, false, cond, not, ◌&&◌, ◌||◌, List, [], ◌∷◌, map, length, take, drop, nat_lt, Result, Ok, Err}
 use Rattle.bits.specs.Bits.{bits}
 use Rattle.word.specs.Word.{data_of}
 use Rattle.frame.specs.Header.{n_of}
@@ -11,8 +11,8 @@ use Rattle.journal.specs.declared.Found.TheVariants as found
 use Rattle.mender_words.specs.Words.{mended_by, broken_word, mended_to}
 use Rattle.mender_words.specs.declared.MendedWord.{MendedWord}
 use Rattle.mender_words.specs.declared.MendedWord.TheVariants.{Sound, Mended, Broken}
-use Rattle.mender.specs.declared.record.Extent.{Extent}
-use Rattle.mender.specs.declared.record.Extent.TheVariants.{N, Cut, Numberless}
+use Rattle.mender.specs.declared.record.NoEnd.{NoEnd}
+use Rattle.mender.specs.declared.record.NoEnd.TheVariants.{Cut, Numberless}
 
 -- ---- N
 
@@ -34,9 +34,9 @@ unfoldable pub count_of : List ℕ → ℕ
 count_of bs = counted_by (second_of bs) (n_byte bs) (mended_by (second_of bs))
 
 -- WHERE IT ENDS: cut short where the bytes end before it, and no record has fewer than 11; none where N is over 31
-unfoldable pub extent_of : List ℕ → Extent
+unfoldable pub extent_of : List ℕ → Result ℕ NoEnd
 extent_of bs =
-    cond (nat_lt (length bs) 11) Cut (cond (nat_lt 31 (count_of bs)) Numberless (cond (nat_lt (length bs) (4 * count_of bs + 11)) Cut (N (count_of bs))))
+    cond (nat_lt (length bs) 11) (Err Cut) (cond (nat_lt 31 (count_of bs)) (Err Numberless) (cond (nat_lt (length bs) (4 * count_of bs + 11)) (Err Cut) (Ok (count_of bs))))
 
 -- ---- the record of n
 

@@ -1,13 +1,13 @@
 -- A STEP of the mender at the start of the bytes, searching for a mark or not: what it finds, the bytes after it, and its report. Refusal: 13.
 -- Assumes nothing.
-use Rattle.std.specs.Prelude.{ℕ, ◌+◌, ◌*◌, Bool, true, false, cond, List, [], ◌∷◌, ◌++◌, length, drop, ◌==◌, nat_lt}
+use Rattle.std.specs.Prelude.{ℕ, ◌+◌, ◌*◌, Bool, true, false, cond, List, [], ◌∷◌, ◌++◌, length, drop, ◌==◌, nat_lt, Result, Ok, Err}
 use Rattle.std.proofs.lemmas.List.Edits.{sets}
 use Rattle.answer.specs.Order.{Says, refuses, answers, Check, in_order}
 use Rattle.journal.specs.Forms.{unmarked}
 use Rattle.mender.specs.Records.{count_of, extent_of, record_for, whole}
 use Rattle.mender.specs.Report.{changes_from, change_lines, lost_line}
-use Rattle.mender.specs.declared.record.Extent.{Extent}
-use Rattle.mender.specs.declared.record.Extent.TheVariants as extent
+use Rattle.mender.specs.declared.record.NoEnd.{NoEnd}
+use Rattle.mender.specs.declared.record.NoEnd.TheVariants as none
 use Rattle.mender.specs.declared.Answer.{Answer}
 use Rattle.mender.specs.declared.Answer.TheVariants as answer
 use Rattle.mender.specs.declared.Mended.{Mended}
@@ -15,10 +15,10 @@ use Rattle.mender.specs.declared.Step.{Step}
 use Rattle.mender.specs.declared.Step.TheVariants.{End, Whole, Lost, Cut, Numberless, Passed}
 
 -- THE RECORD AT A MARK, by where it ends: whole, or lost
-abbrev pub judged_at : Extent → List ℕ → Step
-judged_at (extent.N n) bs = cond (whole n bs) (Whole (4 * n + 11)) (Lost (4 * n + 11))
-judged_at extent.Cut bs = Cut
-judged_at extent.Numberless bs = Numberless
+abbrev pub judged_at : Result ℕ NoEnd → List ℕ → Step
+judged_at (Ok n) bs = cond (whole n bs) (Whole (4 * n + 11)) (Lost (4 * n + 11))
+judged_at (Err none.Cut) bs = Cut
+judged_at (Err none.Numberless) bs = Numberless
 
 -- searching, a record that is not whole is passed over
 abbrev pub or_passed : Step → Step

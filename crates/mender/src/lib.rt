@@ -1,7 +1,7 @@
 // The journal mender: a record with turned bits is put back where one bit of a word is turned; what can't be is reported and left alone.
 #![tactic(auto)]
 
-ghost use Rattle.std.specs.Prelude.{◌≡◌, ◌+◌, ◌*◌, ◌≤◌, false, ◌++◌, length, drop};
+ghost use Rattle.std.specs.Prelude.{◌≡◌, ◌+◌, ◌*◌, ◌≤◌, false, ◌++◌, length, drop, Ok};
 ghost use Rattle.std.proofs.lemmas.List.Edits.{sets};
 ghost use Rattle.journal.specs.Forms.{unmarked};
 ghost use Rattle.mender.specs.Records.{count_of, reads};
@@ -9,16 +9,15 @@ ghost use Rattle.mender.specs.Report.{changes_from, change_lines};
 ghost use Rattle.mender.specs.Run.{ahead_by, next_of};
 ghost use Rattle.mender.specs.Steps.{judged_at, sought, bytes_after, report_of, report_room, done_mend, found_by, missed_by, missed_text};
 ghost use Rattle.mender.specs.Steps.{mend_by, bytes_to, output_to};
-ghost use Rattle.mender.specs.declared.record.Extent.TheVariants.{N};
 
 mod record;
 mod text;
 
-use crate::record::Extent;
+use crate::record::NoEnd;
 use journal::Found;
 
 // What a step finds: the end, a record of so many bytes that is whole or lost, one cut short or without an N, or a byte to pass over.
-#[derive(Clone, Copy)]
+#[derive(Clone, Copy, Debug, PartialEq, Eq)]
 pub enum Step {
     End,
     Whole(usize),
@@ -29,7 +28,8 @@ pub enum Step {
 }
 
 // Where the step after one is: so many bytes on, whether it searches for a mark, and whether the run has ended.
-#[derive(Clone, Copy)]
+// kept: a flag beside the place, since `next_of` promises all three, and says of the run that ends how many bytes it had
+#[derive(Clone, Copy, Debug, PartialEq, Eq)]
 pub struct Next {
     pub on: usize,
     pub searching: bool,
@@ -55,32 +55,22 @@ pub struct Mended {
 const REPORT_ROOM: usize = 34 * 29;
 
 // The longest record, of 31 data words.
-const LONGEST: usize = 135;
+pub const LONGEST: usize = 4 * 31 + 11;
 
 // Whether the bytes do not begin with the mark.
 fn is_unmarked(bytes: &[u8]) -> bool
     ensures { result ≡ unmarked 0x34 bytes.now }
 {
-    if bytes.len() < 2 {
-        return true;
-    }
-    if bytes[0] != 0x52 {
-        return true;
-    }
-    bytes[1] != 0x34
+    !bytes.starts_with(&[0x52, 0x34])
 }
 
 // Whether the bytes read as a record that keeps the words.
+#[tactic(auto, unfolding(crate::specs::Records::reads))]
 fn is_read(bytes: &[u8]) -> bool
     ensures { result ≡ reads bytes.now }
 {
     let recalled = journal::recall_words(bytes);
-    let answer = recalled.answer;
-    if let Found::Record(_) = answer {
-        true
-    } else {
-        false
-    }
+    matches!(recalled.answer, Found::Record(_))
 }
 
 // Puts back what was mended, and writes each change from the output's start on; answers the place after them.
@@ -92,13 +82,10 @@ fn put_changes(whole: &[u8], at: u64, bytes: &mut [u8], output: &mut [u8]) -> us
     ensures output_after { output.new ≡ sets output.old 0 (change_lines (changes_from at bytes.old whole.now)) }
 {
     let mut next: usize = 0;
-    let mut i: usize = 0;
-    while i < whole.len() {
-        let new = whole[i];
-        let offset = std::num::wrapping_add_u64(at, i as u64);
-        next = text::put_byte(offset, bytes[i], new, next, output);
-        bytes[i] = new;
-        i += 1;
+    for (i, new) in whole.iter().enumerate() {
+        let offset = at.wrapping_add(i as u64);
+        next = text::put_byte(offset, bytes[i], *new, next, output);
+        bytes[i] = *new;
     }
     next
 }
@@ -131,10 +118,10 @@ fn mend_record(n: usize, bytes: &mut [u8], at: u64, searching: bool, output: &mu
     requires n_in_bounds { 4 * n + 11 ≤ length bytes.old }
     requires bytes_value { unmarked 0x34 bytes.old ≡ false }
     requires report_room_in_bounds { report_room ≤ length output.old }
-    ensures value { result ≡ found_by (sought searching (judged_at (N n) bytes.old)) at bytes.old }
-    ensures bytes_after { bytes.new ≡ bytes_after (sought searching (judged_at (N n) bytes.old)) bytes.old }
+    ensures value { result ≡ found_by (sought searching (judged_at (Ok n) bytes.old)) at bytes.old }
+    ensures bytes_after { bytes.new ≡ bytes_after (sought searching (judged_at (Ok n) bytes.old)) bytes.old }
     ensures output_after { output.new
-        ≡ sets output.old 0 (report_of at (sought searching (judged_at (N n) bytes.old)) bytes.old) }
+        ≡ sets output.old 0 (report_of at (sought searching (judged_at (Ok n) bytes.old)) bytes.old) }
 {
     let mut copy = [0u8; LONGEST];
     record::put_record(n, bytes, &mut copy);
@@ -174,16 +161,16 @@ pub fn mend(bytes: &mut [u8], at: u64, searching: bool, output: &mut [u8]) -> Me
             written: 0,
         };
     }
-    if bytes.len() == 0 {
+    if bytes.is_empty() {
         return quiet(Step::End);
     }
     if is_unmarked(bytes) {
         return quiet(Step::Passed);
     }
     match record::extent_of(bytes) {
-        Extent::N(n) => mend_record(n, bytes, at, searching, output),
-        Extent::Cut => missed(Step::Cut, at, searching, output),
-        Extent::Numberless => missed(Step::Numberless, at, searching, output),
+        Ok(n) => mend_record(n, bytes, at, searching, output),
+        Err(NoEnd::Cut) => missed(Step::Cut, at, searching, output),
+        Err(NoEnd::Numberless) => missed(Step::Numberless, at, searching, output),
     }
 }
 

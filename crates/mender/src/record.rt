@@ -7,10 +7,9 @@ ghost use Rattle.mender.specs.Records.{count_of, extent_of, record_for};
 
 use mender_words::MendedWord;
 
-// N of a record whose bytes are all there; or why there is none.
-#[derive(Clone, Copy)]
-pub(crate) enum Extent {
-    N(usize),
+// Why it is not known where a record ends: it is cut short, or its N is over 31.
+#[derive(Clone, Copy, Debug, PartialEq, Eq)]
+pub(crate) enum NoEnd {
     Cut,
     Numberless,
 }
@@ -20,13 +19,9 @@ fn window_at(at: usize, bytes: &[u8]) -> u32
     requires { at + 4 ≤ length bytes.now }
     ensures { result ≡ word_in (take 4 (drop at bytes.now)) }
 {
-    let mut word: u32 = 0;
-    let mut i = 0;
-    while i < 4 {
-        word = word * 256 + bytes[at + i] as u32;
-        i += 1;
-    }
-    word
+    let mut word = [0; 4];
+    word.copy_from_slice(&bytes[at..at + 4]);
+    u32::from_be_bytes(word)
 }
 
 // Writes the four bytes of a word from `at` on.
@@ -34,13 +29,7 @@ fn put_window(window: u32, at: usize, buffer: &mut [u8])
     requires { at + 4 ≤ length buffer.old }
     ensures { buffer.new ≡ sets buffer.old at (bytes_of 4 window) }
 {
-    let mut left: usize = 4;
-    let mut next = at;
-    while left > 0 {
-        left -= 1;
-        buffer[next] = ((window >> (8 * left)) % 256) as u8;
-        next += 1;
-    }
+    buffer[at..at + 4].copy_from_slice(&window.to_be_bytes());
 }
 
 // N of the record at the start of the bytes: as word 2 says it where it is sound or mended, else the N byte.
@@ -56,21 +45,22 @@ fn count_of(bytes: &[u8]) -> usize
     }
 }
 
-// Where the record at the start of the bytes ends.
-pub(crate) fn extent_of(bytes: &[u8]) -> Extent
+// N of the record at the start of the bytes, which are all there; or why there is none.
+#[tactic(auto, unfolding(crate::specs::Records::extent_of))]
+pub(crate) fn extent_of(bytes: &[u8]) -> Result<usize, NoEnd>
     ensures { result ≡ extent_of bytes.now }
 {
     if bytes.len() < 11 {
-        return Extent::Cut;
+        return Err(NoEnd::Cut);
     }
     let n = count_of(bytes);
     if n > 31 {
-        return Extent::Numberless;
+        return Err(NoEnd::Numberless);
     }
     if bytes.len() < 4 * n + 11 {
-        return Extent::Cut;
+        return Err(NoEnd::Cut);
     }
-    Extent::N(n)
+    Ok(n)
 }
 
 // Writes `count` words from byte 3 on, each mended.
@@ -79,13 +69,10 @@ fn put_words(count: usize, bytes: &[u8], copy: &mut [u8])
     requires count_in_bounds { (3 + 4 * count ≤ length bytes.now) × (3 + 4 * count ≤ length copy.old) }
     ensures { copy.new ≡ sets copy.old 3 (written 4 (map mended_to (words_from 4 count (drop 3 bytes.now)))) }
 {
-    let mut left = count;
-    let mut next: usize = 3;
-    while left > 0 {
-        let window = window_at(next, bytes);
-        put_window(mender_words::mended(window), next, copy);
-        next += 4;
-        left -= 1;
+    for i in 0..count {
+        let at = 3 + 4 * i;
+        let window = window_at(at, bytes);
+        put_window(mender_words::mended(window), at, copy);
     }
 }
 

@@ -1,10 +1,9 @@
 // The lines of the report, in ASCII.
+// kept: a buffer with a place beside it, as `printed_by` and `printed_to`, the contract of `printing::put_labelled`, have them
 ghost use Rattle.std.specs.Prelude.{◌≡◌, ◌+◌, ◌*◌, ◌≤◌, ◌++◌, length};
 ghost use Rattle.std.proofs.lemmas.List.Edits.{sets};
 ghost use Rattle.printing.specs.Printing.{decimal};
 ghost use Rattle.mender.specs.Report.{change_line, byte_line, differs, lost_line};
-
-use printing::Printed;
 
 // Writes a label and a number from `place` on, and answers the place after them. There is room for both, so they are not refused.
 fn put_part(label: &[u8], n: u64, place: usize, buffer: &mut [u8]) -> usize
@@ -12,7 +11,7 @@ fn put_part(label: &[u8], n: u64, place: usize, buffer: &mut [u8]) -> usize
     ensures value { result ≡ place + length (label.now ++ decimal n) }
     ensures buffer_after { buffer.new ≡ sets buffer.old place (label.now ++ decimal n) }
 {
-    let Printed::At(next) = printing::put_labelled(label, n, place, buffer) else {
+    let Ok(next) = printing::put_labelled(label, n, place, buffer) else {
         return place;
     };
     next
@@ -27,7 +26,7 @@ fn put_change(at: u64, old: u8, new: u8, place: usize, buffer: &mut [u8]) -> usi
     let first = put_part(b"", at, place, buffer);
     let second = put_part(b" ", old as u64, first, buffer);
     let third = put_part(b" ", new as u64, second, buffer);
-    buffer[third] = 10;
+    buffer[third] = b'\n';
     third + 1
 }
 
@@ -50,6 +49,6 @@ pub(crate) fn put_lost(at: u64, buffer: &mut [u8]) -> usize
     ensures buffer_after { buffer.new ≡ sets buffer.old 0 (lost_line at) }
 {
     let next = put_part(b"lost ", at, 0, buffer);
-    buffer[next] = 10;
+    buffer[next] = b'\n';
     next + 1
 }

@@ -14,21 +14,21 @@ use Rattle.bits.proofs.Xor.{xor_self, xor_assoc, xor-cancel}
 use Rattle.bits.proofs.Numbers.{length-bits, number-bits, number_lt, bits-number, bits-xor, number-xor}
 use Rattle.word.specs.Word.{remainder_of, passes}
 use Rattle.word.specs.Answer.{tested_by, remainder_at}
-use Rattle.word.specs.declared.Tested.TheVariants.{Passed, Failed}
 use Rattle.word.proofs.Linearity.{remainder-xor}
 use Rattle.word.proofs.Testing.{six-long, tested-passed, tested-failed, FailedWith, ones_odd}
 use Rattle.mender_words.specs.Words.{place_of, turned_at, mended_by}
 use Rattle.mender_words.specs.declared.MendedWord.{MendedWord}
 use Rattle.mender_words.specs.declared.MendedWord.TheVariants.{Sound, Mended, Broken}
 use Rattle.mender_words.proofs.Places.{alone, alone-low, own-remainder, alone-one, Placed, every-place}
+use Rattle.std.specs.Prelude.{Ok, Err}
 
 -- ---- the three answers of the code
 
-pub is-sound : (v : ℕ) → tested_by (bits 32 v) ≡ Passed → Sound ≡ mended_by v
+pub is-sound : (v : ℕ) → tested_by (bits 32 v) ≡ (Ok tt) → Sound ≡ mended_by v
 unfolding mended_by
 is-sound v e = simp (tested-passed (bits 32 v) e)
 
-module _ (v r : ℕ) (e : tested_by (bits 32 v) ≡ Failed r) where
+module _ (v r : ℕ) (e : tested_by (bits 32 v) ≡ Err r) where
   failed : FailedWith (bits 32 v) r
   failed = tested-failed (bits 32 v) r e
 

@@ -1,8 +1,8 @@
 -- The 32 own remainders: they are what the word test computes, all different, and every odd remainder is one of them. Assumes nothing.
 use mathlib.Core.Path.{◌≡◌, refl, sym, ap, ◌∙◌}
 use mathlib.Core.Bool.{Bool, true, false, not, ◌&&◌, ◌||◌, and-eq-true_iff}
-use Prim.Native.Nat.{ℕ, zero, suc, ◌-◌, ◌/◌, ◌^◌, ◌≤◌, ◌<◌}
-use native.Mathlib.Nat.{le_of_suc-le-suc, not-suc-le-zero, pow-suc}
+use Prim.Native.Nat.{ℕ, zero, suc, ◌*◌, ◌-◌, ◌%◌, ◌^◌, ◌≤◌, ◌<◌}
+use native.Mathlib.Nat.{le_of_suc-le-suc, not-suc-le-zero}
 use native.Mathlib.Omega.{arith}
 use lib.Dec.{ltb, eqb}
 use lib.ListN.{get_or}
@@ -85,27 +85,18 @@ every-place r h o = record {
         (and-eq-true_iff (ltb (place_of r) 32) (eqb (get_or own_remainders (place_of r) 0) r)).0
         (taken (odd (bits 6 r)) (held r) (from (λ s. not (odd (bits 6 s)) || held s) 64 odds r h) o)
 
--- ---- a bit whose remainder is asked for, counted from the last one
+-- ---- a bit whose remainder is asked for
 
-pub found : (left r : ℕ) → left < 32 → remainder_at (2 ^ left) ≡ r → place_of r ≡ 31 - left
-found left r h e = ap place_of (sym e ∙ ap (λ k. remainder_at (2 ^ k)) back ∙ own-remainder (31 - left) (omega arith)) ∙ own-place (31 - left) (omega arith)
-  where
-    back : left ≡ 31 - (31 - left)
-    back = omega arith
+-- a one shifted to its place
+pub shifted : (i : ℕ) → i < 32 → 1 * alone i % 2 ^ 32 ≡ alone i
+shifted i h = omega (arith, alone-low i h)
+
+pub found : (i r : ℕ) → i < 32 → remainder_at (alone i) ≡ r → place_of r ≡ i
+found i r h e = ap place_of (sym e ∙ own-remainder i h) ∙ own-place i h
 
 -- what is not there is further on
-pub further : (left r : ℕ) → left < 32 → Placed r → (remainder_at (2 ^ left) ≡ r → ⊥) → 31 - left ≤ place_of r → 32 - left ≤ place_of r
-further left r h p n l = omega (arith, there)
+pub further : (i r : ℕ) → i < 32 → Placed r → (remainder_at (alone i) ≡ r → ⊥) → i ≤ place_of r → suc i ≤ place_of r
+further i r h p n l = omega (arith, there)
   where
-    there : place_of r ≡ 31 - left → ⊥
-    there e = n (ap (λ k. remainder_at (2 ^ k)) back ∙ own-remainder (31 - left) (omega arith) ∙ ap (λ k. get_or own_remainders k 0) (sym e) ∙ p.is)
-      where
-        back : left ≡ 31 - (31 - left)
-        back = omega arith
-
-pub halved : (left : ℕ) → 0 < left → 2 ^ left / 2 ≡ 2 ^ (left - 1)
-halved zero h = absurd (omega arith)
-halved (suc left) h = let e : 2 ^ suc left / 2 ≡ 2 ^ left = omega (arith, pow-suc 2 left) in e ∙ ap (λ k. 2 ^ k) back
-  where
-    back : left ≡ suc left - 1
-    back = omega arith
+    there : place_of r ≡ i → ⊥
+    there e = n (own-remainder i h ∙ ap (λ k. get_or own_remainders k 0) (sym e) ∙ p.is)

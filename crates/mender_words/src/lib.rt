@@ -5,10 +5,8 @@ ghost use Rattle.std.specs.Prelude.{◌≡◌, true, ◌-◌, ◌^◌, ◌<◌};
 ghost use Rattle.bits.specs.Bits.{bits, odd};
 ghost use Rattle.mender_words.specs.Words.{place_of, mended_by, mended_to};
 
-use word::Tested;
-
 // What mending finds: a window that passes, one with a bit turned back, or one that can't be mended.
-#[derive(Clone, Copy)]
+#[derive(Clone, Copy, Debug, PartialEq, Eq)]
 pub enum MendedWord {
     Sound,
     Mended(u32),
@@ -20,32 +18,30 @@ fn bit_of(remainder: u32) -> u32
     requires { (remainder < 64) × (odd (bits 6 remainder) ≡ true) }
     ensures { result ≡ 2 ^ (31 - place_of remainder) }
 {
-    let mut bit: u32 = 2147483648;
-    let mut left: u32 = 31;
-    while left > 0 {
+    for place in 0..32u32 {
+        let bit: u32 = 1 << (31 - place);
         if word::remainder(bit) == remainder {
             return bit;
         }
-        bit /= 2;
-        left -= 1;
     }
-    bit
+    unreachable!()
 }
 
 // MENDS A WINDOW: an odd remainder names the bit to turn back; with an even one that is not zero the window is broken.
 pub fn mend_word(window: u32) -> MendedWord
     ensures { result ≡ mended_by window }
 {
-    let Tested::Failed(remainder) = word::test(window) else {
+    let Err(remainder) = word::test(window) else {
         return MendedWord::Sound;
     };
-    if u32::count_ones(remainder) % 2 == 0 {
+    if remainder.count_ones() % 2 == 0 {
         return MendedWord::Broken;
     }
     MendedWord::Mended(window ^ bit_of(remainder))
 }
 
 // The window after mending; one that is broken stays.
+#[tactic(auto, unfolding(crate::specs::Words::mended_to))]
 pub fn mended(window: u32) -> u32
     ensures { result ≡ mended_to window }
 {

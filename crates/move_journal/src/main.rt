@@ -1,7 +1,7 @@
 // `move_journal new < journal > journal` moves records that keep the data to the form that keeps the words, `move_journal old` moves them back.
 #![tactic(auto)]
 
-ghost use Rattle.std.specs.Prelude.{◌≡◌, ◌≤◌, length};
+ghost use Rattle.std.specs.Prelude.{◌≡◌, ◌≤◌, length, IfSome};
 
 use journal_moves::{Stop, Way};
 use std::env::Env;
@@ -18,20 +18,6 @@ const STDERR: i32 = 2;
 // A record is no longer than this; with as many bytes at hand, or where the input has ended, what refuses it is final.
 const LONGEST: usize = 135;
 
-// How a piece ended: the next may follow, or the run is over.
-#[derive(Clone, Copy)]
-enum Step {
-    More,
-    Over,
-}
-
-// What a piece left: how many of its bytes are moved.
-#[derive(Clone, Copy)]
-struct Stepped {
-    step: Step,
-    read: usize,
-}
-
 // Says where the run stops, and why.
 fn say_stop(number: u8, at: u64) {
     io::write_all(STDERR, b"move_journal: refusal ");
@@ -46,67 +32,32 @@ fn say_stop(number: u8, at: u64) {
     };
 }
 
-// Moves what is whole of the bytes, which begin at `at` of the journal, and writes it; `ended` where no more bytes follow these.
-fn move_bytes(way: Way, bytes: &[u8], at: u64, ended: bool) -> Stepped
-    ensures { result.read ≤ length bytes.now }
+// Moves what is whole of the bytes, which begin at `at` of the journal, and writes it; `ended` where no more bytes follow these. Answers how many
+// bytes are moved; none where the run is over. The turns are counted up to a number that no run uses up.
+fn move_bytes(way: Way, bytes: &[u8], at: u64, ended: bool) -> Option<usize>
+    ensures { IfSome result (λ read. read ≤ length bytes.now) }
 {
     let mut out = io::large_buffer();
     let mut from: usize = 0;
-    let mut turns = u64::MAX;
-    while turns > 0 {
-        turns -= 1;
+    for _ in 0..u64::MAX {
         let piece = journal_moves::move_all(way, &bytes[from..], &mut out);
         from += piece.read;
-        let written = piece.written;
-        let stop = piece.stop;
-        if !io::write_all(STDOUT, &out[..written]) {
+        if !io::write_all(STDOUT, &out[..piece.written]) {
             io::write_all(STDERR, b"move_journal: the output cannot be written\n");
-            return Stepped {
-                step: Step::Over,
-                read: from,
-            };
+            return None;
         }
-        let Stop::At(number) = stop else {
-            return Stepped {
-                step: Step::More,
-                read: from,
-            };
+        let Stop::At(number) = piece.stop else {
+            return Some(from);
         };
         if number != 13 {
-            if !ended {
-                if bytes.len() - from < LONGEST {
-                    return Stepped {
-                        step: Step::More,
-                        read: from,
-                    };
-                }
+            if !ended && bytes.len() - from < LONGEST {
+                return Some(from);
             }
-            say_stop(number, std::num::wrapping_add_u64(at, from as u64));
-            return Stepped {
-                step: Step::Over,
-                read: from,
-            };
+            say_stop(number, at.wrapping_add(from as u64));
+            return None;
         }
     }
-    Stepped {
-        step: Step::Over,
-        read: from,
-    }
-}
-
-// Brings the bytes from `from` up to `end` to the window's start, and answers how many they are.
-fn brought(window: &mut [u8], from: usize, end: usize) -> usize
-    requires { (from ≤ end) × (end ≤ length window.old) }
-    ensures upper_bound { result ≤ end }
-    ensures window_len_unchanged { length window.new ≡ length window.old }
-{
-    let count = end - from;
-    let mut i: usize = 0;
-    while i < count {
-        window[i] = window[from + i];
-        i += 1;
-    }
-    count
+    None
 }
 
 // Fills the window behind the bytes that it holds, and answers how many it then holds: all of it, unless the input has ended.
@@ -119,26 +70,22 @@ fn fill(window: &mut [u8], held: usize) -> usize
     held + got
 }
 
-// Moves all of standard input, a window at a time. The turns are counted down from a number that no run uses up.
+// Moves all of standard input, a window at a time: what is not moved yet is brought to the window's start.
 fn move_input(way: Way, window: &mut [u8]) {
     let mut held: usize = 0;
     let mut at: u64 = 0;
-    let mut turns = u64::MAX;
-    while turns > 0 {
-        turns -= 1;
+    for _ in 0..u64::MAX {
         let end = fill(window, held);
         let ended = end < window.len();
-        let stepped = move_bytes(way, &window[..end], at, ended);
-        let step = stepped.step;
-        let read = stepped.read;
-        let Step::More = step else {
+        let Some(read) = move_bytes(way, &window[..end], at, ended) else {
             return;
         };
         if ended {
             return;
         }
-        at = std::num::wrapping_add_u64(at, read as u64);
-        held = brought(window, read, end);
+        at = at.wrapping_add(read as u64);
+        window.copy_within(read..end, 0);
+        held = end - read;
     }
 }
 
@@ -146,7 +93,7 @@ fn move_input(way: Way, window: &mut [u8]) {
 fn asked(rt: &HostRuntime, word: &[u8]) -> bool {
     let mut given = io::buffer();
     match rt.arg(1, &mut given) {
-        Ok(n) => check::same(&given[..n], word),
+        Ok(n) => &given[..n] == word,
         Err(_) => false,
     }
 }

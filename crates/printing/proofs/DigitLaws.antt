@@ -1,17 +1,16 @@
--- Digits as the loops count and store them. Assumes nothing.
-use mathlib.Core.Path.{◌≡◌, refl, ap, ◌∙◌}
+-- Digits as they are counted and stored. Assumes nothing.
+use mathlib.Core.Path.{◌≡◌, refl, sym, ap, ◌∙◌}
 use mathlib.Core.Bool.{Bool, true, false, cond}
-use mathlib.Core.List.{List, [], ◌∷◌}
-use Prim.Native.Nat.{ℕ, zero, suc, ◌+◌, ◌-◌, ◌/◌, ◌%◌, ◌≤◌, ◌<◌}
-use native.Mathlib.Nat.{add-zero}
+use mathlib.Core.List.{List, [], ◌∷◌, ◌++◌}
+use Prim.Native.Nat.{max, ℕ, zero, suc, ◌+◌, ◌-◌, ◌/◌, ◌%◌, ◌*◌, ◌^◌, ◌≤◌, ◌<◌}
 use native.Mathlib.Numerals.{add-one}
 use native.Mathlib.Omega.{arith}
 use lib.Dec.{ltb}
-use lib.ListN.{length, set, length-append}
-use lib.Seq.{sets}
+use lib.ListN.{length, set, drop, length-append}
+use native.Mathlib.Nat.{pow-suc, one-le-pow}
+use Rattle.std.proofs.lemmas.List.{append_assoc, drop-set}
 use borrow.Author.Tests.{lt-ltb, le-ltb}
 use Rattle.printing.specs.Printing.{last_digits, digits_up_to, decimal}
-use Rattle.printing.proofs.StoreLaws.{sets_last}
 
 digits_le : (k n : ℕ) → digits_up_to k n ≤ k
 unfolding digits_up_to
@@ -34,50 +33,44 @@ length-decimal n = length_digits (digits_up_to 20 n) n
 pub decimal-le : (n : ℕ) → length (decimal n) ≤ 20
 decimal-le n = omega (arith, length-decimal n, digits_le 20 n)
 
--- counting: below ten there is one more digit, else the count goes on with a tenth
-pub count-last : (k left : ℕ) → 0 < k → left < 10 → digits_up_to k left ≡ 1
+-- a number's order of magnitude and one; 0 has the order 0
+ten-le : (k : ℕ) → 10 ≤ 10 ^ suc k
+ten-le k = omega (arith, pow-suc 10 k, one-le-pow k 10 (omega arith))
+
+digits-order : (f n k : ℕ) → k < f → (0 < k → 10 ^ k ≤ n) → n < 10 * 10 ^ k → digits_up_to f n ≡ k + 1
 unfolding digits_up_to
-count-last zero left p h = absurd (omega arith)
-count-last (suc k) left p h = ap (λ t. cond t 1 (suc (digits_up_to k (left / 10)))) (lt-ltb left 10 h)
-
-count-more : (k left : ℕ) → 0 < k → 10 ≤ left → digits_up_to k left ≡ suc (digits_up_to (k - 1) (left / 10))
-unfolding digits_up_to
-count-more zero left p h = absurd (omega arith)
-count-more (suc k) left p h =
-    ap (λ t. cond t 1 (suc (digits_up_to k (left / 10)))) (le-ltb left 10 h) ∙ ap (λ j. suc (digits_up_to j (left / 10))) lower
+digits-order zero n k h lo hi = absurd (omega arith)
+digits-order (suc f) n zero h lo hi = ap (λ t. cond t 1 (suc (digits_up_to f (n / 10)))) (lt-ltb n 10 (omega arith))
+digits-order (suc f) n (suc k) h lo hi =
+    ap (λ t. cond t 1 (suc (digits_up_to f (n / 10)))) (le-ltb n 10 (omega (arith, ten-le k, low)))
+    ∙ ap suc (digits-order f (n / 10) k (omega arith) (λ p. omega (arith, next, low)) (omega (arith, next)))
+    ∙ sums
   where
-    lower : k ≡ suc k - 1
-    lower = omega arith
+    next : 10 ^ suc k ≡ 10 ^ k * 10
+    next = pow-suc 10 k
 
--- in a loop that has counted some of twenty
-pub count-on : (before left : ℕ) → before < 20 → 10 ≤ left
-    → before + digits_up_to (20 - before) left ≡ before + 1 + digits_up_to (20 - (before + 1)) (left / 10)
-count-on before left b h =
-    ap (λ d. before + d) (count-more (20 - before) left (omega arith) h ∙ ap (λ j. suc (digits_up_to j (left / 10))) lower)
-    ∙ one_more before (digits_up_to (20 - (before + 1)) (left / 10))
-  where
-    lower : 20 - before - 1 ≡ 20 - (before + 1)
-    lower = omega arith
+    low : 10 ^ suc k ≤ n
+    low = lo (omega arith)
 
-    one_more : (a d : ℕ) → a + suc d ≡ a + 1 + d
-    one_more a d = omega arith
+    sums : suc (k + 1) ≡ suc k + 1
+    sums = omega arith
 
-pub count-end : (before left : ℕ) → before ≡ 20 → before + digits_up_to (20 - before) left ≡ before
-unfolding digits_up_to
-count-end before left e = ap (λ j. before + digits_up_to j left) none ∙ add-zero before
-  where
-    none : 20 - before ≡ 0
-    none = omega arith
+past-one : (n k : ℕ) → 10 ^ k ≤ max n 1 → 0 < k → 10 ^ k ≤ n
+past-one n zero lo p = absurd (omega arith)
+past-one n (suc k) lo p = omega (arith, ten-le k)
+
+pub digits-counted : (n k m : ℕ) → m ≡ max n 1 → 10 ^ k ≤ m → m < 10 * 10 ^ k → k < 20 → k + 1 ≡ digits_up_to 20 n
+digits-counted n k m e lo hi h = sym (digits-order 20 n k h (past-one n k (omega arith)) (omega arith))
 
 -- the last of the digits that are left
-pub store-digit : (l : List ℕ) (place i left : ℕ) → 0 < i
-    → sets l place (last_digits i left) ≡ sets (set l (place + (i - 1)) (48 + left % 10)) place (last_digits (i - 1) (left / 10))
+pub store-digit : (l : List ℕ) (i left : ℕ) → 0 < i → i ≤ length l
+    → last_digits i left ++ drop i l ≡ last_digits (i - 1) (left / 10) ++ drop (i - 1) (set l (i - 1) (48 + left % 10))
 unfolding last_digits
-store-digit l place zero left h = absurd (omega arith)
-store-digit l place (suc k) left h =
-    sets_last (last_digits k (left / 10)) l place (48 + left % 10)
-    ∙ ap (λ j. sets (set l (place + j) (48 + left % 10)) place (last_digits k (left / 10))) (length_digits k (left / 10))
-    ∙ ap (λ j. sets (set l (place + j) (48 + left % 10)) place (last_digits j (left / 10))) lower
+store-digit l zero left h r = absurd (omega arith)
+store-digit l (suc k) left h r =
+    append_assoc (last_digits k (left / 10)) ((48 + left % 10) ∷ []) (drop (suc k) l)
+    ∙ ap (λ r. last_digits k (left / 10) ++ r) (ap (λ j. (48 + left % 10) ∷ drop j l) (sym (add-one k)) ∙ sym (drop-set l k (48 + left % 10) (omega arith)))
+    ∙ ap (λ j. last_digits j (left / 10) ++ drop j (set l j (48 + left % 10))) lower
   where
     lower : k ≡ suc k - 1
     lower = omega arith

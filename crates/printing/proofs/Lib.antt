@@ -1,4 +1,3 @@
 pub mod StoreLaws
 pub mod DigitLaws
-pub mod MagnitudeLaws
 pub mod PutLaws

@@ -1,45 +1,25 @@
--- Runs of stores: in two parts, and with the last store first. Assumes nothing.
-use mathlib.Core.Path.{◌≡◌, refl, sym, ap, ap₂, ◌∙◌}
-use mathlib.Core.List.{List, [], ◌∷◌, ◌++◌}
-use Prim.Native.Nat.{ℕ, zero, suc, ◌+◌, ◌<◌}
-use native.Mathlib.Numerals.{add-one}
+-- Runs of stores: over a part, and in two parts. Assumes nothing.
+use mathlib.Core.Path.{◌≡◌, sym, ap, ap₂, ◌∙◌}
+use mathlib.Core.List.{List, ◌++◌}
+use Prim.Native.Nat.{ℕ, ◌+◌, ◌-◌, ◌≤◌}
 use native.Mathlib.Omega.{arith}
-use lib.ListN.{length, get_or, set, drop, length-set}
-use lib.Seq.{sets, length-sets, drop-cons}
+use borrow.Rule.Slice.PartMut.{put_mid}
+use lib.ListN.{length, set, take, drop, length-set}
+use lib.Seq.{sets, length-sets}
+use Rattle.std.proofs.lemmas.List.{drop-drop, append_assoc}
+use Rattle.std.proofs.lemmas.List.Edits.{sets-eq}
 use Rattle.bits.proofs.Stores.{sets-append}
 
--- two stores at different places, in either order
-set_apart : (l : List ℕ) (i j x y : ℕ) → i < j → set (set l i x) j y ≡ set (set l j y) i x
-set_apart [] i j x y h = refl
-set_apart (v ∷ l) i zero x y h = absurd (omega arith)
-set_apart (v ∷ l) zero (suc j) x y h = refl
-set_apart (v ∷ l) (suc i) (suc j) x y h = ap (λ r. v ∷ r) (set_apart l i j x y (omega arith))
-
--- the last store may come first
-pub sets_last : (a l : List ℕ) (i x : ℕ) → sets l i (a ++ (x ∷ [])) ≡ sets (set l (i + length a) x) i a
-sets_last [] l i x = ap (λ j. set l j x) at_first
+-- a list written over a part is stored from the part's place on
+pub stored-part : (l a : List ℕ) (i j : ℕ) → j ≡ i + length a → j ≤ length l → put_mid i (j - i) l a ≡ sets l i a
+stored-part l a i j e h =
+    ap (λ r. take i l ++ (a ++ r)) rest ∙ sym (sets-eq a l i (omega arith) ∙ append_assoc (take i l) a (drop (i + length a) l))
   where
-    at_first : i ≡ i + 0
-    at_first = omega arith
-sets_last (v ∷ a) l i x =
-    sets_last a (set l i v) (suc i) x
-    ∙ ap (λ r. sets r (suc i) a) (ap (λ j. set (set l i v) j x) one_on ∙ set_apart l i (i + suc (length a)) v x later)
-  where
-    one_on : suc i + length a ≡ i + suc (length a)
-    one_on = omega arith
+    past : i + (j - i) ≡ i + length a
+    past = omega arith
 
-    later : i < i + suc (length a)
-    later = omega arith
-
--- the elements of a list stored one by one from place i on
-pub sets-next : (l b : List ℕ) (place i : ℕ) → i < length b
-    → sets l (place + i) (drop i b) ≡ sets (set l (place + i) (get_or b i 0)) (place + (i + 1)) (drop (i + 1) b)
-sets-next l b place i h =
-    ap (sets l (place + i)) (drop-cons b i 0 h ∙ ap (λ j. get_or b i 0 ∷ drop j b) (sym (add-one i)))
-    ∙ ap (λ j. sets (set l (place + i) (get_or b i 0)) j (drop (i + 1) b)) one_on
-  where
-    one_on : suc (place + i) ≡ place + (i + 1)
-    one_on = omega arith
+    rest : drop (j - i) (drop i l) ≡ drop (i + length a) l
+    rest = drop-drop (j - i) i l ∙ ap (λ k. drop k l) past
 
 -- stores keep the length
 pub length-stored : (l : List ℕ) (i : ℕ) (a l' : List ℕ) → l' ≡ sets l i a → length l' ≡ length l

@@ -1,9 +1,9 @@
 -- NUMBERS AS TEXT, in ASCII codes, and what putting text into a buffer answers and leaves. Assumes nothing.
-use Rattle.std.specs.Prelude.{cond, List, [], ◌∷◌, ◌++◌, ℕ, zero, suc, ◌+◌, ◌/◌, ◌%◌, ℤ, pos, negsuc, ltb, length}
+use Rattle.std.specs.Prelude.{Result, Ok, cond, List, [], ◌∷◌, ◌++◌, ℕ, zero, suc, ◌+◌, ◌/◌, ◌%◌, ℤ, pos, negsuc, ltb, length}
 use Rattle.std.proofs.lemmas.List.Edits.{sets}
-use Rattle.answer.specs.Order.{Says, refuses, answers, Check, in_order}
-use Rattle.printing.specs.declared.Printed.{Printed}
-use Rattle.printing.specs.declared.Printed.TheVariants.{At, Refused}
+use Rattle.answer.specs.Order.{Says, Check, in_order, says}
+use Rattle.answer.specs.Table.{refused}
+use Rattle.answer.specs.declared.Refusal.{Refusal}
 
 -- ---- a number
 
@@ -34,14 +34,13 @@ abbrev pub print_order : List ℕ → ℕ → List ℕ → List Check
 print_order text place buffer = (ltb (length buffer) (place + length text), 13) ∷ []
 
 -- the place after it
-unfoldable pub printed_by : List ℕ → ℕ → List ℕ → Printed
-printed_by text place buffer = in_order (print_order text place buffer) Refused (At (place + length text))
+unfoldable pub printed_by : List ℕ → ℕ → List ℕ → Result ℕ Refusal
+printed_by text place buffer = in_order (print_order text place buffer) refused (Ok (place + length text))
 
 -- the buffer after it
 unfoldable pub printed_to : List ℕ → ℕ → List ℕ → List ℕ
 printed_to text place buffer = in_order (print_order text place buffer) (λ n. buffer) (sets buffer place text)
 
 -- in the table's terms
-abbrev pub says_printed : Printed → Says ℕ
-says_printed (At place) = answers place
-says_printed (Refused n) = refuses n
+abbrev pub says_printed : Result ℕ Refusal → Says ℕ
+says_printed = says (λ place. place)

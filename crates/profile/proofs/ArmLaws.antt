@@ -6,8 +6,7 @@ use mathlib.Core.List.{List, [], ◌∷◌}
 use Prim.Native.Nat.{ℕ, zero, suc, ◌*◌, ◌≤◌, ◌<◌}
 use native.Mathlib.Omega.{arith}
 use lib.Dec.{ltb}
-use lib.ListN.{take, replicate}
-use lib.Seq.{take-append-le}
+use lib.ListN.{take}
 use borrow.Author.Tests.{lt-ltb, le-ltb, ltb-false, ne_eqb}
 use Rattle.answer.specs.Order.{Check, in_order}
 use Rattle.answer.proofs.OrderLaws.{order-map}
@@ -57,14 +56,13 @@ unfolding few_profile
 few-many f c l = rw (lt-ltb 3 c l)
 
 pub few-by : (f : Frame) (c s t u : ℕ) → c ≤ 3 → s ≡ satellite_read (correction_at f 0) → t ≡ satellite_read (correction_at f 1)
-    → u ≡ satellite_read (correction_at f 2) → (b : Bool) → b ≡ repeated (take c (s ∷ t ∷ u ∷ replicate 15 0))
+    → u ≡ satellite_read (correction_at f 2) → (b : Bool) → b ≡ repeated (take c (s ∷ t ∷ u ∷ []))
     → in_order ((b, 22) ∷ []) Refused Inside ≡ few_profile f c
 unfolding few_profile
 few-by f c s t u l is it iu b e =
     rw (le-ltb 3 c l)
     (ap (λ x. in_order ((x, 22) ∷ []) Refused Inside)
-    (e ∙ ap repeated (take-append-le c (s ∷ t ∷ u ∷ []) (replicate 15 0) l)
-    ∙ ap₂ (λ x y. repeated (take c (x ∷ y ∷ u ∷ []))) is it
+    (e ∙ ap₂ (λ x y. repeated (take c (x ∷ y ∷ u ∷ []))) is it
     ∙ ap (λ y. repeated (take c (satellite_read (correction_at f 0) ∷ satellite_read (correction_at f 1) ∷ y ∷ []))) iu))
 
 module _ (f : Frame) (within : outside f ≡ false) (hour : late f.header.z ≡ false) where

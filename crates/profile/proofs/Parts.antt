@@ -7,8 +7,12 @@ use native.Mathlib.Nat.{zero-add, add-zero}
 use native.Mathlib.Numerals.{add-one}
 use native.Mathlib.Omega.{arith}
 use lib.Dec.{ltb, eqb}
-use lib.ListN.{length, take, drop, get_or, set, length-take}
-use lib.Seq.{take-suc, take-suc-set, take-nil, take_all, take-take, drop-cons, drop-set-lt, drop-drop}
+use lib.ListN.{length, take, drop, get_or, set, length-take, length-map, get_or-map}
+use denote.Param.Members.{Mut}
+use Rattle.std.specs.Array.{IsMapOf}
+use Rattle.std.specs.Fn.{Called}
+use Rattle.std.proofs.lemmas.List.{ext_get_or}
+use lib.Seq.{take-suc-set, take-nil, take_all, take-take, drop-cons, drop-set-lt, drop-drop}
 use borrow.Author.Tests.{ltb-true, ltb-false}
 use Rattle.frame.specs.Widths.{any_of}
 use Rattle.frame.proofs.WidthLaws.{both_false}
@@ -17,17 +21,14 @@ use Rattle.profile.specs.Profile.{listed, repeated}
 
 -- ---- filled entry by entry
 
-map-append : {A B : Type 0} (f : A → B) (a b : List A) → map f (a ++ b) ≡ map f a ++ map f b
-map-append f [] b = refl
-map-append f (x ∷ a) b = ap (λ r. f x ∷ r) (map-append f a b)
-
--- the first i are there, then the next one is
-pub map_next : {A B : Type 0} (f : A → B) (l : List A) (m : List B) (i : ℕ) (d : A) → i < length l → i < length m
-    → take i m ≡ map f (take i l) → take (i + 1) (set m i (f (get_or l i d))) ≡ map f (take (i + 1) l)
-map_next f l m i d h k e =
-    ap (λ j. take j (set m i (f (get_or l i d)))) (add-one i)
-    ∙ take-suc-set m i (f (get_or l i d)) k ∙ ap (λ t. t ++ (f (get_or l i d) ∷ [])) e
-    ∙ sym (ap (λ j. map f (take j l)) (add-one i) ∙ ap (map f) (take-suc l i d h) ∙ map-append f (take i l) (get_or l i d ∷ []))
+-- what calls at each element gave, where each gave h of its element
+pub mapped : {F A B : Type 0} (g : Mut F (A × Unit {0}) B) (h : A → B) (f : F) (n : ℕ) (xs : List A) (ys : List B) → IsMapOf g f xs ys n → length xs ≡ n
+    → ((p : F) (x : A) (y : B) (q : F) → Called g p (x, tt) y q → y ≡ h x) → ys ≡ map h xs
+mapped g h f n [] [] m e k = refl
+mapped g h f n [] (y ∷ ys) m e k = absurd (omega (arith, m.long))
+mapped g h f n (x ∷ xs) ys m e k =
+    ext_get_or (h x) ys (map h (x ∷ xs)) (omega (arith, m.long, length-map (x ∷ xs) h))
+    (λ i l. let at = m.at i x (h x) (omega (arith, m.long)) in k _ _ _ _ at.2 ∙ sym (get_or-map h (x ∷ xs) i x))
 
 module _ {A : Type 0} (g : ℕ → A) where
   listed-snoc : (n i : ℕ) → listed g (suc n) i ≡ listed g n i ++ (g (i + n) ∷ [])

@@ -2,12 +2,12 @@
 use mathlib.Core.Path.{◌≡◌, refl, sym, ap, ◌∙◌}
 use mathlib.Core.Bool.{true, false, ◌||◌, true≢false}
 use mathlib.Core.List.{List, [], ◌∷◌}
-use Prim.Native.Nat.{ℕ, zero, suc, ◌+◌, ◌≤◌, ◌<◌}
+use Prim.Native.Nat.{ℕ, zero, suc, ◌+◌, ◌-◌, ◌≤◌, ◌<◌}
 use native.Mathlib.Numerals.{add-one}
 use native.Mathlib.Omega.{arith}
 use lib.Dec.{eqb}
-use lib.ListN.{length, drop, get_or, drop_of_length-le}
-use lib.Seq.{drop-cons}
+use lib.ListN.{length, take, drop, get_or, drop_of_length-le, length-drop}
+use lib.Seq.{drop-cons, take_all}
 use borrow.Author.Tests.{eq-eqb, ne_eqb}
 use Rattle.frame.specs.Widths.{any_of}
 use Rattle.frame.proofs.WidthLaws.{both_false}
@@ -30,6 +30,10 @@ module _ (i : ℕ) (xs : List ℕ) where
   pub repeated-end : length xs ≤ i → repeated (drop i xs) ≡ false
   unfolding repeated
   repeated-end l = ap repeated (drop_of_length-le xs {i = i} l)
+
+-- the numbers behind the one at i
+pub behind : (i : ℕ) (xs : List ℕ) → drop (i + 1) xs ≡ take (length xs - (i + 1)) (drop (i + 1) xs)
+behind i xs = sym (take_all (length xs - (i + 1)) (drop (i + 1) xs) (omega (arith, length-drop (i + 1) xs)))
 
 -- ---- by numbers of the list
 

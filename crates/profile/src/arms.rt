@@ -65,11 +65,12 @@ fn few_profile(frame: Frame, count: usize) -> Profile
     if count > 3 {
         return Profile::Refused(21);
     }
-    let mut satellites = [0u8; 18];
-    satellites[0] = satellite_at(frame, 0);
-    satellites[1] = satellite_at(frame, 1);
-    satellites[2] = satellite_at(frame, 2);
-    if twice(satellites, count) {
+    let satellites = [
+        satellite_at(frame, 0),
+        satellite_at(frame, 1),
+        satellite_at(frame, 2),
+    ];
+    if twice(&satellites[..count]) {
         return Profile::Refused(22);
     }
     Profile::Inside

@@ -12,38 +12,26 @@ fn risen(header: Header, i: usize) -> Header
     requires { i ≤ 5 }
     ensures { result ≡ rising header i }
 {
-    let state = header.state;
     Header {
-        kind: header.kind,
-        station: header.station,
-        z: header.z,
-        sequence: ((header.sequence as usize + i) % 8) as u8,
-        state,
+        sequence: ((usize::from(header.sequence) + i) % 8) as u8,
+        ..header
     }
 }
 
 // An array that begins with the three entries from number `from` on.
-fn part_of(entries: [Correction; 18], from: usize) -> [Correction; 18]
+fn part_of(mut entries: [Correction; 18], from: usize) -> [Correction; 18]
     requires { from + 3 ≤ 18 }
     ensures { take 3 result ≡ take 3 (drop from entries) }
 {
-    let first = entries[from];
-    let second = entries[from + 1];
-    let third = entries[from + 2];
-    let mut part = [first; 18];
-    part[1] = second;
-    part[2] = third;
-    part
+    entries.rotate_left(from);
+    entries
 }
 
 // How many of the entries that are left a frame has: three at most.
 fn part_size(left: usize) -> usize
     ensures { result ≡ min 3 left }
 {
-    if left < 3 {
-        return left;
-    }
-    3
+    left.min(3)
 }
 
 // Frame number `i`, of three entries or of those that are left.
@@ -63,12 +51,10 @@ pub(crate) fn cut_all(header: Header, entries: [Correction; 18], count: usize) -
     requires { count ≤ 18 }
     ensures { result ≡ listed (made_part header (take count entries)) ((count + 2) / 3) 0 ++ drop ((count + 2) / 3) no_frames }
 {
-    let number = (count + 2) / 3;
+    let number = count.div_ceil(3);
     let mut frames = [frame::no_frame(); 6];
-    let mut i = 0;
-    while i < number {
+    for i in 0..number {
         frames[i] = cut_frame(header, entries, count, i);
-        i += 1;
     }
     frames
 }

@@ -15,7 +15,7 @@ use crate::arms::{
 };
 use crate::cuts::cut_all;
 use crate::satellites::{satellites_of, twice};
-use frame::{Clock, Frame, Header, Widths};
+use frame::{Frame, Header};
 use record_corrections::Correction;
 use record_stages::Making;
 
@@ -44,11 +44,11 @@ pub struct Cut {
 pub fn check_profile(frame: Frame) -> Profile
     ensures { result ≡ check_profile frame }
 {
-    let Widths::Within = frame::frame_widths(frame) else {
+    let Ok(()) = frame::frame_widths(frame) else {
         return Profile::Refused(5);
     };
     let header = frame.header;
-    let Clock::Hour = frame::clock_of(header.z) else {
+    let Ok(()) = frame::clock_of(header.z) else {
         return Profile::Refused(7);
     };
     let kind = header.kind;
@@ -63,6 +63,7 @@ pub fn check_profile(frame: Frame) -> Profile
 }
 
 // A refusal, with blank frames.
+#[tactic(auto, unfolding(crate::specs::Cutting::refused_cut, crate::specs::Cutting::no_frames))]
 fn refused(number: u8) -> Cut
     ensures { result ≡ refused_cut number }
 {
@@ -77,7 +78,7 @@ fn refused(number: u8) -> Cut
 pub fn cut_corrections(header: Header, entries: [Correction; 18], count: usize) -> Cut
     ensures { result ≡ cut_corrections header entries count }
 {
-    let Widths::Within = frame::header_widths(header) else {
+    let Ok(()) = frame::header_widths(header) else {
         return refused(5);
     };
     if header.kind != 9 {
@@ -89,12 +90,12 @@ pub fn cut_corrections(header: Header, entries: [Correction; 18], count: usize) 
         return refused(n);
     }
     let satellites = satellites_of(entries);
-    if twice(satellites, count) {
+    if twice(&satellites[..count]) {
         return refused(22);
     }
     let frames = cut_all(header, entries, count);
     Cut {
-        answer: Cutting::Frames((count + 2) / 3),
+        answer: Cutting::Frames(count.div_ceil(3)),
         frames,
     }
 }

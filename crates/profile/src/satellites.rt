@@ -1,5 +1,5 @@
 // The satellites that corrections are for, and whether one of them stands among others.
-ghost use Rattle.std.specs.Prelude.{◌≡◌, ◌≤◌, eqb, take, drop};
+ghost use Rattle.std.specs.Prelude.{◌≡◌, eqb};
 ghost use Rattle.frame.specs.Widths.{any_of};
 ghost use Rattle.record_corrections.specs.Corrections.{correction_at};
 ghost use Rattle.profile.specs.Profile.{repeated};
@@ -24,42 +24,24 @@ pub(crate) fn satellite_at(frame: Frame, index: usize) -> u8
 pub(crate) fn satellites_of(entries: [Correction; 18]) -> [u8; 18]
     ensures { result ≡ satellites_of entries }
 {
-    let mut satellites = [0u8; 18];
-    let mut i = 0;
-    while i < 18 {
-        let e = entries[i];
-        satellites[i] = e.satellite;
-        i += 1;
-    }
-    satellites
+    entries.map(|e| e.satellite)
 }
 
-// Whether a satellite is one of those from number `from` on, below the count.
-fn is_among(satellite: u8, satellites: [u8; 18], from: usize, count: usize) -> bool
-    requires { count ≤ 18 }
-    ensures { result ≡ any_of (eqb satellite) (drop from (take count satellites)) }
+// Whether a satellite is one of others.
+fn is_among(satellite: u8, others: &[u8]) -> bool
+    ensures { result ≡ any_of (eqb satellite) others.now }
 {
-    let mut i = from;
-    while i < count {
-        if satellite == satellites[i] {
-            return true;
-        }
-        i += 1;
-    }
-    false
+    others.contains(&satellite)
 }
 
-// Whether one of the first `count` satellites stands there again.
-pub(crate) fn twice(satellites: [u8; 18], count: usize) -> bool
-    requires { count ≤ 18 }
-    ensures { result ≡ repeated (take count satellites) }
+// Whether one of these satellites stands there again.
+pub(crate) fn twice(satellites: &[u8]) -> bool
+    ensures { result ≡ repeated satellites.now }
 {
-    let mut i = 0;
-    while i < count {
-        if is_among(satellites[i], satellites, i + 1, count) {
+    for (i, satellite) in satellites.iter().enumerate() {
+        if is_among(*satellite, &satellites[i + 1..]) {
             return true;
         }
-        i += 1;
     }
     false
 }

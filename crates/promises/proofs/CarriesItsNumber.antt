@@ -10,9 +10,7 @@ use lib.Dec.{ltb, eqb}
 use Rattle.answer.specs.Order.{Says, refuses, answers, Check, in_order, NoneApplies, FirstIs}
 use Rattle.answer.proofs.OrderLaws.{order-answers, order-refuses, order-map, first_or_none, refuses-apart, says-order}
 use Rattle.line.specs.Answer.{says_six}
-use Rattle.line.specs.declared.Six.TheVariants as six
 use Rattle.word.specs.Answer.{says_sent}
-use Rattle.word.specs.declared.Sent.TheVariants as sent
 use Rattle.frame.specs.Layout.{layout_number}
 use Rattle.frame.specs.Frames.{blank}
 use Rattle.frame.specs.Widths.{any_of, state_outside, late}
@@ -20,10 +18,6 @@ use Rattle.frame.specs.Answer.{says_health_code, says_words, says_widths, says_c
 use Rattle.frame.specs.Layout.{system_of}
 use Rattle.frame.specs.declared.Layout.{Layout}
 use Rattle.frame.specs.declared.Layout.TheVariants as layout
-use Rattle.frame.specs.declared.HealthCode.TheVariants as health
-use Rattle.frame.specs.declared.HeaderWords.TheVariants as words
-use Rattle.frame.specs.declared.Widths.TheVariants.{Within, Outside}
-use Rattle.frame.specs.declared.Clock.TheVariants.{Hour, Late}
 use Rattle.reader.specs.Reading.{fed_by, fed_all_by, ended_by, taken_by, says_answer}
 use Rattle.reader.specs.Rows.{no_rows, rows_by}
 use Rattle.reader.specs.declared.Answer.TheVariants.{Refused}
@@ -73,7 +67,6 @@ use Rattle.record_values.specs.GeneralValues.{general_prc_value, outside14, dela
 use Rattle.record_values.proofs.GeneralLaws.{general-prc-says, delay-says, general-udre-says, use-says}
 use Rattle.record_values.proofs.AnswerLaws.{prc-says, rrc-says, udre-says, cn0-says, minutes-says, z-says, letter-says}
 use Rattle.printing.specs.Printing.{printed_by, says_printed}
-use Rattle.printing.specs.declared.Printed.TheVariants as printed
 use Rattle.listing.specs.Listing.{piece_by, finish_by, line_put}
 use Rattle.mender.specs.Steps.{refused_mend, says_mended}
 use Rattle.listing.specs.Listing as listing
@@ -83,6 +76,7 @@ use Rattle.record_laws.proofs.PlainLists.{OwedList}
 use Rattle.promises.specs.RecordLayouts.{list_of}
 use Rattle.promises.specs.CarriesItsNumber.{check_numbers, outside_table, Ordered, ListOrders, CarriesItsNumber}
 use Rattle.promises.proofs.RecordLayouts.{owed-of}
+use Rattle.answer.specs.Table.{refused, granted}
 
 number-inj : {A : Type 0} (m n : ℕ) → ◌≡◌ {A = Says A} (refuses m) (refuses n) → m ≡ n
 number-inj m n e = cc
@@ -184,13 +178,13 @@ carries-its-number = record {
   recall-either = λ bs. either-told bs (keeps_words bs);
   renew = λ bs room. told says_moved moved.Refused _ _ refl refl refl;
   restore = λ bs room. told says_moved moved.Refused _ _ refl refl refl;
-  six-of = λ b. told says_six six.Refused _ _ refl refl refl;
-  word-of = λ c d. told says_sent sent.Refused _ _ refl refl refl;
-  health-of = λ s. told says_health_code health.Refused _ _ refl refl refl;
-  header-words = λ h n. told says_words words.Refused _ _ refl refl refl;
-  header-widths = λ h. told says_widths (λ n. Outside) Within tt refl refl refl;
-  frame-widths = λ f. told says_widths (λ n. Outside) Within tt refl refl refl;
-  clock-of = λ z. told says_clock (λ n. Late) Hour tt refl refl refl;
+  six-of = λ b. told says_six refused _ _ refl refl refl;
+  word-of = λ c d. told says_sent refused _ _ refl refl refl;
+  health-of = λ s. told says_health_code refused _ _ refl refl refl;
+  header-words = λ h n. told says_words refused _ _ refl refl refl;
+  header-widths = λ h. told says_widths (λ n. (refused 5)) granted tt refl refl refl;
+  frame-widths = λ f. told says_widths (λ n. (refused 5)) granted tt refl refl refl;
+  clock-of = λ z. told says_clock (λ n. (refused 7)) granted tt refl refl refl;
   asked-of = λ l kind. told says_asked (λ n. Other) Same tt refl refl refl;
   count-in = λ l h w f. told says_count count.Refused _ _ refl refl refl;
   entry-place = λ l h w f i. told says_place place.Refused _ _ refl refl refl;
@@ -214,8 +208,8 @@ carries-its-number = record {
   add-report = λ a b. told says_added (refused_add a) _ _ refl refl refl;
   add-journal = λ a bs. told says_journal (λ n. record { answer = adding.Refused n; report = a; used = 0 }) _ _ refl refl refl;
   row-at = λ a i. told says_row row_read.Refused _ _ refl refl refl;
-  print = λ text place buffer. told says_printed printed.Refused _ _ refl refl refl;
-  put-line = λ at f out. told says_printed printed.Refused _ _ refl refl refl;
+  print = λ text place buffer. told says_printed refused _ _ refl refl refl;
+  put-line = λ at f out. told says_printed refused _ _ refl refl refl;
   mend = λ bs at s output. told says_mended refused_mend _ _ refl refl refl;
   list-piece = λ l bs room. told (λ (x : Listed). says_answer x.answer) (listing.refused_listing l) _ _ refl refl refl;
   finish = λ l room. told (λ (x : Listed). says_answer x.answer) (listing.refused_listing l) _ _ refl refl refl;

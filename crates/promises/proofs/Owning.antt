@@ -11,13 +11,14 @@ use Rattle.answer.specs.Order.{Says, answers, Check, in_order, NoneApplies}
 use Rattle.answer.proofs.OrderLaws.{order-answers}
 use Rattle.reader.specs.Reading.{says_answer}
 use Rattle.printing.specs.Printing.{print_order, printed_by, printed_to, says_printed}
-use Rattle.printing.specs.declared.Printed.TheVariants as printed
 use Rattle.listing.specs.Listing.{Lines, refused_listing, listed}
 use Rattle.listing.specs.declared.Listing.{Listing}
 use Rattle.listing.specs.declared.Listed.{Listed}
 use Rattle.promises.specs.CarriesItsNumber.{Ordered}
 use Rattle.promises.specs.ChangesNeither.{OnlyFirst, OnlyBetween, Owns}
 use Rattle.promises.proofs.CarriesItsNumber.{carries-its-number, says-inj, none_told}
+use Rattle.std.specs.Prelude.{Ok}
+use Rattle.answer.specs.Table.{refused}
 
 -- the answer that was ready says the value, and the buffer that was ready is left
 pub owns : {A X : Type 0} {numbers : List ℕ} {cs : List Check} (says : X → Says A) (refuse : ℕ → X) (answer : X) (value : A)
@@ -86,7 +87,7 @@ print-owns text place buffer next e =
     fits = ltb-false (length buffer) (place + length text) none.0
 
     at : answers (place + length text) ≡ answers next
-    at = ap says_printed (sym (order-answers printed.Refused (printed.At (place + length text)) (print_order text place buffer) none)) ∙ e
+    at = ap says_printed (sym (order-answers refused (Ok (place + length text)) (print_order text place buffer) none)) ∙ e
 
 -- the same of the listing's calls, which answer how much they wrote
 pub listing-owns : {numbers : List ℕ} {cs : List Check} (l : Listing) (x : Lines) (out : List ℕ)

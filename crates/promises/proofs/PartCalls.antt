@@ -1,4 +1,5 @@
 -- Each contract is an equation, asks nothing, and was met as its crate was checked. Assumes nothing.
+use Rattle.answer.proofs as answer
 use Rattle.line.proofs as line
 use Rattle.word.proofs as word
 use Rattle.frame.proofs as frame
@@ -6,6 +7,7 @@ use Rattle.promises.specs.PartCalls.{PartCalls}
 
 pub part-calls : PartCalls
 part-calls = record {
+  refusal-number = record { asks_nothing = λ κs a. tt; settles = λ κs a z e p. p; ends = answer.Refusal.number.Met.met };
   six-of = record { asks_nothing = λ κs a. tt; settles = λ κs a z e p. p; ends = line.six_of.Met.met };
   byte-of = record { asks_nothing = λ κs a. tt; settles = λ κs a z e p. p; ends = line.byte_of.Met.met };
   data-of = record { asks_nothing = λ κs a. tt; settles = λ κs a z e p. p; ends = word.data_of.Met.met };

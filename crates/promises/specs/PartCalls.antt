@@ -1,5 +1,6 @@
 -- DEMAND 1, call by call: bytes, words and frames. Assumes nothing.
 use Rattle.std.specs.Prelude.{◌%◌}
+use Rattle.answer.specs.Table.{refusal_number}
 use Rattle.line.specs.Answer.{six_of}
 use Rattle.bits.specs.Bits.{bits, number}
 use Rattle.line.specs.Line.{byte_of}
@@ -9,6 +10,7 @@ use Rattle.frame.specs.Header.{state_of, header_of, n_of, preambled}
 use Rattle.frame.specs.Answer.{health_of, header_widths, header_words, frame_widths, clock_of}
 use Rattle.frame.specs.Frames.{built_of, blank}
 use Rattle.frame.specs.Layout.{layout_of, layout_number, system_of}
+use Rattle.answer.proofs.Refusal.number as table_number
 use Rattle.line.proofs.six_of
 use Rattle.line.proofs.byte_of
 use Rattle.word.proofs.data_of
@@ -32,6 +34,9 @@ use Rattle.frame.proofs.system_of
 use Rattle.promises.specs.Answered.{Answered}
 
 pub record PartCalls : Type 2 where
+  -- answer
+  pub refusal-number : Answered table_number.Reads.Asked table_number.Reads.Learnt table_number.Statement.statement
+      (λ κs (refusal, _). refusal_number refusal)
   -- line
   pub six-of : Answered six_of.Reads.Asked six_of.Reads.Learnt six_of.Statement.statement
       (λ κs (byte, _). six_of byte)

@@ -13,7 +13,7 @@ abbrev pub thirty : ℕ → ℕ → ℕ → ℕ → ℕ → ℕ
 thirty a b c d e = (((a * 64 + b) * 64 + c) * 64 + d) * 64 + e
 
 -- thirty bits are made of their sixes
-pub sixes-make : (t : ℕ) → t < 2 ^ 30 → t % 2 ^ 32 ≡ thirty (six_at 4 t) (six_at 3 t) (six_at 2 t) (six_at 1 t) (six_at 0 t)
+pub sixes-make : (t : ℕ) → t < 2 ^ 30 → t ≡ thirty (six_at 4 t) (six_at 3 t) (six_at 2 t) (six_at 1 t) (six_at 0 t)
 sixes-make t h =
     none
     ∙ ap (λ u. u * 64 + six_at 0 t) (one
@@ -21,7 +21,7 @@ sixes-make t h =
     ∙ ap (λ u. u * 64 + six_at 2 t) (three
     ∙ ap (λ u. u * 64 + six_at 3 t) four)))
   where
-    none : t % 2 ^ 32 ≡ t / 2 ^ 6 * 64 + six_at 0 t
+    none : t ≡ t / 2 ^ 6 * 64 + six_at 0 t
     none = omega arith
 
     one : t / 2 ^ 6 ≡ t / 2 ^ 12 * 64 + six_at 1 t

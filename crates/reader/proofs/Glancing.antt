@@ -1,5 +1,5 @@
 -- Where the next word of a candidate is the last that has come and is right, the hunt stops there. Assumes nothing.
-use Rattle.std.proofs.Common.{◌≡◌, ℕ, suc, ◌+◌, ◌-◌, ◌*◌, ◌<◌, ◌≤◌, Bool, true, false, ◌&&◌, eqb, leb, List, length, sym, ap, ◌∙◌, add-one, arith, leb-false, leb-true}
+use Rattle.std.proofs.Common.{◌≡◌, ℕ, suc, ◌+◌, ◌-◌, ◌*◌, ◌<◌, ◌≤◌, Bool, true, false, ◌&&◌, eqb, leb, List, length, Some, sym, ap, ◌∙◌, add-one, arith, leb-false, leb-true}
 use borrow.Author.Tests.{not-false}
 use Rattle.bits.specs.Bits.{bits}
 use Rattle.word.specs.Word.{passes}
@@ -9,7 +9,6 @@ use Rattle.reader.specs.Cells.{held_bits}
 use Rattle.reader.specs.Hunting.{headless_at, GlancedAt}
 use Rattle.reader.specs.declared.Tally.{Tally}
 use Rattle.reader.specs.declared.hunt.Halt.{Halt}
-use Rattle.reader.specs.declared.hunt.Glanced.TheVariants.{Stops}
 use Rattle.reader.proofs.Looking.{headless-first}
 use Rattle.reader.proofs.Steps.{seen, step-next, step-whole, step-wait}
 use Rattle.reader.proofs.Remembering.{right-known}
@@ -29,7 +28,7 @@ module _ (cells : List ℕ) (len : length cells ≡ 40) (end : ℕ) (top : end �
       right-known k (bits 32 w) (λ z. not-false _ (headless-first k (bits 32 w) z ∙ head)) (zero-pass x (passes (bits 32 w)) beside divided none).0
 
   pub stops-here : left < 62 + 30 * k → (all : Bool) → leb (size (held_bits cells end left)) (k + 1) ≡ all
-      → GlancedAt cells end left k t (Stops (stop left k t all))
+      → GlancedAt cells end left k t (Some (stop left k t all))
   stops-here short true l = (sym (step-whole cells len end top left low false t k w few come is good (omega (arith, whole))), omega arith)
     where
       whole : size (held_bits cells end left) ≤ k + 1

@@ -1,5 +1,7 @@
 -- Six bits pushed into the buffer: they follow the bits held, and near the end of the buffer the cells move down first. Assumes nothing.
-use Rattle.std.proofs.Common.{◌≡◌, ℕ, suc, ◌+◌, ◌-◌, ◌*◌, ◌/◌, ◌%◌, ◌^◌, ◌<◌, ◌≤◌, Bool, true, false, cond, leb, List, [], ◌∷◌, ◌++◌, length, get_or, take, drop, set, sym, refl, ap, ◌∙◌, ap₂, append_assoc, add-zero, add_comm, add-one, arith, length-append, length-drop, length-set, take-append-drop, length-take, length-take-le, get_or-drop, take_all, drop-cons, take-suc, drop-drop, take_at, get_or-append-add, pow_pos, le-leb, leb-true}
+use Rattle.std.proofs.Common.{◌≡◌, ℕ, suc, ◌+◌, ◌-◌, ◌*◌, ◌/◌, ◌%◌, ◌^◌, ◌<◌, ◌≤◌, Bool, true, false, cond, leb, List, [], ◌∷◌, ◌++◌, length, get_or, take, drop, set, sym, refl, ap, ◌∙◌, ap₂, append_assoc, add-zero, zero-add, add-one, arith, length-append, length-drop, length-set, take-append-drop, length-take, length-take-le, drop-cons, drop-drop, take_at, pow_pos, le-leb, leb-true}
+use Rattle.std.specs.List.{copy_within}
+use Rattle.std.proofs.lemmas.List.{take_rest}
 use lib.Seq.{take-append-le, drop-append-le, set_at}
 use borrow.Author.Tests.{lt-leb}
 use Rattle.bits.specs.Bits.{bits}
@@ -205,27 +207,7 @@ module _ (cells : List ℕ) (end held x : ℕ) where
   unfolding room_end room_cells pushed_cells
   push-over h = (rw (lt-leb end 1216 h), rw (lt-leb end 1216 h))
 
--- A LIST OVERWRITTEN FROM ITS START by another, an element at a time
-abbrev pub part : ℕ → List ℕ → List ℕ → List ℕ
-part i m l = take i m ++ drop i l
-
-part-get : (i : ℕ) (m l : List ℕ) (k : ℕ) → i ≤ length m → get_or (part i m l) (i + k) 0 ≡ get_or l (i + k) 0
-part-get i m l k h =
-    ap (λ (n : ℕ). get_or (part i m l) (n + k) 0) (sym (length-take-le i m h)) ∙ get_or-append-add (take i m) (drop i l) k 0 ∙ get_or-drop i l k 0
-
-part-set : (i : ℕ) (m l : List ℕ) → i < length m → i < length l → set (part i m l) i (get_or m i 0) ≡ part (suc i) m l
-part-set i m l h g =
-    rw (drop-cons l i 0 g, set_at (take i m) (get_or l i 0) (drop (suc i) l) (get_or m i 0) i (length-take-le i m (omega arith)), take-suc m i 0 h)
-    (sym (append_assoc (take i m) (get_or m i 0 ∷ []) (drop (suc i) l)))
-
-pub down_step : (cells l : List ℕ) (k i : ℕ) → cells ≡ part i (drop k l) l → i + k < length l → set cells i (get_or cells (i + k) 0) ≡ part (i + 1) (drop k l) l
-down_step cells l k i e h =
-    rw (e, part-get i (drop k l) l k (omega (arith, length-drop k l)), add-one i, add_comm i k, ← (get_or-drop k l i 0))
-    (part-set i (drop k l) l (omega (arith, length-drop k l)) (omega arith))
-
-pub down-end : (cells l : List ℕ) (k i : ℕ) → length l ≡ 40 → cells ≡ part i (drop k l) l → i + k ≡ 40 → cells ≡ down_cells l k
+-- all cells moved down by k, as the library says it
+pub down-within : (cells : List ℕ) (k : ℕ) → length cells ≡ 40 → copy_within cells k (length cells) 0 ≡ down_cells cells k
 unfolding down_cells
-down-end cells l k i len e h = e ∙ ap₂ (λ (a b : List ℕ). a ++ b) (take_all i (drop k l) (omega (arith, length-drop k l, len))) (ap (λ (n : ℕ). drop n l) back)
-  where
-    back : i ≡ 40 - k
-    back = omega arith
+down-within cells k l = rw (take_rest cells k, zero-add (length cells - k), l)

@@ -1,6 +1,7 @@
 -- Rows: the bytes that are stored before the words, the words three bytes each, and both together the row of a frame. Assumes nothing.
-use Rattle.std.proofs.Common.{◌≡◌, ℕ, suc, ◌+◌, ◌-◌, ◌/◌, ◌%◌, ◌<◌, ◌≤◌, Bool, List, [], ◌∷◌, ◌++◌, set, sym, refl, ap, ◌∙◌, ap₂, div-one, add-one, arith}
-use lib.Seq.{sets}
+use Rattle.std.proofs.Common.{◌≡◌, ℕ, suc, ◌+◌, ◌-◌, ◌/◌, ◌%◌, ◌<◌, ◌≤◌, Bool, List, [], ◌∷◌, ◌++◌, length, take, drop, set, sym, refl, ap, ◌∙◌, ap₂, append_assoc, drop-drop, div-one, add-one, arith}
+use borrow.Rule.Slice.PartMut.{put_mid}
+use lib.Seq.{sets, sets-eq}
 use Rattle.bits.specs.Bits.{number}
 use Rattle.bits.proofs.Stores.{sets-append}
 use Rattle.word.specs.Word.{data_of}
@@ -52,49 +53,24 @@ data-next n k d h =
     less = omega arith
 
 -- storing them is storing word k, then those behind it
-pub store-data : (l : List ℕ) (i n k w : ℕ) (d : List Bool) → k < n → w ≡ number (data_of (word_at k d))
+pub store-data : (l : List ℕ) (i n k w next : ℕ) (d : List Bool) → k < n → next ≡ i + 3 → w ≡ number (data_of (word_at k d))
     → sets l i (written 3 (data_from (n - k) k d))
-    ≡ sets (set (set (set l i (w / 65536 % 256)) (i + 1) (w / 256 % 256)) (i + 2) (w % 256)) (i + 3) (written 3 (data_from (n - (k + 1)) (k + 1) d))
+    ≡ sets (set (set (set l i (w / 65536 % 256)) (i + 1) (w / 256 % 256)) (i + 2) (w % 256)) next (written 3 (data_from (n - (k + 1)) (k + 1) d))
 unfolding written
-store-data l i n k w d h e =
+store-data l i n k w next d h en e =
     ap (λ ws. sets l i (written 3 ws)) (data-next n k d h ∙ ap (λ v. v ∷ data_from (n - (k + 1)) (k + 1) d) (sym e))
     ∙ store-next 3 l (written 3 (data_from (n - (k + 1)) (k + 1) d)) i w
     ∙ ap (λ m. sets m (i + 3) (written 3 (data_from (n - (k + 1)) (k + 1) d))) (sym (store-three l i w))
+    ∙ ap (λ p. sets (set (set (set l i (w / 65536 % 256)) (i + 1) (w / 256 % 256)) (i + 2) (w % 256)) p (written 3 (data_from (n - (k + 1)) (k + 1) d))) (sym en)
 
 -- ---- what stands before them
 
 abbrev pub head_of : ℕ → Carried → ℕ → List ℕ
 head_of at c n = at % 256 ∷ at / 256 % 256 ∷ at / 65536 % 256 ∷ at / 16777216 % 256 ∷ c.d29 ∷ c.d30 ∷ 0x52 ∷ 0x32 ∷ n ∷ []
 
--- nine bytes one after the other
-pub store-nine : (l : List ℕ) (i a b c d e f g h k : ℕ)
-    → set (set (set (set (set (set (set (set (set l i a) (i + 1) b) (i + 2) c) (i + 3) d) (i + 4) e) (i + 5) f) (i + 6) g) (i + 7) h) (i + 8) k
-    ≡ sets l i (a ∷ b ∷ c ∷ d ∷ e ∷ f ∷ g ∷ h ∷ k ∷ [])
-store-nine l i a b c d e f g h k = rw (on1, on2, on3, on4, on5, on6, on7, on8)
-  where
-    on1 : i + 1 ≡ suc i
-    on1 = omega arith
-
-    on2 : i + 2 ≡ suc (suc i)
-    on2 = omega arith
-
-    on3 : i + 3 ≡ suc (suc (suc i))
-    on3 = omega arith
-
-    on4 : i + 4 ≡ suc (suc (suc (suc i)))
-    on4 = omega arith
-
-    on5 : i + 5 ≡ suc (suc (suc (suc (suc i))))
-    on5 = omega arith
-
-    on6 : i + 6 ≡ suc (suc (suc (suc (suc (suc i)))))
-    on6 = omega arith
-
-    on7 : i + 7 ≡ suc (suc (suc (suc (suc (suc (suc i))))))
-    on7 = omega arith
-
-    on8 : i + 8 ≡ suc (suc (suc (suc (suc (suc (suc (suc i)))))))
-    on8 = omega arith
+-- bytes copied to a part are stored one after the other
+pub put-sets : (l : List ℕ) (i k : ℕ) (vs : List ℕ) → k ≡ length vs → i + length vs ≤ length l → put_mid i k l vs ≡ sets l i vs
+put-sets l i k vs e h = rw (e, drop-drop (length vs) i l) (sym (sets-eq vs l i h ∙ append_assoc (take i l) vs (drop (i + length vs) l)))
 
 -- ---- the row
 

@@ -1,18 +1,18 @@
 -- The cases of `take`: 5, 4, and the frame that waits. Assumes nothing.
-use Rattle.std.proofs.Common.{◌≡◌, ◌+◌, ◌-◌, ◌*◌, ◌≤◌, Bool, true, false, cond, not, ◌&&◌, length, sym, refl, ap, ◌∙◌, arith}
+use Rattle.std.proofs.Common.{◌≡◌, ◌+◌, ◌-◌, ◌*◌, ◌≤◌, Bool, true, false, cond, not, ◌&&◌, length, Some, None, sym, refl, ap, ◌∙◌, arith}
+use Rattle.std.proofs.lemmas.Option.{none-some, cond_some}
 use Rattle.frame.specs.declared.Frame.{Frame}
 use Rattle.stream.specs.Standing.{n_at, size, stands, frame_at}
 use Rattle.stream.proofs.Words.{frame-n}
 use Rattle.stream.proofs.Stand.{test-stands}
 use Rattle.reader.specs.Hunting.{hunt_of}
 use Rattle.reader.specs.Reading.{bits_of, past, frame_waits, moved_to, take_to, refused_taking, taken_by}
-use Rattle.reader.specs.Taking.{none_there, some_there, there_in}
+use Rattle.reader.specs.Taking.{there_in}
 use Rattle.reader.specs.declared.hunt.Halt.{Halt}
 use Rattle.reader.specs.declared.Candidate.{Candidate}
 use Rattle.reader.specs.declared.Reader.{Reader}
 use Rattle.reader.specs.declared.Taken.{Taken}
 use Rattle.reader.specs.declared.Answer.TheVariants.{Done}
-use Rattle.reader.specs.declared.taking.There.{There}
 
 module _ (r : Reader) where
   unfoldable pub given : Taken
@@ -37,41 +37,36 @@ module _ (r : Reader) where
   unfolding frame_waits
   take-flag p w x e = e ∙ sym (by-checks false false p (ap (λ t. t && stands (bits_of r)) w))
 
-  module _ (p : past r ≡ false) (w : r.candidate.waits ≡ true) (x : There) (e : x ≡ there_in (bits_of r)) where
-    stands-is : x.stands ≡ stands (bits_of r)
-    unfolding there_in
-    stands-is = ap (λ (y : There). y.stands) e ∙ go (stands (bits_of r))
-      where
-        go : (t : Bool) → (cond t (some_there (bits_of r)) none_there).stands ≡ t
-        go true = refl
-        go false = refl
-
-    waits-is : frame_waits r ≡ x.stands
+  module _ (p : past r ≡ false) (w : r.candidate.waits ≡ true) where
+    waits-is : frame_waits r ≡ stands (bits_of r)
     unfolding frame_waits
-    waits-is = ap (λ t. t && stands (bits_of r)) w ∙ sym stands-is
+    waits-is = ap (λ t. t && stands (bits_of r)) w
 
-    pub take-nothing : x.stands ≡ false → (y : Taken) → y ≡ refused_taking r 4 → y ≡ taken_by r
-    take-nothing s y f = f ∙ sym (by-checks false false p (waits-is ∙ s))
+    pub take-nothing : None ≡ there_in (bits_of r) → (y : Taken) → y ≡ refused_taking r 4 → y ≡ taken_by r
+    unfolding there_in
+    take-nothing e y f = f ∙ sym (by-checks false false p (waits-is ∙ go (stands (bits_of r)) e))
+      where
+        go : (t : Bool) → None ≡ cond t (Some (frame_at (bits_of r))) None → t ≡ false
+        go true q = absurd (none-some _ q)
+        go false q = refl
 
-    module _ (s : x.stands ≡ true) where
-      pub frame-there : x.frame ≡ frame_at (bits_of r)
+    module _ (f : Frame) (e : Some f ≡ there_in (bits_of r)) where
+      there : (stands (bits_of r) ≡ true) × (f ≡ frame_at (bits_of r))
       unfolding there_in
-      frame-there =
-          ap (λ (y : There). y.frame) e
-          ∙ ap (λ t. (cond t (some_there (bits_of r)) none_there).frame) (sym stands-is ∙ s)
+      there = let q = cond_some (stands (bits_of r)) (frame_at (bits_of r)) f (sym e) in (q.0, sym q.1)
 
-      pub n-there : x.frame.n ≡ n_at (bits_of r)
-      n-there = ap (λ (f : Frame). f.n) frame-there ∙ frame-n (bits_of r)
+      pub n-there : f.n ≡ n_at (bits_of r)
+      n-there = ap (λ (g : Frame). g.n) there.1 ∙ frame-n (bits_of r)
 
-      pub come-there : length (bits_of r) ≡ r.candidate.held → 30 * (x.frame.n + 2) ≤ r.candidate.held
-      come-there long = omega (arith, n-there, (test-stands (bits_of r) (sym stands-is ∙ s)).taken)
+      pub come-there : length (bits_of r) ≡ r.candidate.held → 30 * (f.n + 2) ≤ r.candidate.held
+      come-there long = omega (arith, n-there, (test-stands (bits_of r) there.0).taken)
 
       pub take_done : (halt : Halt)
-          → halt ≡ hunt_of r.cells r.candidate.end (r.candidate.held - 30 * (x.frame.n + 2)) 0 r.ended r.candidate.tally
+          → halt ≡ hunt_of r.cells r.candidate.end (r.candidate.held - 30 * (f.n + 2)) 0 r.ended r.candidate.tally
           → (c : Candidate) → c ≡ moved_to r.candidate.at r.candidate.end r.candidate.held halt
-          → record { answer = Done; at = r.candidate.at; frame = x.frame; reader = record { cells = r.cells; candidate = c; ended = r.ended } } ≡ taken_by r
+          → record { answer = Done; at = r.candidate.at; frame = f; reader = record { cells = r.cells; candidate = c; ended = r.ended } } ≡ taken_by r
       unfolding given take_to
-      take_done halt es c ec = rw (frame-there, ec, es, words) (sym (by-checks false true p (waits-is ∙ s)))
+      take_done halt es c ec = rw (there.1, ec, es, words) (sym (by-checks false true p (waits-is ∙ there.0)))
         where
-          words : x.frame.n + 2 ≡ size (bits_of r)
+          words : f.n + 2 ≡ size (bits_of r)
           words = omega (arith, n-there)

@@ -1,5 +1,5 @@
 -- The frame that waits: its words tested two by two, whether it stands, and what windows say of its header. Assumes nothing.
-use Rattle.std.proofs.Common.{◌≡◌, ℕ, zero, suc, ◌+◌, ◌-◌, ◌*◌, ◌/◌, ◌%◌, ◌^◌, ◌<◌, ◌≤◌, Bool, true, false, cond, ◌&&◌, eqb, leb, List, [], ◌∷◌, length, sym, refl, ap, ◌∙◌, subst, ap₂, add-one, arith, eq-eqb, ne_eqb, le-leb}
+use Rattle.std.proofs.Common.{◌≡◌, ℕ, zero, suc, ◌+◌, ◌-◌, ◌*◌, ◌/◌, ◌%◌, ◌^◌, ◌<◌, ◌≤◌, min, Bool, true, false, cond, ◌&&◌, eqb, leb, List, [], ◌∷◌, length, Some, None, sym, refl, ap, ◌∙◌, ap₂, add-one, arith, eq-eqb, ne_eqb, le-leb}
 use mathlib.Core.Bool.{and-eq-true_iff}
 use native.Mathlib.Decide.{dec_lt}
 use Rattle.bits.specs.Bits.{bits, number}
@@ -8,12 +8,12 @@ use Rattle.word.specs.Word.{data_of, passes}
 use Rattle.frame.specs.Header.{preambled, header_of, n_of}
 use Rattle.frame.specs.declared.Header.{Header}
 use Rattle.frame.specs.declared.Carried.{Carried}
-use Rattle.stream.specs.Standing.{word_at, right, n_at, size, Stands, all_right, stands, pair_before}
+use Rattle.stream.specs.Standing.{word_at, right, n_at, size, Stands, all_right, stands, pair_before, frame_at}
 use Rattle.stream.proofs.Words.{unlike, right-later, right-at-first, right-first}
 use Rattle.stream.proofs.Stand.{stands-long, test-stands, not_test}
 use Rattle.reader.specs.Cells.{held_bits}
-use Rattle.reader.specs.Taking.{none_there, some_there, there_in}
-use Rattle.reader.specs.declared.taking.There.{There}
+use Rattle.frame.specs.declared.Frame.{Frame}
+use Rattle.reader.specs.Taking.{there_in}
 use Rattle.reader.proofs.Buffer.{length-held}
 use Rattle.reader.proofs.Leaves.{bits-data}
 use Rattle.reader.proofs.Steps.{seen, word-is, n-is}
@@ -33,13 +33,13 @@ pair-first (a ∷ b ∷ d) = refl
 
 -- ---- whether a frame stands
 
-pub there-some : (d : List Bool) → stands d ≡ true → (x : There) → x ≡ some_there d → x ≡ there_in d
+pub there-some : (d : List Bool) → stands d ≡ true → (f : Frame) → f ≡ frame_at d → Some f ≡ there_in d
 unfolding there_in
-there-some d s x e = e ∙ sym (ap (λ t. cond t (some_there d) none_there) s)
+there-some d s f e = ap Some e ∙ sym (ap (λ t. cond t (Some (frame_at d)) None) s)
 
-pub there-none : (d : List Bool) → stands d ≡ false → (x : There) → x ≡ none_there → x ≡ there_in d
+pub there-none : (d : List Bool) → stands d ≡ false → None ≡ there_in d
 unfolding there_in
-there-none d s x e = e ∙ sym (ap (λ t. cond t (some_there d) none_there) s)
+there-none d s = sym (ap (λ t. cond t (Some (frame_at d)) None) s)
 
 -- all words have come: it stands where each is right
 stands-all : (d : List Bool) (m : ℕ) → m ≡ size d → 2 + 30 * m ≤ length d → stands d ≡ all_right m 0 d
@@ -78,9 +78,9 @@ right-next n k d h =
     less = omega arith
 
 -- two words, of which the second is the next or the first once more
-right-two : (n k j : ℕ) (d : List Bool) → k ≤ j → j ≤ k + 1 → j < n
-    → all_right (n - k) k d ≡ (right k (word_at k d) && right j (word_at j d)) && all_right (n - (j + 1)) (j + 1) d
-right-two n k j d h l b = go (dec_lt k j)
+right-two : (n k j : ℕ) (d : List Bool) → k < n → j ≡ min (k + 1) (n - 1)
+    → all_right (n - k) k d ≡ (right k (word_at k d) && right j (word_at j d)) && all_right (n - (k + 2)) (k + 2) d
+right-two n k j d h l = go (dec_lt k j)
   where
     joined : (x y z : Bool) → x && (y && z) ≡ (x && y) && z
     joined true y z = refl
@@ -93,16 +93,21 @@ right-two n k j d h l b = go (dec_lt k j)
     word : ℕ → Bool
     word i = right i (word_at i d)
 
-    go : Dec (k < j) → all_right (n - k) k d ≡ (word k && word j) && all_right (n - (j + 1)) (j + 1) d
+    go : Dec (k < j) → all_right (n - k) k d ≡ (word k && word j) && all_right (n - (k + 2)) (k + 2) d
     go (yes m) =
-        right-next n k d (omega arith)
-        ∙ ap (λ t. word k && t) (ap (λ i. all_right (n - i) i d) next ∙ right-next n j d b) ∙ joined (word k) (word j) (all_right (n - (j + 1)) (j + 1) d)
+        right-next n k d h
+        ∙ ap (λ t. word k && t) (ap (λ i. all_right (n - i) i d) next ∙ right-next n j d (omega arith)) ∙ joined (word k) (word j) (all_right (n - (j + 1)) (j + 1) d)
+        ∙ ap (λ i. (word k && word j) && all_right (n - i) i d) after
       where
         next : k + 1 ≡ j
         next = omega (arith, m)
+
+        after : j + 1 ≡ k + 2
+        after = omega (arith, m)
     go (no m) =
-        subst (λ i. all_right (n - k) k d ≡ (word k && word i) && all_right (n - (i + 1)) (i + 1) d) same
-        (right-next n k d (omega arith) ∙ ap (λ t. t && all_right (n - (k + 1)) (k + 1) d) (twice (word k)))
+        right-next n k d h
+        ∙ ap₂ ◌&&◌ (twice (word k) ∙ ap (λ i. word k && word i) same)
+        (right-none n (k + 1) d (omega (arith, m)) ∙ sym (right-none n (k + 2) d (omega (arith, m))))
       where
         same : k ≡ j
         same = omega (arith, m)
@@ -129,14 +134,14 @@ module _ (cells : List ℕ) (len : length cells ≡ 40) (end : ℕ) (top : end �
   data-here k w x come e f = f ∙ ap (λ v. number (data_of v)) (word-is cells len end top held low k w come e)
 
   -- word k and the one beside it, and what is left of the two
-  module _ (n k j w v x : ℕ) (h : k ≤ j) (l : j ≤ k + 1) (b : j < n) (come : 2 + 30 * n ≤ held) (head : preambled (data_of (word_at 0 d)) ≡ true)
+  module _ (n k j w v x : ℕ) (h : k < n) (l : j ≡ min (k + 1) (n - 1)) (come : 2 + 30 * n ≤ held) (head : preambled (data_of (word_at 0 d)) ≡ true)
       (ew : w ≡ seen cells (end - held + 30 * k)) (ev : v ≡ seen cells (end - held + 30 * j)) (e : eqb x 0 ≡ passes (bits 32 w) && passes (bits 32 v)) where
     abbrev behind : Bool
-    behind = all_right (n - (j + 1)) (j + 1) d
+    behind = all_right (n - (k + 2)) (k + 2) d
 
     two_here : all_right (n - k) k d ≡ eqb x 0 && behind
     two_here =
-        right-two n k j d h l b
+        right-two n k j d h l
         ∙ ap (λ t. t && behind)
         (ap₂ ◌&&◌ (right-pass k d head ∙ ap passes (sym (word-is cells len end top held low k w (omega arith) ew)))
         (right-pass j d head ∙ ap passes (sym (word-is cells len end top held low j v (omega arith) ev))) ∙ sym e)
@@ -194,7 +199,7 @@ module _ (cells : List ℕ) (len : length cells ≡ 40) (end : ℕ) (top : end �
 
         pub header-pass : x ≡ 0 → stands d ≡ all_right n 2 d
         header-pass z =
-            from_first ∙ two-pass (n + 2) 0 1 one two x (omega arith) (omega arith) (omega arith) (omega arith) head (e1 ∙ ap (seen cells) place) e2 e z
+            from_first ∙ two-pass (n + 2) 0 1 one two x (omega arith) (omega arith) (omega arith) head (e1 ∙ ap (seen cells) place) e2 e z
             ∙ ap (λ m. all_right m 2 d) less
           where
             less : n + 2 - 2 ≡ n
@@ -202,7 +207,7 @@ module _ (cells : List ℕ) (len : length cells ≡ 40) (end : ℕ) (top : end �
 
         pub header-fail : (x ≡ 0 → ⊥) → stands d ≡ false
         header-fail f =
-            from_first ∙ two-fail (n + 2) 0 1 one two x (omega arith) (omega arith) (omega arith) (omega arith) head (e1 ∙ ap (seen cells) place) e2 e f
+            from_first ∙ two-fail (n + 2) 0 1 one two x (omega arith) (omega arith) (omega arith) head (e1 ∙ ap (seen cells) place) e2 e f
 
   -- a frame that stands has all its words
   pub come-standing : stands d ≡ true → 62 + 30 * n_at d ≤ held

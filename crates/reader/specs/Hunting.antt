@@ -1,5 +1,5 @@
 -- The hunt over the bits that a buffer holds, and how the positions that a word ruled out are counted. Assumes nothing.
-use Rattle.std.specs.Prelude.{◌≡◌, ℕ, zero, suc, ◌+◌, ◌*◌, ◌/◌, ◌%◌, ◌^◌, ◌<◌, ◌≤◌, Bool, true, false, cond, not, List, [], ◌∷◌, length, take, drop, ◌==◌, ◌≢◌, slice_index, slice_set}
+use Rattle.std.specs.Prelude.{◌≡◌, ℕ, zero, suc, ◌+◌, ◌*◌, ◌/◌, ◌%◌, ◌^◌, ◌<◌, ◌≤◌, Bool, true, false, cond, not, List, [], ◌∷◌, length, take, drop, ◌==◌, ◌≢◌, slice_index, slice_set, Option, Some, None, Result, Ok, Err}
 use Rattle.bits.specs.Bits.{odd, bits, number}
 use Rattle.word.specs.Word.{data_of, passes}
 use Rattle.frame.specs.Header.{preambled}
@@ -8,10 +8,6 @@ use Rattle.stream.specs.Verdict.{Fault, headless, failed, fault_of, Hunted, hunt
 use Rattle.reader.specs.Cells.{cell_bits, held_bits}
 use Rattle.reader.specs.declared.Tally.{Tally}
 use Rattle.reader.specs.declared.hunt.Halt.{Halt}
-use Rattle.reader.specs.declared.hunt.Looked.{Looked}
-use Rattle.reader.specs.declared.hunt.Looked.TheVariants.{Right, Wrong}
-use Rattle.reader.specs.declared.hunt.Glanced.{Glanced}
-use Rattle.reader.specs.declared.hunt.Glanced.TheVariants.{Stops, Open}
 
 -- no position counted
 abbrev pub fresh : Tally
@@ -38,8 +34,8 @@ headless_at zero w = not (preambled (data_of w))
 headless_at (suc k) w = false
 
 -- what a look at a word says: right, or the counters with its position
-abbrev pub looked_at : ℕ → List Bool → Tally → Looked
-looked_at k w t = cond (right k w) Right (Wrong (counted_by t (fault_of k w)))
+abbrev pub looked_at : ℕ → List Bool → Tally → Result (Unit {0}) Tally
+looked_at k w t = cond (right k w) (Ok tt) (Err (counted_by t (fault_of k w)))
 
 -- where a hunt that begins with the counters t stops, by the number of bits left
 unfoldable pub halt_of : Tally → Hunted → Halt
@@ -49,9 +45,9 @@ unfoldable pub hunt_of : List ℕ → ℕ → ℕ → ℕ → Bool → Tally →
 hunt_of cells end held words ended t = halt_of t (hunt ended words (held_bits cells end held))
 
 -- where a glance says that a hunt which has not ended stops, it does
-abbrev pub GlancedAt : List ℕ → ℕ → ℕ → ℕ → Tally → Glanced → Type 0
-GlancedAt cells end held words t (Stops halt) = (halt ≡ hunt_of cells end held words false t) × (halt.left ≤ held)
-GlancedAt cells end held words t Open = Unit {0}
+abbrev pub GlancedAt : List ℕ → ℕ → ℕ → ℕ → Tally → Option Halt → Type 0
+GlancedAt cells end held words t (Some halt) = (halt ≡ hunt_of cells end held words false t) × (halt.left ≤ held)
+GlancedAt cells end held words t None = Unit {0}
 
 -- the window at bit x of the buffer passes; so do k words from a bit on
 abbrev pub passes_at : List ℕ → ℕ → Bool

@@ -1,5 +1,5 @@
 -- What the reader's calls answer, and the reader that they leave: each in the order of its refusals. Assumes nothing.
-use Rattle.std.specs.Prelude.{◌≡◌, ℕ, zero, suc, ◌+◌, ◌-◌, ◌*◌, ◌%◌, ◌^◌, ◌<◌, ◌≤◌, Bool, true, false, cond, not, ◌&&◌, ◌||◌, List, [], ◌∷◌, ◌++◌, length, replicate, nat_lt, slice_index}
+use Rattle.std.specs.Prelude.{◌≡◌, ℕ, zero, suc, ◌+◌, ◌-◌, ◌*◌, ◌%◌, ◌^◌, ◌<◌, ◌≤◌, Bool, true, false, cond, not, ◌&&◌, ◌||◌, List, [], ◌∷◌, ◌++◌, length, replicate, nat_lt, slice_index, Option, Some, None}
 use Rattle.answer.specs.Order.{Says, refuses, answers, Check, in_order}
 use Rattle.bits.specs.Bits.{number}
 use Rattle.line.specs.Line.{is_data, six}
@@ -16,8 +16,6 @@ use Rattle.reader.specs.declared.Answer.{Answer}
 use Rattle.reader.specs.declared.Answer.TheVariants.{Done, Refused}
 use Rattle.reader.specs.declared.checks.Ready.{Ready}
 use Rattle.reader.specs.declared.checks.Ready.TheVariants as ready
-use Rattle.reader.specs.declared.advance.Five.{Five}
-use Rattle.reader.specs.declared.advance.Five.TheVariants.{Thirty, Fewer}
 use Rattle.reader.specs.declared.Next.{Next}
 use Rattle.reader.specs.declared.FedAll.{FedAll}
 use Rattle.reader.specs.declared.Taken.{Taken}
@@ -99,9 +97,9 @@ later zero = 1
 later (suc k) = suc k
 
 -- of five bytes that carry sixes the first four bring no frame to its end, and there is room for all
-abbrev pub FiveIn : Candidate → List ℕ → ℕ → Five → Type 0
-FiveIn c bytes at (Thirty t) = (c.end ≤ 1192) × (c.held + 24 < 32 + 30 * later c.words) × (t < 2 ^ 30) × SixesAt bytes at (sixes_of t)
-FiveIn c bytes at Fewer = Unit {0}
+abbrev pub FiveIn : Candidate → List ℕ → ℕ → Option ℕ → Type 0
+FiveIn c bytes at (Some t) = (c.end ≤ 1192) × (c.held + 24 < 32 + 30 * later c.words) × (t < 2 ^ 30) × SixesAt bytes at (sixes_of t)
+FiveIn c bytes at None = Unit {0}
 
 -- ---- FEED: 5, 3, 2, 1
 

@@ -1,21 +1,14 @@
 -- What taking finds in the bits held: the frame that stands there, or that none does. Assumes nothing.
-use Rattle.std.specs.Prelude.{◌≡◌, ℕ, Bool, true, false, cond, List}
+use Rattle.std.specs.Prelude.{◌≡◌, ℕ, Bool, true, cond, List, Option, Some, None}
 use Rattle.word.specs.Word.{data_of}
 use Rattle.frame.specs.Header.{preambled, header_of}
-use Rattle.frame.specs.Frames.{blank}
 use Rattle.frame.specs.declared.Header.{Header}
 use Rattle.frame.specs.declared.Carried.{Carried}
 use Rattle.stream.specs.Standing.{word_at, n_at, all_right, stands, pair_before, frame_at}
-use Rattle.reader.specs.declared.taking.There.{There}
+use Rattle.frame.specs.declared.Frame.{Frame}
 
-abbrev pub none_there : There
-none_there = record { stands = false; frame = blank }
-
-abbrev pub some_there : List Bool → There
-some_there d = record { stands = true; frame = frame_at d }
-
-unfoldable pub there_in : List Bool → There
-there_in d = cond (stands d) (some_there d) none_there
+unfoldable pub there_in : List Bool → Option Frame
+there_in d = cond (stands d) (Some (frame_at d)) None
 
 -- the two words of a header, of which the first has the preamble, the two bits before them, and N: a frame stands exactly where the N words behind are right
 pub record HeaderIn (d : List Bool) (header : Header) (carried : Carried) (n : ℕ) : Type 0 where

@@ -6,8 +6,7 @@ ghost use Rattle.reader.specs.Reading.{past_of, moved_to, step_cells, step_to, m
 use crate::Candidate;
 use crate::cells::{push, put_five};
 use crate::five::{all_data, joined, thirty_of};
-use crate::hunt::{Glanced, Halt, glance, hunt, seek};
-use line::Six;
+use crate::hunt::{Halt, glance, hunt, seek};
 
 // What a run over bytes left beside the cells.
 #[derive(Clone, Copy)]
@@ -17,14 +16,8 @@ pub(crate) struct Ran {
     pub passed: usize,
 }
 
-// The thirty bits of five bytes, or that there are fewer to put in at once.
-#[derive(Clone, Copy)]
-pub(crate) enum Five {
-    Thirty(u32),
-    Fewer,
-}
-
 // The candidate where a hunt stops.
+#[tactic(auto, unfolding(crate::specs::Reading::moved_to))]
 pub(crate) fn moved(at: u32, end: usize, held: usize, halt: Halt) -> Candidate
     requires { (halt.left ≤ held) × (held ≤ 1280) }
     ensures { result ≡ moved_to at end held halt }
@@ -34,7 +27,7 @@ pub(crate) fn moved(at: u32, end: usize, held: usize, halt: Halt) -> Candidate
         end,
         held: halt.left,
         words: halt.words,
-        at: std::num::wrapping_add_u32(at, (held - halt.left) as u32),
+        at: at.wrapping_add((held - halt.left) as u32),
         waits: halt.found,
         tally,
     }
@@ -92,24 +85,24 @@ fn later(words: usize) -> usize
 }
 
 // The thirty bits of the next five bytes, where each carries six, the first four bring no frame to its end, and there is room for all.
-fn five_of(c: Candidate, bytes: &[u8], at: usize) -> Five
+fn five_of(c: Candidate, bytes: &[u8], at: usize) -> Option<u32>
     requires { (at ≤ length bytes.now) × (c.held ≤ 991) × (c.words ≤ 32) }
     ensures { FiveIn c bytes.now at result }
 {
     if 1192 < c.end {
-        return Five::Fewer;
+        return None;
     }
     if 32 + 30 * later(c.words) <= c.held + 24 {
-        return Five::Fewer;
+        return None;
     }
     if bytes.len() - at < 5 {
-        return Five::Fewer;
+        return None;
     }
     let five = joined(bytes, at);
     if !all_data(five) {
-        return Five::Fewer;
+        return None;
     }
-    Five::Thirty(thirty_of(five))
+    Some(thirty_of(five))
 }
 
 // Thirty bits more, of whose five sixes the first four bring no frame to its end, and the hunt goes on: once, for what five times would find.
@@ -134,8 +127,7 @@ fn burst(cells: &mut [u32; 40], c: Candidate, thirty: u32) -> Candidate
         };
         return moved(c.at, end, held, undecided);
     }
-    let near = glance(cells, end, left, words, tally);
-    if let Glanced::Stops(halt) = near {
+    if let Some(halt) = glance(cells, end, left, words, tally) {
         return moved(c.at, end, held, halt);
     }
     let halt = hunt(cells, end, left, words, false, tally);
@@ -151,6 +143,7 @@ pub(crate) fn run(cells: &mut [u32; 40], from: Candidate, bytes: &[u8]) -> Ran
     let mut c = from;
     let mut passed: usize = 0;
     let mut used: usize = 0;
+    // kept: a turn uses five bytes or one, so no iterator goes over the bytes
     while used < bytes.len() {
         if c.waits {
             return Ran {
@@ -159,14 +152,13 @@ pub(crate) fn run(cells: &mut [u32; 40], from: Candidate, bytes: &[u8]) -> Ran
                 passed,
             };
         }
-        let ahead = five_of(c, bytes, used);
-        if let Five::Thirty(thirty) = ahead {
+        if let Some(thirty) = five_of(c, bytes, used) {
             c = burst(cells, c, thirty);
             used += 5;
         } else {
             let line = line::six_of(bytes[used]);
             used += 1;
-            if let Six::Bits(six) = line {
+            if let Ok(six) = line {
                 if c.held + 6 < 32 + 30 * c.words {
                     c = hold(cells, c, six);
                 } else {

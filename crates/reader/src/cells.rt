@@ -4,22 +4,12 @@ ghost use Rattle.bits.specs.Bits.{number};
 ghost use Rattle.reader.specs.Cells.{cell_bits, pair_at, put_cells, down_cells, room_end, pushed_cells};
 ghost use Rattle.reader.specs.Five.{put_thirty};
 
-// A cell or a window as a wider number.
-pub(crate) fn as_u64(x: u32) -> u64
-    ensures { result ≡ x % 2 ^ 32 }
-{
-    x as u64
-}
-
 // A cell, or 0 past the last.
 fn cell(cells: &[u32; 40], j: usize) -> u64
     requires { length cells.now ≡ 40 }
     ensures { result ≡ slice_index cells.now j % 2 ^ 32 }
 {
-    if 40 <= j {
-        return 0;
-    }
-    as_u64(cells[j])
+    u64::from(cells.get(j).copied().unwrap_or(0))
 }
 
 // The cell that has a bit and the one after it, as one number.
@@ -46,8 +36,8 @@ fn put(cells: &mut [u32; 40], end: usize, six: u32)
 {
     let j = end / 32;
     let off = (end % 32) as u32;
-    let kept = as_u64(cells[j]) >> (32 - off);
-    let both = (kept * 64 + as_u64(six)) << (58 - off);
+    let kept = u64::from(cells[j]) >> (32 - off);
+    let both = (kept * 64 + u64::from(six)) << (58 - off);
     cells[j] = (both / 4294967296) as u32;
     cells[j + 1] = (both % 4294967296) as u32;
 }
@@ -59,23 +49,11 @@ pub(crate) fn put_five(cells: &mut [u32; 40], end: usize, thirty: u32)
 {
     let j = end / 32;
     let off = (end % 32) as u32;
-    let kept = as_u64(cells[j]) >> (32 - off);
-    let both = (kept * 1073741824 + as_u64(thirty)) << (34 - off);
+    let kept = u64::from(cells[j]) >> (32 - off);
+    let both = (kept * 1073741824 + u64::from(thirty)) << (34 - off);
     cells[(end + 24) / 32 + 1] = 0;
     cells[j] = (both / 4294967296) as u32;
     cells[j + 1] = (both % 4294967296) as u32;
-}
-
-// All cells moved down by k; the last k stay as they are.
-fn lower(cells: &mut [u32; 40], k: usize)
-    requires { (length cells.old ≡ 40) × (k ≤ 40) }
-    ensures { cells.new ≡ down_cells cells.old k }
-{
-    let mut i: usize = 0;
-    while i + k < 40 {
-        cells[i] = cells[i + k];
-        i += 1;
-    }
 }
 
 // Six bits pushed, and where they end; near the end of the buffer the cells that are still needed move down first.
@@ -88,7 +66,7 @@ pub(crate) fn push(cells: &mut [u32; 40], end: usize, held: usize, six: u32) -> 
         return end + 6;
     }
     let k = (end - held) / 32;
-    lower(cells, k);
+    cells.copy_within(k.., 0);
     put(cells, end - 32 * k, six);
     end - 32 * k + 6
 }

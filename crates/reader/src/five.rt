@@ -2,23 +2,21 @@
 ghost use Rattle.std.specs.Prelude.{◌≡◌, ◌+◌, ◌^◌, ◌<◌, ◌≤◌, length};
 ghost use Rattle.reader.specs.Five.{five_bytes, bytes_from, all_data, sixes_in, sixes_of};
 
-// A byte as a wider number.
-fn wide(byte: u8) -> u64
-    ensures { (result ≡ byte) × (result < 256) }
-{
-    byte as u64
-}
-
 // Five bytes as one number, the first lowest.
 pub(crate) fn joined(bytes: &[u8], at: usize) -> u64
     requires { at + 5 ≤ length bytes.now }
     ensures { (result < 2 ^ 40) × (five_bytes result ≡ bytes_from 5 bytes.now at) }
 {
-    wide(bytes[at])
-        + wide(bytes[at + 1]) * 256
-        + wide(bytes[at + 2]) * 65536
-        + wide(bytes[at + 3]) * 16777216
-        + wide(bytes[at + 4]) * 4294967296
+    u64::from_le_bytes([
+        bytes[at],
+        bytes[at + 1],
+        bytes[at + 2],
+        bytes[at + 3],
+        bytes[at + 4],
+        0,
+        0,
+        0,
+    ])
 }
 
 // Whether each of five bytes carries line bits: its top bits are 01.

@@ -9,7 +9,6 @@ ghost use Rattle.reader.specs.Hunting.{hunt_of, counted_as, headless_at, looked_
 ghost use Rattle.reader.specs.declared.Tally.{Tally};
 
 use crate::Tally;
-use word::Tested;
 
 // Where a hunt stops: the bits left from two before that position on, how many of its words are known right (0 where a frame stands), whether a
 // frame stands there, and the positions counted so far.
@@ -21,33 +20,19 @@ pub struct Halt {
     pub tally: Tally,
 }
 
-// A word is right, or it rules its position out and these are the counters with it.
-#[derive(Clone, Copy)]
-pub(crate) enum Looked {
-    Right,
-    Wrong(Tally),
-}
-
-// Where the hunt stops, or that a glance does not tell.
-#[derive(Clone, Copy)]
-pub(crate) enum Glanced {
-    Stops(Halt),
-    Open,
-}
-
 // One position more that a word with this remainder ruled out.
 fn counted(tally: Tally, remainder: u32) -> Tally
     ensures { result ≡ counted_as tally (is_odd (count_ones remainder)) }
 {
-    if u32::count_ones(remainder) % 2 == 0 {
+    if remainder.count_ones() % 2 == 0 {
         return Tally {
-            odd: tally.odd,
-            even: std::num::wrapping_add_u32(tally.even, 1),
+            even: tally.even.wrapping_add(1),
+            ..tally
         };
     }
     Tally {
-        odd: std::num::wrapping_add_u32(tally.odd, 1),
-        even: tally.even,
+        odd: tally.odd.wrapping_add(1),
+        ..tally
     }
 }
 
@@ -61,18 +46,19 @@ fn lacks_preamble(k: usize, window: u32) -> bool
     !frame::has_preamble(word::data_of(window))
 }
 
-// A look at word k of a candidate: of the first the preamble, which is not counted, then the word test.
-fn look(k: usize, window: u32, tally: Tally) -> Looked
+// A look at word k of a candidate: of the first the preamble, which is not counted, then the word test. It is right, or it rules its position out and these
+// are the counters with it.
+fn look(k: usize, window: u32, tally: Tally) -> Result<(), Tally>
     ensures { result ≡ looked_at k (bits 32 window) tally }
 {
     if lacks_preamble(k, window) {
-        return Looked::Wrong(tally);
+        return Err(tally);
     }
     let told = word::test(window);
-    if let Tested::Failed(remainder) = told {
-        return Looked::Wrong(counted(tally, remainder));
+    if let Err(remainder) = told {
+        return Err(counted(tally, remainder));
     }
-    Looked::Right
+    Ok(())
 }
 
 // N, in the window of a second word.
@@ -102,29 +88,29 @@ pub(crate) fn glance(
     left: usize,
     words: usize,
     tally: Tally,
-) -> Glanced
+) -> Option<Halt>
     requires { (length cells.now ≡ 40) × (end ≤ 1280) × (left ≤ end) × (words ≤ 32) × (32 + 30 * words ≤ left) }
     ensures { GlancedAt cells.now end left words tally result }
 {
     if 62 + 30 * words <= left {
-        return Glanced::Open;
+        return None;
     }
     let w = crate::cells::window(cells, end - left + 30 * words);
     if lacks_preamble(words, w) {
-        return Glanced::Open;
+        return None;
     }
     if crate::taking::left_over(w, 0) != 0 {
-        return Glanced::Open;
+        return None;
     }
     if whole(cells, end, left, words + 1) {
-        return Glanced::Stops(Halt {
+        return Some(Halt {
             left,
             words: 0,
             found: true,
             tally,
         });
     }
-    Glanced::Stops(Halt {
+    Some(Halt {
         left,
         words: words + 1,
         found: false,
@@ -142,17 +128,7 @@ fn headless(both: u64, off: u32) -> u32
     let turns = unlike ^ (unlike >> 1);
     let two = turns & (turns >> 1);
     let four = two & (two >> 2);
-    u64::leading_zeros(((unlike & four) & (four >> 3)) << (9 + off))
-}
-
-// The lower of two counts.
-fn lower(a: usize, b: usize) -> usize
-    ensures { (result ≤ a) × (result ≤ b) }
-{
-    if a < b {
-        return a;
-    }
-    b
+    (((unlike & four) & (four >> 3)) << (9 + off)).leading_zeros()
 }
 
 // How many bits are left after so many positions, of those that two cells show from bit `off` of them on; a position has 32 bits.
@@ -160,7 +136,7 @@ fn passed(left: usize, off: usize, positions: usize) -> usize
     requires { (32 ≤ left) × (left ≤ 1280) × (off < 32) × (positions ≤ 64) }
     ensures { (result ≤ left) × (31 ≤ result) × (left ≤ result + positions) × (left + off ≤ result + 55) }
 {
-    let shown = lower(positions, 55 - off);
+    let shown = positions.min(55 - off);
     if left < 31 + shown {
         return 31;
     }
@@ -202,13 +178,6 @@ fn remember(fails: &mut [u16; 30], began: bool, bit: usize, k: usize)
     fails[bit % 30] = (bit + 30 * k) as u16;
 }
 
-// A remembered bit as a wider number.
-fn as_usize(bit: u16) -> usize
-    ensures { result ≡ bit % 2 ^ 16 }
-{
-    bit as usize
-}
-
 // How many words of the next candidate pass by what is remembered: those before the window of its phase that failed, so that this one is looked at next.
 // The last word of its frame is looked at again, since a frame may stand there.
 fn known(cells: &[u32; 40], end: usize, left: usize, fails: &[u16; 30]) -> usize
@@ -221,7 +190,7 @@ fn known(cells: &[u32; 40], end: usize, left: usize, fails: &[u16; 30]) -> usize
         return 0;
     }
     let bit = end - left;
-    let fail = as_usize(fails[bit % 30]);
+    let fail = usize::from(fails[bit % 30]);
     if fail <= bit {
         return 0;
     }
@@ -229,7 +198,7 @@ fn known(cells: &[u32; 40], end: usize, left: usize, fails: &[u16; 30]) -> usize
         return 0;
     }
     let n = n_in(crate::cells::window(cells, bit + 30));
-    lower(n + 1, (fail - bit) / 30)
+    (n + 1).min((fail - bit) / 30)
 }
 
 // The hunt from word `words` of the candidate on: a word that has come and fails rules its position out, which is counted. What passed before the word
@@ -249,11 +218,11 @@ pub(crate) fn hunt(
     let mut good = words;
     let mut count = tally;
     let mut fails = [0u16; 30];
+    // kept: `left` and `good` go on to what `seek` and `known` find, and not by one
     'position: while 0 < left {
         while 32 + 30 * good <= left {
             let w = crate::cells::window(cells, end - left + 30 * good);
-            let looked = look(good, w, count);
-            if let Looked::Wrong(more) = looked {
+            if let Err(more) = look(good, w, count) {
                 count = more;
                 remember(&mut fails, left == held, end - left, good);
                 left = seek(cells, end, left - 1, 0);

@@ -17,7 +17,6 @@ use advance::{moved, run, step};
 use checks::{Ready, past, readiness};
 use frame::Frame;
 use hunt::hunt;
-use line::Six;
 use taking::standing;
 
 // Positions that a word ruled out, by the ones in the remainder of that word: an odd number of them, or an even number; each modulo 2^32.
@@ -112,7 +111,7 @@ pub fn feed(reader: Reader, byte: u8) -> Next
         };
     }
     let line = line::six_of(byte);
-    let Six::Bits(six) = line else {
+    let Ok(six) = line else {
         return Next {
             answer: Answer::Refused(1),
             reader: next,
@@ -206,11 +205,9 @@ pub fn take(reader: Reader) -> Taken
     if !c.waits {
         return untaken(next, 4);
     }
-    let there = standing(&next.cells, c.end, c.held);
-    if !there.stands {
+    let Some(frame) = standing(&next.cells, c.end, c.held) else {
         return untaken(next, 4);
-    }
-    let frame = there.frame;
+    };
     let halt = hunt(
         &next.cells,
         c.end,

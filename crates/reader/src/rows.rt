@@ -43,15 +43,12 @@ fn put_data(cells: &[u32; 40], end: usize, held: usize, count: usize, start: usi
     ensures { rows.new ≡ sets rows.old start (written 3 (data_from count 0 (held_bits cells.now end held))) }
 {
     let first = end - held;
-    let mut k: usize = 0;
-    let mut next = start;
-    while k < count {
-        let word = word::data_of(window(cells, first + 30 * k));
-        rows[next] = (word / 65536 % 256) as u8;
-        rows[next + 1] = (word / 256 % 256) as u8;
-        rows[next + 2] = (word % 256) as u8;
-        next += 3;
-        k += 1;
+    for k in 0..count {
+        let [_, high, middle, low] = word::data_of(window(cells, first + 30 * k)).to_be_bytes();
+        let next = start + 3 * k;
+        rows[next] = high;
+        rows[next + 1] = middle;
+        rows[next + 2] = low;
     }
 }
 
@@ -61,15 +58,11 @@ fn put_head(at: u32, pair: Carried, n: usize, start: usize, rows: &mut [u8])
     ensures { rows.new ≡ sets rows.old start
         (at % 256 ∷ at / 256 % 256 ∷ at / 65536 % 256 ∷ at / 16777216 % 256 ∷ pair.d29 ∷ pair.d30 ∷ 0x52 ∷ 0x32 ∷ n ∷ []) }
 {
-    rows[start] = (at % 256) as u8;
-    rows[start + 1] = (at / 256 % 256) as u8;
-    rows[start + 2] = (at / 65536 % 256) as u8;
-    rows[start + 3] = (at / 16777216 % 256) as u8;
-    rows[start + 4] = pair.d29;
-    rows[start + 5] = pair.d30;
-    rows[start + 6] = 0x52;
-    rows[start + 7] = 0x32;
-    rows[start + 8] = n as u8;
+    let [first, second, third, fourth] = at.to_le_bytes();
+    let head = [
+        first, second, third, fourth, pair.d29, pair.d30, 0x52, 0x32, n as u8,
+    ];
+    rows[start..start + 9].copy_from_slice(&head);
 }
 
 // Puts the row of the frame that stands at a position.
@@ -119,8 +112,7 @@ fn turns(cells: &mut [u32; 40], from: Candidate, bytes: &[u8], rows: &mut [u8]) 
     let mut c = from;
     let mut used: usize = 0;
     let mut passed: usize = 0;
-    let mut count: usize = 0;
-    while count < room {
+    for count in 0..room {
         let ran = run(cells, c, &bytes[used..]);
         used += ran.used;
         passed += ran.passed;
@@ -134,13 +126,12 @@ fn turns(cells: &mut [u32; 40], from: Candidate, bytes: &[u8], rows: &mut [u8]) 
             };
         }
         c = take_row(cells, c, ROW * count, rows);
-        count += 1;
     }
     TurnsMade {
         candidate: c,
         used,
         passed,
-        count,
+        count: room,
     }
 }
 

@@ -5,28 +5,11 @@ ghost use Rattle.word.specs.Word.{data_of, passes};
 ghost use Rattle.frame.specs.Header.{preambled};
 ghost use Rattle.stream.specs.Standing.{word_at, pair_before, all_right, stands};
 ghost use Rattle.reader.specs.Cells.{held_bits};
-ghost use Rattle.reader.specs.Taking.{none_there, there_in, HeaderIn};
+ghost use Rattle.reader.specs.Taking.{there_in, HeaderIn};
 
-use crate::cells::{as_u64, window};
+use crate::cells::window;
 use crate::hunt::n_in;
 use frame::{Carried, Frame, Header};
-
-// Whether a frame stands, and that frame; a blank where none does.
-#[derive(Clone, Copy)]
-pub(crate) struct There {
-    pub stands: bool,
-    pub frame: Frame,
-}
-
-// No frame stands.
-fn nothing() -> There
-    ensures { result ≡ none_there }
-{
-    There {
-        stands: false,
-        frame: frame::no_frame(),
-    }
-}
 
 // The two bits before a word, which are the first of its window.
 pub(crate) fn pair_of(window: u32) -> Carried
@@ -41,7 +24,7 @@ pub(crate) fn pair_of(window: u32) -> Carried
 fn both_of(one: u32, two: u32) -> u64
     ensures { result ≡ one + two * 2 ^ 32 }
 {
-    as_u64(one) + as_u64(two) * 4294967296
+    u64::from(one) + u64::from(two) * 4294967296
 }
 
 // What is left of two words when each is divided, in its half of one number: zero exactly where both pass. D29* D30* D1 to D24, D27 to D29, D25 D26
@@ -60,33 +43,21 @@ pub(crate) fn left_over(one: u32, two: u32) -> u64
     (times ^ even) & 9079256850892849152
 }
 
-// The word that is tested beside word k: the next, or for the last of an odd number itself.
-fn beside(k: usize, n: usize) -> usize
-    requires { k < n }
-    ensures { (k ≤ result) × (result ≤ k + 1) × (result < n) }
-{
-    if k + 1 < n {
-        return k + 1;
-    }
-    k
-}
-
-// The first `count` words of the bits held, which begin with the preamble, pass: tested two by two.
+// The first `count` words of the bits held, which begin with the preamble, pass: tested two by two, the last of an odd number with itself.
 fn pass_all(cells: &[u32; 40], end: usize, held: usize, count: usize) -> bool
     requires { (length cells.now ≡ 40) × (end ≤ 1280) × (held ≤ end) × (2 + 30 * count ≤ held)
         × (preambled (data_of (word_at 0 (held_bits cells.now end held))) ≡ true) }
     ensures { result ≡ all_right count 0 (held_bits cells.now end held) }
 {
     let first = end - held;
-    let mut k: usize = 0;
-    while k < count {
-        let j = beside(k, count);
+    for i in 0..count.div_ceil(2) {
+        let k = 2 * i;
+        let j = (k + 1).min(count - 1);
         let w = window(cells, first + 30 * k);
         let v = window(cells, first + 30 * j);
         if left_over(w, v) != 0 {
             return false;
         }
-        k = j + 1;
     }
     true
 }
@@ -117,43 +88,39 @@ fn filled(
     header: Header,
     carried: Carried,
     n: usize,
-) -> There
+) -> Option<Frame>
     requires { (length cells.now ≡ 40) × (end ≤ 1280) × (held ≤ end) × HeaderIn (held_bits cells.now end held) header carried n
         × (62 + 30 * n ≤ held) }
     ensures { result ≡ there_in (held_bits cells.now end held) }
 {
     let first = end - held + 60;
     let mut words = [0u32; 31];
-    let mut k: usize = 0;
-    while k < n {
-        let j = beside(k, n);
+    for i in 0..n.div_ceil(2) {
+        let k = 2 * i;
+        let j = (k + 1).min(n - 1);
         let w = window(cells, first + 30 * k);
         let v = window(cells, first + 30 * j);
         if left_over(w, v) != 0 {
-            return nothing();
+            return None;
         }
         words[k] = word::data_of(w);
         words[j] = word::data_of(v);
-        k = j + 1;
     }
-    There {
-        stands: true,
-        frame: Frame {
-            header,
-            carried,
-            n,
-            words,
-        },
-    }
+    Some(Frame {
+        header,
+        carried,
+        n,
+        words,
+    })
 }
 
 // The frame that stands in the bits held, if one does.
-pub(crate) fn standing(cells: &[u32; 40], end: usize, held: usize) -> There
+pub(crate) fn standing(cells: &[u32; 40], end: usize, held: usize) -> Option<Frame>
     requires { (length cells.now ≡ 40) × (end ≤ 1280) × (held ≤ end) }
     ensures { result ≡ there_in (held_bits cells.now end held) }
 {
     if held < 62 {
-        return nothing();
+        return None;
     }
     let one = window(cells, end - held);
     let two = window(cells, end - held + 30);
@@ -161,13 +128,13 @@ pub(crate) fn standing(cells: &[u32; 40], end: usize, held: usize) -> There
     let second = word::data_of(two);
     let n = frame::n_of(second);
     if held < 62 + 30 * n {
-        return nothing();
+        return None;
     }
     if !frame::has_preamble(first) {
-        return nothing();
+        return None;
     }
     if left_over(one, two) != 0 {
-        return nothing();
+        return None;
     }
     let header = frame::header_of(first, second);
     let carried = pair_of(one);

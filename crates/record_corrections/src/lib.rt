@@ -52,6 +52,7 @@ const GLONASS_MOST: [u32; 7] = [1, 3, 32, 65535, 255, 1, 119];
 const FILL: u32 = 0xAAAAAA;
 
 // How many corrections a frame has: 5, 6, 7, 8.
+#[tactic(auto, unfolding(crate::specs::Corrections::count_corrections))]
 pub fn count_corrections(frame: Frame) -> Count
     ensures { result ≡ count_corrections frame }
 {
@@ -59,6 +60,7 @@ pub fn count_corrections(frame: Frame) -> Count
 }
 
 // The most of each number.
+#[tactic(auto, unfolding(crate::specs::Issues::last_most))]
 fn most_of(system: System) -> [u32; 7]
     ensures { result ≡ most system }
 {
@@ -69,6 +71,7 @@ fn most_of(system: System) -> [u32; 7]
 }
 
 // What the last eight bits of a correction say.
+#[tactic(auto, unfolding(crate::specs::Issues::issue_of))]
 pub fn issue_of(system: System, last: u8) -> Issue
     ensures { result ≡ issue_in system last }
 {
@@ -79,6 +82,7 @@ pub fn issue_of(system: System, last: u8) -> Issue
 }
 
 // The last two numbers of a row; where the issue is the other system's, one that can't be sent.
+#[tactic(auto, unfolding(crate::specs::Issues::issue_first, crate::specs::Issues::issue_others))]
 fn issue_numbers(system: System, issue: Issue) -> [u32; 2]
     ensures { result ≡ issue_first system issue ∷ issue_others system issue ∷ [] }
 {
@@ -180,17 +184,10 @@ fn put_entry(rows: Rows, system: System, e: Correction) -> Rows
 fn rows_of(system: System, entries: [Correction; 18], count: usize) -> Rows
     ensures { result ≡ put_rows widths least (most system) (map (numbers system) (take count entries)) no_rows }
 {
-    let mut rows = record_fields::no_rows();
-    let mut i = 0;
-    while i < 18 {
-        if i >= count {
-            return rows;
-        }
-        let e = entries[i];
-        rows = put_entry(rows, system, e);
-        i += 1;
-    }
-    rows
+    entries.iter().take(count).fold(
+        record_fields::no_rows(),
+        |rows, e| put_entry(rows, system, *e),
+    )
 }
 
 // A frame of corrections, each with its system's issue: 5, 6, 7, 12, 10.

@@ -9,9 +9,10 @@ use native.Mathlib.Numerals.{add-one}
 use native.Mathlib.Omega.{arith}
 use lib.Dec.{ltb}
 use lib.Pow.{pow_pos}
-use lib.ListN.{length, take, drop, set, get_or, length-take, drop_of_length-le, take-append-drop}
-use lib.Seq.{drop-nil, drop-cons, drop-drop, get_or-drop, get_or-take, take_all, take-suc-set, drop-set-lt, append_snoc}
+use lib.ListN.{length, take, drop, set, get_or, drop_of_length-le}
+use lib.Seq.{drop-nil, drop-cons, drop-drop, get_or-drop, take_all, take-suc-set, append_snoc}
 use borrow.Author.Tests.{lt-ltb, le-ltb, ltb-false}
+use Rattle.std.specs.Prelude.{fold}
 use Rattle.bits.specs.Fields.{field_at, fields_at, span}
 use Rattle.bits.specs.Rows.{data_bits}
 use Rattle.bits.proofs.FieldLaws.{fits-field}
@@ -50,19 +51,6 @@ fields-next ds ws out i o w v h l ew ev =
 
     rest : List ℕ
     rest = padded (12 - (i + 1)) (fields_in ds (drop (i + 1) ws) (o + w))
-
--- past the table there are zeros
-pub fields-none : (ds ws out : List ℕ) (i o : ℕ) → length ws ≤ i → drop i out ≡ padded (12 - i) []
-    → take i out ++ padded (12 - i) (fields_in ds (drop i ws) o) ≡ out
-fields-none ds ws out i o h e =
-    ap (λ l. take i out ++ padded (12 - i) (fields_in ds l o)) (drop_of_length-le ws h) ∙ ap (λ l. take i out ++ l) (sym e) ∙ take-append-drop i out
-
-pub zeros-next : (out : List ℕ) (i v : ℕ) → i < 12 → drop i out ≡ padded (12 - i) [] → drop (i + 1) (set out i v) ≡ padded (12 - (i + 1)) []
-zeros-next out i v h e =
-    drop-set-lt (i + 1) out i v (omega arith) ∙ sym (drop-drop 1 i out) ∙ ap (drop 1) (e ∙ ap (λ k. padded k []) less)
-  where
-    less : 12 - i ≡ suc (12 - (i + 1))
-    less = omega arith
 
 -- a row is full at its twelfth place
 pub fields-end : (ds ws out : List ℕ) (i o : ℕ) → i ≤ 12 → 12 ≤ i → length out ≡ 12
@@ -177,20 +165,11 @@ rows-put ws ls ms (v ∷ vs) r =
     rows-put ws ls ms vs (put_row ws ls ms v r)
     ∙ ap (λ b. record { packer = pushed_rows ws vs (pushed_all ws v r.packer); out = b }) (or_assoc r.out (row_out ls ms v) (any_of (row_out ls ms) vs))
 
--- the entries below a count, row by row
-module _ {A : Type 0} (numbers : A → List ℕ) (ws ls ms : List ℕ) (es : List A) (c i : ℕ) where
-  abbrev pub rows_left : Rows → Rows
-  rows_left r = put_rows ws ls ms (map numbers (drop i (take c es))) r
-
-  pub rows_end : (r : Rows) → length (take c es) ≤ i → rows_left r ≡ r
-  rows_end r h = ap (λ l. put_rows ws ls ms (map numbers l) r) (drop_of_length-le (take c es) {i = i} h)
-
-  pub rows_next : (d : A) (r s : Rows) → i < c → i < length es → s ≡ put_row ws ls ms (numbers (get_or es i d)) r
-      → rows_left r ≡ put_rows ws ls ms (map numbers (drop (i + 1) (take c es))) s
-  rows_next d r s h l e =
-      ap (λ k. put_rows ws ls ms (map numbers k) r) (drop-cons (take c es) i d (omega (arith, length-take c es)))
-      ∙ ap₂ (λ x k. put_rows ws ls ms (map numbers (drop k (take c es))) (put_row ws ls ms (numbers x) r)) (get_or-take c es i d h) (sym (add-one i))
-      ∙ ap (put_rows ws ls ms (map numbers (drop (i + 1) (take c es)))) (sym e)
+-- the rows of entries are put one entry after the other
+pub rows-folded : {A : Type 0} (numbers : A → List ℕ) (ws ls ms : List ℕ) (es : List A) (r : Rows)
+    → put_rows ws ls ms (map numbers es) r ≡ fold (λ s e. put_row ws ls ms (numbers e) s) r es
+rows-folded numbers ws ls ms [] r = refl
+rows-folded numbers ws ls ms (e ∷ es) r = rows-folded numbers ws ls ms es (put_row ws ls ms (numbers e) r)
 
 -- ---- what a range check says, value by value
 

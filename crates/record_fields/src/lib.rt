@@ -11,8 +11,8 @@ ghost use Rattle.record_fields.specs.Satellites.{satellite_of};
 ghost use Rattle.record_fields.specs.Packing.{field_in, empty_packer, flushed, pushed, filled_up};
 ghost use Rattle.record_fields.specs.Tables.{row, fields_in, no_rows, put_row};
 
-use crate::number::{code, pow, signed, wide};
-use crate::table::{push_all, row_out};
+use crate::number::{code, pow, signed};
+use crate::table::{item, push_all, row_out};
 
 // Words, how many of them are whole, and the bits of the next one: `held` of them, as a number.
 #[derive(Clone, Copy)]
@@ -32,27 +32,16 @@ pub struct Rows {
 
 // A word's data, or 0 past the last.
 fn word(words: &[u32; 31], j: usize) -> u64
-    requires { length words.now ≡ 31 }
     ensures { result ≡ get_or words.now j 0 % 2 ^ 24 }
 {
-    if j >= 31 {
-        return 0;
-    }
-    wide(words[j]) % 16777216
+    u64::from(item(words, j)) % 16777216
 }
 
 // The number in `width` bits from bit `offset` of the data; 0 where the words have no such field of at most 32 bits.
 fn field_of(words: &[u32; 31], offset: usize, width: u32) -> u32
-    requires { length words.now ≡ 31 }
     ensures { (result ≡ field_in words.now offset width) × (result < 2 ^ width) }
 {
-    if width > 32 {
-        return 0;
-    }
-    if width == 0 {
-        return 0;
-    }
-    if offset > 744 - width as usize {
+    if width > 32 || width == 0 || offset > 744 - width as usize {
         return 0;
     }
     let j = offset / 24;
@@ -75,15 +64,10 @@ pub fn fields(words: [u32; 31], at: u32, widths: &[u32]) -> [u32; 12]
 {
     let mut out = [0u32; 12];
     let mut next = at as usize;
-    let mut i = 0;
-    while i < 12 {
-        if i >= widths.len() {
-            return out;
-        }
-        let width = widths[i];
-        out[i] = field_of(&words, next, width);
+    for (i, value) in out.iter_mut().enumerate() {
+        let width = item(widths, i);
+        *value = field_of(&words, next, width);
         next += width as usize;
-        i += 1;
     }
     out
 }
@@ -106,10 +90,7 @@ fn flush(packer: Packer) -> Packer
     ensures { result ≡ flushed packer }
 {
     let at = packer.whole;
-    if packer.held < 24 {
-        return packer;
-    }
-    if at >= 31 {
+    if packer.held < 24 || at >= 31 {
         return packer;
     }
     let left = packer.held - 24;
@@ -135,7 +116,7 @@ fn push(packer: Packer, width: u32, value: u32) -> Packer
         words,
         whole: packer.whole,
         held: packer.held % 24 + width,
-        rest: (packer.rest % 16777216) * pow(width) + wide(value) % pow(width),
+        rest: (packer.rest % 16777216) * pow(width) + u64::from(value) % pow(width),
     };
     flush(flush(full))
 }
@@ -154,13 +135,10 @@ pub fn no_rows() -> Rows
 pub fn put_row(rows: Rows, values: [u32; 12], widths: &[u32], least: &[u32], most: &[u32]) -> Rows
     ensures { result ≡ put_row widths.now least.now most.now values rows }
 {
-    let before = rows.packer;
-    let packer = push_all(before, values, widths);
-    if rows.out {
-        return Rows { packer, out: true };
+    Rows {
+        packer: push_all(rows.packer, values, widths),
+        out: rows.out || row_out(values, least, most),
     }
-    let out = row_out(values, least, most);
-    Rows { packer, out }
 }
 
 // The first bits of `pattern`, a word's data, put up to the end of the word.
@@ -175,6 +153,7 @@ pub fn fill_up(packer: Packer, pattern: u32) -> Packer
 }
 
 // Eight, fourteen, sixteen and thirty-two bits to a signed number, and back.
+// kept: a line a width over `signed` and `code`, since the contracts of signed8 .. code32 hold the types that callers store.
 pub fn signed8(n: u32) -> i8
     ensures { result ≡ signed_of 7 (n % 256) }
 {
@@ -209,10 +188,7 @@ pub fn code8(z: i8) -> u32
 pub fn code14(z: i16) -> u32
     ensures { result ≡ code_within 13 z }
 {
-    if z < -8192 {
-        return 16384;
-    }
-    if z > 8191 {
+    if z < -8192 || z > 8191 {
         return 16384;
     }
     code(z as i64, 13)

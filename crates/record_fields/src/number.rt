@@ -3,13 +3,6 @@ ghost use Rattle.std.specs.Prelude.{◌≡◌, ◌+◌, ◌≤◌, ◌<◌, ◌^
 ghost use Rattle.std.specs.Int.Signed.{mag};
 ghost use Rattle.bits.specs.Signed.{signed as signed_of, code as code_of};
 
-// A number as a wider one.
-pub(crate) fn wide(x: u32) -> u64
-    ensures { result ≡ x }
-{
-    x as u64
-}
-
 // Two to the k.
 pub(crate) fn pow(k: u32) -> u64
     requires { k < 64 }
@@ -24,7 +17,7 @@ pub(crate) fn signed(n: u32, half: u32) -> i64
     ensures { result ≡ signed_of half n }
 {
     let x = n as i64;
-    if wide(n) < pow(half) {
+    if u64::from(n) < pow(half) {
         return x;
     }
     x - (pow(half + 1) as i64)

@@ -6,13 +6,10 @@ ghost use Rattle.record_fields.specs.Tables.{row_out};
 use crate::{Packer, push};
 
 // A table's element, or 0 past the last.
-fn item(table: &[u32], i: usize) -> u32
+pub(crate) fn item(table: &[u32], i: usize) -> u32
     ensures { result ≡ get_or table.now i 0 }
 {
-    if i >= table.len() {
-        return 0;
-    }
-    table[i]
+    table.get(i).copied().unwrap_or(0)
 }
 
 // The values put one after the other in these widths; past the twelfth, zeros.
@@ -20,10 +17,8 @@ pub(crate) fn push_all(packer: Packer, values: [u32; 12], widths: &[u32]) -> Pac
     ensures { result ≡ pushed_all widths.now values packer }
 {
     let mut p = packer;
-    let mut i = 0;
-    while i < widths.len() {
-        p = push(p, widths[i], item(&values, i));
-        i += 1;
+    for (i, &width) in widths.iter().enumerate() {
+        p = push(p, width, item(&values, i));
     }
     p
 }
@@ -32,16 +27,12 @@ pub(crate) fn push_all(packer: Packer, values: [u32; 12], widths: &[u32]) -> Pac
 pub fn row_out(values: [u32; 12], least: &[u32], most: &[u32]) -> bool
     ensures { result ≡ row_out least.now most.now values }
 {
-    let mut i = 0;
-    while i < most.len() {
+    // kept: a loop for `any`, whose closure calls `item` twice: the library's rules of chains find no proof of it.
+    for (i, &m) in most.iter().enumerate() {
         let v = item(&values, i);
-        if v < item(least, i) {
+        if v < item(least, i) || v > m {
             return true;
         }
-        if v > most[i] {
-            return true;
-        }
-        i += 1;
     }
     false
 }

@@ -1,6 +1,6 @@
 -- The stages before a list, 5, 6, 7, 8 and 23: what is refused there, and what holds where they are passed. Assumes nothing.
-use mathlib.Core.Path.{◌≡◌, refl, sym, ap, ◌∙◌}
-use mathlib.Core.Bool.{Bool, true, false, cond, ◌&&◌}
+use mathlib.Core.Path.{◌≡◌, sym, ap, ◌∙◌}
+use mathlib.Core.Bool.{Bool, true, false, ◌&&◌}
 use mathlib.Core.List.{List, [], ◌∷◌}
 use Prim.Native.Nat.{ℕ, ◌+◌, ◌*◌, ◌≤◌}
 use native.Mathlib.Omega.{arith}
@@ -16,20 +16,9 @@ use Rattle.record_stages.specs.declared.Count.{Count}
 use Rattle.record_stages.specs.declared.Count.TheVariants as count
 use Rattle.record_stages.specs.Stages.{misfit_after, other_layout, read_order}
 use Rattle.record_stages.proofs.StageLaws.{of-apart}
-use Rattle.record_generals.specs.declared.Known.TheVariants.{Listed, Other}
 use Rattle.record_generals.specs.declared.Staged.{Staged}
 use Rattle.record_generals.specs.declared.Staged.TheVariants as staged
 use Rattle.record_generals.specs.Generals.{other_system, head_in, delay_in, too_short, staged_by, list_order}
-
--- ---- what a stage's answer says of its check
-
-pub told-unknown : (b : Bool) → Other ≡ cond b Other Listed → b ≡ true
-told-unknown true e = refl
-told-unknown false e = let q : ◌≡◌ {A = ℕ} 0 1 = cc in absurd (omega arith)
-
-pub told-known : (b : Bool) → Listed ≡ cond b Other Listed → b ≡ false
-told-known true e = let q : ◌≡◌ {A = ℕ} 0 1 = cc in absurd (omega arith)
-told-known false e = refl
 
 -- a list has a word, and the head lies in it
 pub head-there : (kind n : ℕ) → too_short kind n ≡ false → 13 ≤ 24 * n

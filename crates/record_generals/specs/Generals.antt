@@ -15,11 +15,7 @@ use Rattle.record_fields.specs.Tables.{row, codes_of, row_out, no_rows, put_row}
 use Rattle.record_stages.specs.declared.Count.{Count}
 use Rattle.record_stages.specs.declared.Count.TheVariants as count
 use Rattle.record_stages.specs.declared.Made.{Made}
-use Rattle.record_stages.specs.declared.Size.{Size}
-use Rattle.record_stages.specs.declared.Size.TheVariants.{Right, Wrong}
 use Rattle.record_stages.specs.Stages.{held_after, misfit_after, wrong_count, read_order, headed_order, make_order, refused_made, done_made}
-use Rattle.record_generals.specs.declared.Known.{Known}
-use Rattle.record_generals.specs.declared.Known.TheVariants.{Listed, Other}
 use Rattle.record_generals.specs.declared.Staged.{Staged}
 use Rattle.record_generals.specs.declared.Staged.TheVariants as staged
 use Rattle.record_generals.specs.declared.GeneralHead.{GeneralHead}
@@ -33,9 +29,6 @@ use Rattle.record_generals.specs.declared.GeneralRead.TheVariants as read
 
 unfoldable pub other_system : ℕ → Bool
 other_system s = not (any_of (eqb s) (1 ∷ 2 ∷ 5 ∷ 6 ∷ []))
-
-abbrev pub known_of : ℕ → Known
-known_of s = cond (other_system s) Other Listed
 
 -- ---- THE HEAD, 13 bits: system 4, signal 4, ephemeris type 2, period of use 2, ionosphere 1
 
@@ -123,9 +116,6 @@ fill = 0xAAAAAA
 -- the first 8: no data word, or one of type 41; one word of type 42 is null
 abbrev pub too_short : ℕ → ℕ → Bool
 too_short kind n = eqb n 0 || (eqb kind 41 && eqb n 1)
-
-abbrev pub list_size : ℕ → ℕ → Size
-list_size kind n = cond (too_short kind n) Wrong Right
 
 -- the width of the delay that a frame's head says
 abbrev pub delay_in : Frame → ℕ

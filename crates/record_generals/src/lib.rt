@@ -14,9 +14,9 @@ ghost use Rattle.record_generals.specs.Generals.{count_generals, read_head, gene
 ghost use Rattle.record_generals.specs.GeneralNulls.{read_general_null, make_general_null};
 
 use crate::rows::{rows_of, system_rows};
-use crate::stages::{delay_width, head_from, known_of, staged_of};
-use frame::{Clock, Frame, Header, Layout, Widths};
-use record_stages::{Asked, Count, Made, Making, Place, Size};
+use crate::stages::{delay_width, head_from, other_system, staged_of};
+use frame::{Frame, Header, Layout};
+use record_stages::{Asked, Count, Made, Making, Place};
 
 // The head: system, signal, ephemeris type, period of use, and whether every satellite has its ionosphere delay.
 #[derive(Clone, Copy)]
@@ -57,13 +57,6 @@ pub enum GeneralRead {
 pub enum GeneralNullRead {
     Null(usize, u8),
     Refused(u8),
-}
-
-// Whether a system is one of the four; another one is refusal 23.
-#[derive(Clone, Copy)]
-enum Known {
-    Listed,
-    Other,
 }
 
 // The width of the delay in a list of a known system, or the refusal's number.
@@ -148,6 +141,7 @@ pub fn general_at(frame: Frame, index: usize) -> GeneralRead
 }
 
 // A refusal to make, with the blank frame.
+#[tactic(auto, unfolding(record_stages::specs::Stages::refused_made))]
 fn refused(number: u8) -> Made
     ensures { result ≡ refused_made number }
 {
@@ -174,18 +168,18 @@ pub fn make_generals(
 ) -> Made
     ensures { result ≡ make_generals header head entries count }
 {
-    let Widths::Within = frame::header_widths(header) else {
+    let Ok(()) = frame::header_widths(header) else {
         return refused(5);
     };
     let Asked::Same = record_stages::asked_of(Layout::General, header.kind) else {
         return refused(6);
     };
-    let Clock::Hour = frame::clock_of(header.z) else {
+    let Ok(()) = frame::clock_of(header.z) else {
         return refused(7);
     };
-    let Known::Listed = known_of(head.system) else {
+    if other_system(head.system) {
         return refused(23);
-    };
+    }
     let delay = delay_width(head.ionosphere);
     let rows = rows_of(delay, head, entries, count);
     record_stages::make_frame(Layout::General, most_of(delay), FILL, header, count, rows)
@@ -195,24 +189,24 @@ pub fn make_generals(
 pub fn read_general_null(frame: Frame) -> GeneralNullRead
     ensures { result ≡ read_general_null frame }
 {
-    let Widths::Within = frame::frame_widths(frame) else {
+    let Ok(()) = frame::frame_widths(frame) else {
         return GeneralNullRead::Refused(5);
     };
     let header = frame.header;
     if header.kind != 42 {
         return GeneralNullRead::Refused(6);
     }
-    let Clock::Hour = frame::clock_of(header.z) else {
+    let Ok(()) = frame::clock_of(header.z) else {
         return GeneralNullRead::Refused(7);
     };
-    let Size::Right = record_stages::size_of(1, frame.n) else {
+    if frame.n != 1 {
         return GeneralNullRead::Refused(8);
-    };
+    }
     let words = frame.words;
     let system = record_fields::field(words, 0, 4) as u8;
-    let Known::Listed = known_of(system) else {
+    if other_system(system) {
         return GeneralNullRead::Refused(23);
-    };
+    }
     GeneralNullRead::Null(frame.n, system)
 }
 
@@ -220,20 +214,20 @@ pub fn read_general_null(frame: Frame) -> GeneralNullRead
 pub fn make_general_null(header: Header, n: usize, system: u8) -> Made
     ensures { result ≡ make_general_null header n system }
 {
-    let Widths::Within = frame::header_widths(header) else {
+    let Ok(()) = frame::header_widths(header) else {
         return refused(5);
     };
     if header.kind != 42 {
         return refused(6);
     }
-    let Clock::Hour = frame::clock_of(header.z) else {
+    let Ok(()) = frame::clock_of(header.z) else {
         return refused(7);
     };
-    let Known::Listed = known_of(system) else {
+    if other_system(system) {
         return refused(23);
-    };
-    let Size::Right = record_stages::size_of(1, n) else {
+    }
+    if n != 1 {
         return refused(12);
-    };
+    }
     record_stages::make_frame(Layout::General, 1, FILL, header, 1, system_rows(system))
 }

@@ -77,17 +77,10 @@ pub(crate) fn rows_of(delay: u32, head: GeneralHead, entries: [General; 22], cou
     requires { delay ≤ 12 }
     ensures { result ≡ put_rows (widths delay) least (most delay) (map numbers (take count entries)) (head_rows head) }
 {
-    let mut rows = head_rows(head);
-    let mut i = 0;
-    while i < 22 {
-        if i >= count {
-            return rows;
-        }
-        let e = entries[i];
-        rows = put_entry(rows, delay, e);
-        i += 1;
-    }
-    rows
+    entries
+        .iter()
+        .take(count)
+        .fold(head_rows(head), |rows, g| put_entry(rows, delay, *g))
 }
 
 // The row of a null frame's system.

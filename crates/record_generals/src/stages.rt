@@ -2,56 +2,33 @@
 ghost use Rattle.std.specs.Prelude.{◌≡◌, ◌≤◌};
 ghost use Rattle.bits.specs.Fields.{fields_at};
 ghost use Rattle.bits.specs.Rows.{data_bits};
-ghost use Rattle.record_generals.specs.Generals.{known_of, list_size, delay_width, head_widths, head_meant, staged_by};
+ghost use Rattle.record_generals.specs.Generals.{other_system, too_short, delay_width, head_widths, head_meant, staged_by};
 
 use crate::rows::HEAD_WIDTHS;
-use crate::{GeneralHead, Known, Staged};
-use frame::{Clock, Frame, Layout, Widths};
-use record_stages::{Asked, Size};
+use crate::{GeneralHead, Staged};
+use frame::{Frame, Layout};
+use record_stages::Asked;
 
-// Whether a system is one of the four: GPS, GLONASS, QZSS, BDS.
-pub(crate) fn known_of(system: u8) -> Known
-    ensures { result ≡ known_of system }
+// A system is none of the four: 1 GPS, 2 GLONASS, 5 QZSS, 6 BDS.
+#[tactic(auto, unfolding(crate::specs::Generals::other_system))]
+pub(crate) fn other_system(system: u8) -> bool
+    ensures { result ≡ other_system system }
 {
-    if system == 1 {
-        return Known::Listed;
-    }
-    if system == 2 {
-        return Known::Listed;
-    }
-    if system == 5 {
-        return Known::Listed;
-    }
-    if system == 6 {
-        return Known::Listed;
-    }
-    Known::Other
+    !matches!(system, 1 | 2 | 5 | 6)
 }
 
-// Whether N words may be a list at all: not without a word, and not with one of type 41.
-fn list_size(kind: u8, n: usize) -> Size
-    ensures { result ≡ list_size kind n }
+// N words are too few for a list: none, or one of type 41.
+fn too_short(kind: u8, n: usize) -> bool
+    ensures { result ≡ too_short kind n }
 {
-    if n == 0 {
-        return Size::Wrong;
-    }
-    if kind != 41 {
-        return Size::Right;
-    }
-    if n == 1 {
-        return Size::Wrong;
-    }
-    Size::Right
+    n == 0 || (kind == 41 && n == 1)
 }
 
 // The width of the delay: all that differs in the two layouts.
 pub(crate) fn delay_width(ionosphere: u8) -> u32
     ensures { (result ≡ delay_width ionosphere) × (result ≤ 12) }
 {
-    if ionosphere == 0 {
-        return 0;
-    }
-    12
+    if ionosphere == 0 { 0 } else { 12 }
 }
 
 // The head that the first word of the data says.
@@ -72,23 +49,23 @@ pub(crate) fn head_from(words: [u32; 31]) -> GeneralHead
 pub(crate) fn staged_of(frame: Frame) -> Staged
     ensures { result ≡ staged_by frame }
 {
-    let Widths::Within = frame::frame_widths(frame) else {
+    let Ok(()) = frame::frame_widths(frame) else {
         return Staged::Refused(5);
     };
     let header = frame.header;
     let Asked::Same = record_stages::asked_of(Layout::General, header.kind) else {
         return Staged::Refused(6);
     };
-    let Clock::Hour = frame::clock_of(header.z) else {
+    let Ok(()) = frame::clock_of(header.z) else {
         return Staged::Refused(7);
     };
-    let Size::Right = list_size(header.kind, frame.n) else {
+    if too_short(header.kind, frame.n) {
         return Staged::Refused(8);
-    };
+    }
     let words = frame.words;
     let head = head_from(words);
-    let Known::Listed = known_of(head.system) else {
+    if other_system(head.system) {
         return Staged::Refused(23);
-    };
+    }
     Staged::List(delay_width(head.ionosphere))
 }

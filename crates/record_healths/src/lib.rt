@@ -51,6 +51,7 @@ pub const MOST: [u32; 10] = [1, 32, 1, 7, 31, 1, 1, 1, 15, 3];
 pub const FILL: u32 = 0;
 
 // How many satellites a frame has: 5, 6, 7, 8.
+#[tactic(auto, unfolding(crate::specs::Healths::count_healths))]
 pub fn count_healths(frame: Frame) -> Count
     ensures { result ≡ count_healths frame }
 {
@@ -58,6 +59,7 @@ pub fn count_healths(frame: Frame) -> Count
 }
 
 // What three bits say; bits past them are kept, and can't be sent.
+#[tactic(auto, unfolding(crate::specs::Conditions::condition_of))]
 pub fn condition_of(system: System, three: u8) -> Condition
     ensures { result ≡ condition_of system three }
 {
@@ -68,6 +70,7 @@ pub fn condition_of(system: System, three: u8) -> Condition
 }
 
 // The number of a data health and two reserved bits; 8 or more where they take more than three bits.
+#[tactic(auto, unfolding(crate::specs::Conditions::data_number))]
 fn data_number(health: u8, reserved: u8) -> u32
     ensures { result ≡ data_number health reserved }
 {
@@ -78,6 +81,7 @@ fn data_number(health: u8, reserved: u8) -> u32
 }
 
 // The number of the three bits; 8, which can't be sent, where the condition is the other system's.
+#[tactic(auto, unfolding(crate::specs::Conditions::condition_number))]
 fn condition_number(system: System, condition: Condition) -> u32
     ensures { result ≡ condition_number system condition }
 {
@@ -154,17 +158,12 @@ fn numbers_of(system: System, e: SatelliteHealth) -> [u32; 12]
 fn rows_of(system: System, entries: [SatelliteHealth; 31], count: usize) -> Rows
     ensures { result ≡ put_rows widths least most (map (numbers system) (take count entries)) no_rows }
 {
-    let mut rows = record_fields::no_rows();
-    let mut i = 0;
-    while i < 31 {
-        if i >= count {
-            return rows;
-        }
-        let e = entries[i];
-        rows = record_fields::put_row(rows, numbers_of(system, e), &WIDTHS, &LEAST, &MOST);
-        i += 1;
-    }
-    rows
+    entries
+        .iter()
+        .take(count)
+        .fold(record_fields::no_rows(), |rows, e| {
+            record_fields::put_row(rows, numbers_of(system, *e), &WIDTHS, &LEAST, &MOST)
+        })
 }
 
 // A frame of healths: 5, 6, 7, 12, 10.

@@ -4,7 +4,7 @@
 ghost use Rattle.std.specs.Prelude.{◌≡◌};
 ghost use Rattle.record_nulls.specs.Nulls.{null_size, null_count, null_rows, read_null, make_null};
 
-use frame::{Clock, Frame, Header, Layout, Widths};
+use frame::{Frame, Header, Layout};
 use record_fields::Rows;
 use record_stages::{Asked, Made, Size};
 
@@ -34,17 +34,18 @@ fn null_size(n: usize) -> Size
 }
 
 // Whether a frame is a null frame, and its N: 5, 6, 7, 8. Its word may have any bits.
+#[tactic(auto, unfolding(crate::specs::Nulls::read_null))]
 pub fn read_null(frame: Frame) -> NullRead
     ensures { result ≡ read_null frame }
 {
-    let Widths::Within = frame::frame_widths(frame) else {
+    let Ok(()) = frame::frame_widths(frame) else {
         return NullRead::Refused(5);
     };
     let header = frame.header;
     let Asked::Same = record_stages::asked_of(Layout::Null, header.kind) else {
         return NullRead::Refused(6);
     };
-    let Clock::Hour = frame::clock_of(header.z) else {
+    let Ok(()) = frame::clock_of(header.z) else {
         return NullRead::Refused(7);
     };
     let Size::Right = null_size(frame.n) else {
@@ -57,10 +58,7 @@ pub fn read_null(frame: Frame) -> NullRead
 fn null_count(n: usize) -> usize
     ensures { result ≡ null_count n }
 {
-    if n > MOST_WORDS {
-        return 0;
-    }
-    1
+    usize::from(n <= MOST_WORDS)
 }
 
 // The filled word, where there is one.

@@ -9,7 +9,6 @@ mod rows;
 ghost use Rattle.std.specs.Prelude.{◌≡◌, ◌+◌, ◌≤◌};
 ghost use Rattle.bits.specs.Fields.{fields_at};
 ghost use Rattle.bits.specs.Rows.{data_bits};
-ghost use Rattle.record_stages.specs.Stages.{ranged_of};
 ghost use Rattle.record_observations.specs.Editions.{quantity_of};
 ghost use Rattle.record_observations.specs.Observations.{epoch_meant, epoch_widths, late_time, widths, meant};
 ghost use Rattle.record_observations.specs.Observations.{count_observations, read_epoch, observation_at, make_observations};
@@ -17,7 +16,7 @@ ghost use Rattle.record_observations.specs.Observations.{count_observations, rea
 use crate::marks::{mark_of, measured_of};
 use crate::rows::{HEAD_WIDTHS, rows_of, widths_of};
 use frame::{Frame, Header, Layout};
-use record_stages::{Count, Made, Place, Ranged};
+use record_stages::{Count, Made, Place};
 
 // The document whose meaning is asked for: GOST R 53612-2009, or BD 410002-2015.
 #[derive(Clone, Copy)]
@@ -34,7 +33,7 @@ pub enum Quantity {
 }
 
 // What the first bit of a satellite says: half a wavelength, nothing yet, or that more frames of the set follow.
-#[derive(Clone, Copy)]
+#[derive(Clone, Copy, PartialEq, Eq)]
 pub enum Mark {
     Half(u8),
     Reserved(u8),
@@ -85,16 +84,19 @@ pub enum ObservationRead {
 const FILL: u32 = 0;
 
 // What a type measures: 18 phases; 19, the only other type of the layout, ranges.
+#[tactic(auto, unfolding(crate::specs::Editions::quantity_of))]
 pub fn quantity_of(kind: u8) -> Quantity
     ensures { result ≡ quantity_of kind }
 {
     if kind == 18 {
-        return Quantity::Phase;
+        Quantity::Phase
+    } else {
+        Quantity::Range
     }
-    Quantity::Range
 }
 
 // How many satellites a frame has: 5, 6, 7, 8.
+#[tactic(auto, unfolding(crate::specs::Observations::count_observations))]
 pub fn count_observations(frame: Frame) -> Count
     ensures { result ≡ count_observations frame }
 {
@@ -113,14 +115,11 @@ fn epoch_from(words: [u32; 31]) -> Epoch
     }
 }
 
-// Whether the time is in its range, which is all that refuses a head that is read.
-fn time_of(epoch: Epoch) -> Ranged
-    ensures { result ≡ ranged_of (late_time epoch) }
+// The time is past its range, which is all that refuses a head that is read.
+fn is_late(epoch: Epoch) -> bool
+    ensures { result ≡ late_time epoch }
 {
-    if epoch.time > 599999 {
-        return Ranged::Outside;
-    }
-    Ranged::Inside
+    epoch.time > 599999
 }
 
 // The head of a frame: 5, 6, 7, 8, 10.
@@ -132,9 +131,9 @@ pub fn read_epoch(frame: Frame) -> EpochRead
     match counted {
         Count::Of(_) => {
             let epoch = epoch_from(words);
-            let Ranged::Inside = time_of(epoch) else {
+            if is_late(epoch) {
                 return EpochRead::Refused(10);
-            };
+            }
             EpochRead::At(epoch)
         }
         Count::Refused(n) => EpochRead::Refused(n),
@@ -170,9 +169,9 @@ pub fn observation_at(edition: Edition, frame: Frame, index: usize) -> Observati
     let place = record_stages::entry_place(Layout::Observation, 24, 48, frame, index);
     match place {
         Place::At(at) => {
-            let Ranged::Inside = time_of(epoch_from(words)) else {
+            if is_late(epoch_from(words)) {
                 return ObservationRead::Refused(10);
-            };
+            }
             ObservationRead::Entry(entry_from(edition, quantity, words, at))
         }
         Place::Refused(n) => ObservationRead::Refused(n),

@@ -1,54 +1,43 @@
 // The numbers of an observation whose meaning is the edition's or the type's: its first bit, and what was measured.
-ghost use Rattle.std.specs.Prelude.{◌≡◌, [], ◌∷◌, cond, eqb};
-ghost use Rattle.record_observations.specs.Editions.{which_of, mark_of, mark_number, measured_of, beside_of, amount_of};
+ghost use Rattle.std.specs.Prelude.{◌≡◌, [], ◌∷◌};
+ghost use Rattle.record_observations.specs.Editions.{mark_of, mark_bit, mark_number, measured_of, beside_of, amount_of};
 
 use crate::{Edition, Mark, Measured, Quantity};
 
-// Which mark an edition has for a type: 0 half a wavelength, 1 reserved, 2 more follow.
-fn which_of(edition: Edition, quantity: Quantity) -> u8
-    ensures { result ≡ which_of edition quantity }
-{
-    match edition {
-        Edition::Gost => match quantity {
-            Quantity::Phase => 0,
-            Quantity::Range => 1,
-        },
-        Edition::Bd => 2,
-    }
-}
-
 // What the first bit of a satellite says.
+#[tactic(auto, unfolding(crate::specs::Editions::mark_of))]
 pub(crate) fn mark_of(edition: Edition, quantity: Quantity, bit: u8) -> Mark
     ensures { result ≡ mark_of edition quantity bit }
 {
-    match edition {
-        Edition::Gost => match quantity {
-            Quantity::Phase => Mark::Half(bit),
-            Quantity::Range => Mark::Reserved(bit),
-        },
-        Edition::Bd => Mark::More(bit),
+    match (edition, quantity) {
+        (Edition::Gost, Quantity::Phase) => Mark::Half(bit),
+        (Edition::Gost, Quantity::Range) => Mark::Reserved(bit),
+        (Edition::Bd, _) => Mark::More(bit),
     }
 }
 
-// The bit of a mark, where it is the one that is asked for; else 2, which can't be sent.
-fn bit_for(which: u8, wanted: u8, bit: u8) -> u32
-    ensures { result ≡ cond (eqb which wanted) bit 2 }
+// The bit of a mark.
+#[tactic(auto, unfolding(crate::specs::Editions::mark_bit))]
+fn bit_of(mark: Mark) -> u8
+    ensures { result ≡ mark_bit mark }
 {
-    if which == wanted {
-        return bit as u32;
+    match mark {
+        Mark::Half(bit) | Mark::Reserved(bit) | Mark::More(bit) => bit,
     }
-    2
 }
 
-// The number of a mark; 2 where it is another edition's or another type's.
+// What can't be sent for a bit.
+const NO_BIT: u32 = 2;
+
+// The number of a mark; where it is another edition's or another type's, one that can't be sent.
 pub(crate) fn mark_number(edition: Edition, quantity: Quantity, mark: Mark) -> u32
     ensures { result ≡ mark_number edition quantity mark }
 {
-    let wanted = which_of(edition, quantity);
-    match mark {
-        Mark::Half(bit) => bit_for(0, wanted, bit),
-        Mark::Reserved(bit) => bit_for(1, wanted, bit),
-        Mark::More(bit) => bit_for(2, wanted, bit),
+    let bit = bit_of(mark);
+    if mark == mark_of(edition, quantity, bit) {
+        u32::from(bit)
+    } else {
+        NO_BIT
     }
 }
 
@@ -63,17 +52,17 @@ pub(crate) fn measured_of(quantity: Quantity, beside: u8, amount: u32) -> Measur
 }
 
 // The two numbers of what was measured; where it is the other type's, a first one that can't be sent.
+#[tactic(auto, unfolding(crate::specs::Editions::beside_of, crate::specs::Editions::amount_of))]
 pub(crate) fn measured_numbers(quantity: Quantity, measured: Measured) -> [u32; 2]
     ensures { result ≡ beside_of quantity measured ∷ amount_of quantity measured ∷ [] }
 {
-    match quantity {
-        Quantity::Phase => match measured {
-            Measured::Phase(losses, phase) => [losses as u32, record_fields::code32(phase)],
-            Measured::Range(_, _) => [256, 0],
-        },
-        Quantity::Range => match measured {
-            Measured::Phase(_, _) => [256, 0],
-            Measured::Range(multipath, range) => [multipath as u32, range],
-        },
+    match (quantity, measured) {
+        (Quantity::Phase, Measured::Phase(losses, phase)) => {
+            [u32::from(losses), record_fields::code32(phase)]
+        }
+        (Quantity::Range, Measured::Range(multipath, range)) => [u32::from(multipath), range],
+        (Quantity::Phase, Measured::Range(_, _)) | (Quantity::Range, Measured::Phase(_, _)) => {
+            [256, 0]
+        }
     }
 }

@@ -1,6 +1,6 @@
 // What numbers of types 18 and 19 stand for where the editions or the types tell it differently: frequency codes, and the step of a phase.
 ghost use Rattle.std.specs.Prelude.{◌≡◌};
-ghost use Rattle.record_observations.specs.Meanings.{first_code, other_band, frequency_of, half_step, phase_step};
+ghost use Rattle.record_observations.specs.Meanings.{first_code, other_band, frequency_of, phase_step};
 
 use crate::marks::mark_number;
 use crate::{Edition, Mark, Quantity, quantity_of};
@@ -29,6 +29,7 @@ pub enum Step {
 }
 
 // What GOST means by code 1.
+#[tactic(auto, unfolding(crate::specs::Meanings::first_code))]
 fn first_code(quantity: Quantity) -> Frequency
     ensures { result ≡ first_code quantity }
 {
@@ -39,21 +40,19 @@ fn first_code(quantity: Quantity) -> Frequency
 }
 
 // What a code other than those of L1 and L2 says.
+#[tactic(auto, unfolding(crate::specs::Meanings::other_band))]
 fn other_band(edition: Edition, quantity: Quantity, code: u8) -> Frequency
     ensures { result ≡ other_band edition quantity code }
 {
     match edition {
-        Edition::Gost => {
-            if code == 3 {
-                return Frequency::Special;
-            }
-            first_code(quantity)
-        }
+        Edition::Gost if code == 3 => Frequency::Special,
+        Edition::Gost => first_code(quantity),
         Edition::Bd => Frequency::Reserved,
     }
 }
 
 // What a frequency code of a type says in an edition: 6, 10.
+#[tactic(auto, unfolding(crate::specs::Meanings::frequency_of))]
 pub fn frequency_of(edition: Edition, kind: u8, code: u8) -> Frequency
     ensures { result ≡ frequency_of edition kind code }
 {
@@ -63,26 +62,15 @@ pub fn frequency_of(edition: Edition, kind: u8, code: u8) -> Frequency
     if code > 3 {
         return Frequency::Refused(10);
     }
-    if code == 0 {
-        return Frequency::L1;
+    match code {
+        0 => Frequency::L1,
+        2 => Frequency::L2,
+        _ => other_band(edition, quantity_of(kind), code),
     }
-    if code == 2 {
-        return Frequency::L2;
-    }
-    other_band(edition, quantity_of(kind), code)
-}
-
-// The step of a phase by the mark of half a wavelength.
-fn half_step(bit: u8) -> Step
-    ensures { result ≡ half_step bit }
-{
-    if bit == 1 {
-        return Step::HalfWavelength128;
-    }
-    Step::Wavelength256
 }
 
 // The step of a phase with a mark in an edition: 6 for a type other than 18, 10 for a mark that it can't have.
+#[tactic(auto, unfolding(crate::specs::Meanings::step_of, crate::specs::Meanings::phase_step))]
 pub fn phase_step(edition: Edition, kind: u8, mark: Mark) -> Step
     ensures { result ≡ phase_step edition kind mark }
 {
@@ -93,8 +81,7 @@ pub fn phase_step(edition: Edition, kind: u8, mark: Mark) -> Step
         return Step::Refused(10);
     }
     match mark {
-        Mark::Half(bit) => half_step(bit),
-        Mark::Reserved(_) => Step::Wavelength256,
-        Mark::More(_) => Step::Wavelength256,
+        Mark::Half(1) => Step::HalfWavelength128,
+        Mark::Half(_) | Mark::Reserved(_) | Mark::More(_) => Step::Wavelength256,
     }
 }

@@ -121,15 +121,10 @@ pub(crate) fn rows_of(
 ) -> Rows
     ensures { result ≡ put_rows (widths quantity) least (most quantity) (map (numbers edition quantity) (take count entries)) (epoch_rows epoch) }
 {
-    let mut rows = head_rows(epoch);
-    let mut i = 0;
-    while i < 15 {
-        if i >= count {
-            return rows;
-        }
-        let e = entries[i];
-        rows = put_entry(rows, edition, quantity, e);
-        i += 1;
-    }
-    rows
+    entries
+        .iter()
+        .take(count)
+        .fold(head_rows(epoch), |rows, e| {
+            put_entry(rows, edition, quantity, *e)
+        })
 }

@@ -9,7 +9,7 @@ ghost use Rattle.record_fields.specs.Coding.{rows_of};
 ghost use Rattle.record_stages.specs.Stages.{ranged_of};
 ghost use Rattle.record_positions.specs.Positions.{widths, meant, coding, too_low, out_of_range, read_position, make_position};
 
-use frame::{Clock, Frame, Header, Layout, Widths};
+use frame::{Frame, Header, Layout};
 use record_fields::{Packer, Rows};
 use record_stages::{Asked, Made, Ranged, Size};
 
@@ -32,6 +32,7 @@ pub enum PositionRead {
 const WIDTHS: [u32; 3] = [32, 32, 32];
 
 // -2147483648 is outside the range.
+#[tactic(auto, unfolding(crate::specs::Positions::too_low))]
 fn too_low(coordinate: i32) -> bool
     ensures { result ≡ too_low coordinate }
 {
@@ -39,16 +40,11 @@ fn too_low(coordinate: i32) -> bool
 }
 
 // One of the three is outside its range.
+#[tactic(auto, unfolding(crate::specs::Positions::out_of_range))]
 fn out_of_range(position: Position) -> bool
     ensures { result ≡ out_of_range position }
 {
-    if too_low(position.x) {
-        return true;
-    }
-    if too_low(position.y) {
-        return true;
-    }
-    too_low(position.z)
+    too_low(position.x) || too_low(position.y) || too_low(position.z)
 }
 
 // Whether all three are in their range.
@@ -74,17 +70,18 @@ fn position_from(words: [u32; 31]) -> Position
 }
 
 // The position of a frame: 5, 6, 7, 8, 10.
+#[tactic(auto, unfolding(crate::specs::Positions::read_position))]
 pub fn read_position(frame: Frame) -> PositionRead
     ensures { result ≡ read_position frame }
 {
-    let Widths::Within = frame::frame_widths(frame) else {
+    let Ok(()) = frame::frame_widths(frame) else {
         return PositionRead::Refused(5);
     };
     let header = frame.header;
     let Asked::Same = record_stages::asked_of(Layout::Position, header.kind) else {
         return PositionRead::Refused(6);
     };
-    let Clock::Hour = frame::clock_of(header.z) else {
+    let Ok(()) = frame::clock_of(header.z) else {
         return PositionRead::Refused(7);
     };
     let Size::Right = record_stages::size_of(4, frame.n) else {

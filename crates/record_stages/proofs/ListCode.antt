@@ -8,6 +8,7 @@ use native.Mathlib.Nat.{div-zero, zero-div, div-mul-le_self}
 use native.Mathlib.Omega.{arith}
 use lib.Dec.{ltb, eqb}
 use borrow.Author.Tests.{lt-ltb, le-ltb, eq-eqb, ne_eqb, eqb-true, eqb-false, ltb-false, not-false}
+use Rattle.std.specs.Int.{div_ceil}
 use Rattle.answer.specs.Order.{in_order}
 use Rattle.frame.proofs.WidthLaws.{both_false}
 use Rattle.record_stages.specs.Stages.{held_after, misfit_after, wrong_count}
@@ -16,6 +17,10 @@ use Rattle.record_stages.specs.Stages.{held_after, misfit_after, wrong_count}
 
 pub held-le : (h w n : ℕ) → held_after h w n * w ≤ 24 * n - h
 held-le h w n = div-mul-le_self (24 * n - h) w
+
+-- words of 24 bits, rounded up, as the code counts them
+pub words-up : (x : ℕ) → div_ceil x 24 ≡ (x + 23) / 24
+words-up x = omega arith
 
 pub count-over : (h w n : ℕ) → 31 < n → misfit_after h w n ≡ true
 unfolding misfit_after

@@ -7,6 +7,7 @@ use Prim.Native.Nat.{ℕ}
 use native.Mathlib.Omega.{arith}
 use lib.Dec.{eqb}
 use borrow.Author.Tests.{eq-eqb, ne_eqb}
+use Rattle.std.specs.Prelude.{Err, None, Some}
 use Rattle.answer.specs.Order.{Check, in_order}
 use Rattle.answer.proofs.OrderLaws.{order-map, order-append}
 use Rattle.frame.specs.Layout.{layout_of, layout_number}
@@ -16,11 +17,8 @@ use Rattle.frame.proofs.WidthLaws.{told-outside, told-within, told-late, told-ho
 use Rattle.frame.specs.declared.Header.{Header}
 use Rattle.frame.specs.declared.Frame.{Frame}
 use Rattle.frame.specs.declared.Layout.{Layout}
-use Rattle.frame.specs.declared.Widths.TheVariants.{Within, Outside}
-use Rattle.frame.specs.declared.Clock.TheVariants.{Hour, Late}
 use Rattle.record_stages.specs.declared.Asked.{Asked}
 use Rattle.record_stages.specs.declared.Asked.TheVariants.{Same, Other}
-use Rattle.record_stages.specs.declared.Counted.TheVariants.{Entries, Misfit}
 use Rattle.record_stages.specs.declared.Size.TheVariants.{Right, Wrong}
 use Rattle.record_stages.specs.declared.Indexed.TheVariants.{Below, Past}
 use Rattle.record_stages.specs.declared.Ranged.TheVariants as ranged
@@ -28,6 +26,8 @@ use Rattle.record_stages.specs.declared.checks.Suited.{Suited}
 use Rattle.record_stages.specs.declared.checks.Suited.TheVariants as suited
 use Rattle.record_stages.specs.declared.Count.TheVariants as count
 use Rattle.record_stages.specs.Stages.{other_layout, asked_of, ranged_of, read_order, make_order, refused_made, done_made}
+use Rattle.answer.specs.Table.{granted}
+use Rattle.answer.specs.declared.Refusal.{Refusal}
 
 -- ---- what a stage's answer says of its check
 
@@ -39,11 +39,11 @@ pub told_same : (b : Bool) → Same ≡ cond b Other Same → b ≡ false
 told_same true e = let q : ◌≡◌ {A = ℕ} 0 1 = cc in absurd (omega arith)
 told_same false e = refl
 
-pub told-misfit : (b : Bool) (m : ℕ) → Misfit ≡ cond b Misfit (Entries m) → b ≡ true
+pub told-misfit : (b : Bool) (m : ℕ) → None ≡ cond b None (Some m) → b ≡ true
 told-misfit true m e = refl
 told-misfit false m e = let q : ◌≡◌ {A = ℕ} 0 1 = cc in absurd (omega arith)
 
-pub told_entries : (b : Bool) (m c : ℕ) → Entries c ≡ cond b Misfit (Entries m) → (b ≡ false) × (c ≡ m)
+pub told_entries : (b : Bool) (m c : ℕ) → Some c ≡ cond b None (Some m) → (b ≡ false) × (c ≡ m)
 told_entries true m c e = let q : ◌≡◌ {A = ℕ} 0 1 = cc in absurd (omega arith)
 told_entries false m c e = (refl, cc)
 
@@ -98,18 +98,18 @@ module _ {A : Type 0} (l : Layout) (f : Frame) (wrong_n : Bool) (more : List Che
   abbrev pub reading : A
   reading = in_order (read_order l f wrong_n more) refuse answer
 
-  pub read5 : Outside ≡ frame_widths f → refuse 5 ≡ reading
+  pub read5 : {e : Refusal} → Err e ≡ frame_widths f → refuse 5 ≡ reading
   read5 w = rw (told-outside (outside f) w)
 
-  module _ (w : Within ≡ frame_widths f) where
+  module _ (w : granted ≡ frame_widths f) where
     pub read6 : Other ≡ asked_of l f.header.kind → refuse 6 ≡ reading
     read6 a = rw (told-within (outside f) w, told-other (other_layout l f.header.kind) a)
 
     module _ (a : Same ≡ asked_of l f.header.kind) where
-      pub read7 : Late ≡ clock_of f.header.z → refuse 7 ≡ reading
+      pub read7 : {e : Refusal} → Err e ≡ clock_of f.header.z → refuse 7 ≡ reading
       read7 z = rw (told-within (outside f) w, told_same (other_layout l f.header.kind) a, told-late (late f.header.z) z)
 
-      module _ (z : Hour ≡ clock_of f.header.z) where
+      module _ (z : granted ≡ clock_of f.header.z) where
         past7 : in_order ((wrong_n, 8) ∷ more) refuse answer ≡ reading
         past7 = rw (told-within (outside f) w, told_same (other_layout l f.header.kind) a, told-hour (late f.header.z) z)
 
@@ -125,18 +125,18 @@ module _ {A : Type 0} (l : Layout) (h : Header) (more : List Check) (refuse : �
   abbrev pub makes : A
   makes = in_order (make_order l h more) refuse answer
 
-  pub make5 : Outside ≡ header_widths h → refuse 5 ≡ makes
+  pub make5 : {e : Refusal} → Err e ≡ header_widths h → refuse 5 ≡ makes
   make5 w = rw (told-outside (header_outside h) w)
 
-  module _ (w : Within ≡ header_widths h) where
+  module _ (w : granted ≡ header_widths h) where
     pub make6 : Other ≡ asked_of l h.kind → refuse 6 ≡ makes
     make6 a = rw (told-within (header_outside h) w, told-other (other_layout l h.kind) a)
 
     module _ (a : Same ≡ asked_of l h.kind) where
-      pub make7 : Late ≡ clock_of h.z → refuse 7 ≡ makes
+      pub make7 : {e : Refusal} → Err e ≡ clock_of h.z → refuse 7 ≡ makes
       make7 z = rw (told-within (header_outside h) w, told_same (other_layout l h.kind) a, told-late (late h.z) z)
 
-      pub make-on : Hour ≡ clock_of h.z → in_order more refuse answer ≡ makes
+      pub make-on : granted ≡ clock_of h.z → in_order more refuse answer ≡ makes
       make-on z = rw (told-within (header_outside h) w, told_same (other_layout l h.kind) a, told-hour (late h.z) z)
 
 -- ---- a stage that answers with its number, and what comes after it

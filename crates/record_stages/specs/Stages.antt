@@ -1,6 +1,6 @@
 -- The orders of refusals that reading and making share, what passes their first checks, and what each answer says in the table's terms.
 -- Assumes nothing.
-use Rattle.std.specs.Prelude.{◌≡◌, Bool, false, not, ◌||◌, ◌&&◌, cond, List, [], ◌∷◌, ℕ, ◌+◌, ◌*◌, ◌-◌, ◌/◌, ◌<◌, ltb, leb, eqb}
+use Rattle.std.specs.Prelude.{◌≡◌, Bool, false, not, ◌||◌, ◌&&◌, cond, Option, None, Some, List, [], ◌∷◌, ℕ, ◌+◌, ◌*◌, ◌-◌, ◌/◌, ◌<◌, ltb, leb, eqb}
 use Rattle.answer.specs.Order.{Says, refuses, answers, Check, in_order}
 use Rattle.frame.specs.Frames.{built_of, blank}
 use Rattle.frame.specs.Layout.{layout_of, layout_number}
@@ -14,8 +14,6 @@ use Rattle.record_fields.specs.declared.Rows.{Rows}
 use Rattle.record_fields.specs.Packing.{filled_up}
 use Rattle.record_stages.specs.declared.Asked.{Asked}
 use Rattle.record_stages.specs.declared.Asked.TheVariants.{Same, Other}
-use Rattle.record_stages.specs.declared.Counted.{Counted}
-use Rattle.record_stages.specs.declared.Counted.TheVariants.{Entries, Misfit}
 use Rattle.record_stages.specs.declared.Size.{Size}
 use Rattle.record_stages.specs.declared.Size.TheVariants.{Right, Wrong}
 use Rattle.record_stages.specs.declared.Indexed.{Indexed}
@@ -59,8 +57,8 @@ held_after h w n = (24 * n - h) / w
 unfoldable pub misfit_after : ℕ → ℕ → ℕ → Bool
 misfit_after h w n = ltb 31 n || eqb (held_after h w n) 0 || not (eqb ((h + held_after h w n * w + 23) / 24) n)
 
-abbrev pub entries_in : ℕ → ℕ → ℕ → Counted
-entries_in h w n = cond (misfit_after h w n) Misfit (Entries (held_after h w n))
+abbrev pub entries_in : ℕ → ℕ → ℕ → Option ℕ
+entries_in h w n = cond (misfit_after h w n) None (Some (held_after h w n))
 
 abbrev pub entries_held : ℕ → ℕ → ℕ
 entries_held w n = held_after 0 w n

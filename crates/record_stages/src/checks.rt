@@ -3,7 +3,7 @@ ghost use Rattle.std.specs.Prelude.{◌≡◌};
 ghost use Rattle.record_stages.specs.Stages.{suited_by, entry_refusal};
 
 use crate::{Asked, asked_of};
-use frame::{Clock, Header, Layout, Widths};
+use frame::{Header, Layout};
 
 // Whether a header and a number of entries suit a layout, or the refusal's number.
 #[derive(Clone, Copy)]
@@ -16,19 +16,16 @@ pub(crate) enum Suited {
 pub(crate) fn suits(layout: Layout, header: Header, most: usize, count: usize) -> Suited
     ensures { result ≡ suited_by layout header most count }
 {
-    let Widths::Within = frame::header_widths(header) else {
+    let Ok(()) = frame::header_widths(header) else {
         return Suited::Refused(5);
     };
     let Asked::Same = asked_of(layout, header.kind) else {
         return Suited::Refused(6);
     };
-    let Clock::Hour = frame::clock_of(header.z) else {
+    let Ok(()) = frame::clock_of(header.z) else {
         return Suited::Refused(7);
     };
-    if count == 0 {
-        return Suited::Refused(12);
-    }
-    if count > most {
+    if count == 0 || count > most {
         return Suited::Refused(12);
     }
     Suited::Yes
@@ -38,8 +35,8 @@ pub(crate) fn suits(layout: Layout, header: Header, most: usize, count: usize) -
 pub(crate) fn entry_refusal(layout: Layout) -> u8
     ensures { result ≡ entry_refusal layout }
 {
-    if frame::layout_number(layout) == frame::layout_number(Layout::Text) {
-        return 11;
+    match layout {
+        Layout::Text => 11,
+        _ => 10,
     }
-    10
 }

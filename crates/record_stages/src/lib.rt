@@ -8,7 +8,7 @@ ghost use Rattle.record_stages.specs.Stages.{asked_of, entries_in, index_of, cou
 ghost use Rattle.record_stages.specs.Stages.{refused_made, made_by};
 
 use crate::checks::{Suited, entry_refusal, suits};
-use frame::{Clock, Frame, Header, Layout, Widths};
+use frame::{Frame, Header, Layout};
 use record_fields::Rows;
 
 // Whether a type number has the layout that is asked for; another one is refusal 6.
@@ -16,13 +16,6 @@ use record_fields::Rows;
 pub enum Asked {
     Same,
     Other,
-}
-
-// How many entries N words hold; refusal 8 where N doesn't fit.
-#[derive(Clone, Copy)]
-enum Counted {
-    Entries(usize),
-    Misfit,
 }
 
 // Whether N is the one that the type has; another one is refusal 8.
@@ -97,43 +90,34 @@ pub fn asked_of(layout: Layout, kind: u8) -> Asked
 }
 
 // How many entries of `width` bits N words hold behind a head of `head` bits, where N is what they take and at most 31.
-fn entries_in(head: usize, width: usize, n: usize) -> Counted
+fn entries_in(head: usize, width: usize, n: usize) -> Option<usize>
     ensures { result ≡ entries_in head width n }
 {
-    if n > 31 {
-        return Counted::Misfit;
-    }
-    if head > 24 * n {
-        return Counted::Misfit;
-    }
-    if width == 0 {
-        return Counted::Misfit;
+    if n > 31 || head > 24 * n || width == 0 {
+        return None;
     }
     let count = (24 * n - head) / width;
-    if count == 0 {
-        return Counted::Misfit;
+    if count == 0 || (head + count * width).div_ceil(24) != n {
+        return None;
     }
-    if (head + count * width + 23) / 24 != n {
-        return Counted::Misfit;
-    }
-    Counted::Entries(count)
+    Some(count)
 }
 
 // How many entries of `width` bits a frame of a layout has behind a head of `head` bits: 5, 6, 7, 8.
 pub fn count_in(layout: Layout, head: usize, width: usize, frame: Frame) -> Count
     ensures { result ≡ count_after layout head width frame }
 {
-    let Widths::Within = frame::frame_widths(frame) else {
+    let Ok(()) = frame::frame_widths(frame) else {
         return Count::Refused(5);
     };
     let header = frame.header;
     let Asked::Same = asked_of(layout, header.kind) else {
         return Count::Refused(6);
     };
-    let Clock::Hour = frame::clock_of(header.z) else {
+    let Ok(()) = frame::clock_of(header.z) else {
         return Count::Refused(7);
     };
-    let Counted::Entries(count) = entries_in(head, width, frame.n) else {
+    let Some(count) = entries_in(head, width, frame.n) else {
         return Count::Refused(8);
     };
     Count::Of(count)
@@ -153,17 +137,17 @@ fn index_of(count: usize, index: usize) -> Indexed
 pub fn entry_place(layout: Layout, head: usize, width: usize, frame: Frame, index: usize) -> Place
     ensures { result ≡ place_after layout head width frame index }
 {
-    let Widths::Within = frame::frame_widths(frame) else {
+    let Ok(()) = frame::frame_widths(frame) else {
         return Place::Refused(5);
     };
     let header = frame.header;
     let Asked::Same = asked_of(layout, header.kind) else {
         return Place::Refused(6);
     };
-    let Clock::Hour = frame::clock_of(header.z) else {
+    let Ok(()) = frame::clock_of(header.z) else {
         return Place::Refused(7);
     };
-    let Counted::Entries(count) = entries_in(head, width, frame.n) else {
+    let Some(count) = entries_in(head, width, frame.n) else {
         return Place::Refused(8);
     };
     let Indexed::Below = index_of(count, index) else {

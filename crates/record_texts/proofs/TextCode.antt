@@ -1,15 +1,13 @@
 -- Facts that the proofs of the text functions cite: characters and their number, the loops over them, and the answers of reading.
 -- Assumes nothing.
-use mathlib.Core.Path.{◌≡◌, refl, sym, ap, ap₂, ◌∙◌}
+use mathlib.Core.Path.{◌≡◌, refl, ap, ap₂, ◌∙◌}
 use mathlib.Core.Bool.{Bool, true, false, cond}
-use mathlib.Core.List.{List, [], ◌∷◌, ◌++◌, map, append_assoc}
+use mathlib.Core.List.{List, [], ◌∷◌, ◌++◌, map}
 use Prim.Native.Nat.{ℕ, zero, suc, ◌+◌, ◌*◌, ◌-◌, ◌≤◌, ◌<◌}
 use native.Mathlib.Nat.{zero-add}
-use native.Mathlib.Numerals.{add-one}
 use native.Mathlib.Omega.{arith}
 use lib.Dec.{ltb, eqb}
-use lib.ListN.{length, take, drop, get_or, set, length-map, length-append, length-take, length-drop}
-use lib.Seq.{drop-cons, take-suc, set_at, length-take-le}
+use lib.ListN.{length, drop, get_or, length-map}
 use borrow.Author.Tests.{ltb-false, eqb-true, eqb-false, eq-eqb, ne_eqb}
 use Rattle.answer.specs.Order.{Check, in_order}
 use Rattle.bits.specs.Fields.{fields_at}
@@ -19,10 +17,8 @@ use Rattle.frame.specs.Widths.{any_of, outside}
 use Rattle.frame.specs.Answer.{frame_widths, clock_of}
 use Rattle.frame.specs.Layout.{system_of}
 use Rattle.frame.specs.declared.Frame.{Frame}
-use Rattle.frame.specs.declared.Widths.TheVariants.{Within, Outside}
-use Rattle.frame.specs.declared.Clock.TheVariants.{Hour, Late}
 use Rattle.frame.specs.declared.Layout.TheVariants as layout
-use Rattle.frame.proofs.WidthLaws.{both_false}
+use Rattle.frame.proofs.WidthLaws.{both_false, told-within}
 use Rattle.record_fields.specs.Coding.{frame_bits, entry_in}
 use Rattle.record_fields.proofs.Making.{fields-frame, rows_frame}
 use Rattle.record_stages.specs.declared.Asked.TheVariants.{Same, Other}
@@ -30,10 +26,11 @@ use Rattle.record_stages.specs.declared.Count.{Count}
 use Rattle.record_stages.specs.declared.Count.TheVariants as count
 use Rattle.record_stages.specs.Stages.{asked_of}
 use Rattle.record_stages.proofs.StageLaws.{read5, read6, read7, read8, read-on}
-use Rattle.record_texts.specs.declared.Characters.TheVariants.{Permitted, Forbidden}
-use Rattle.record_texts.specs.declared.Room.TheVariants.{Enough, Short}
 use Rattle.record_texts.specs.Texts.{widths, meant, coding, characters, text_length, length_in, text_in, wrong_words, forbidden}
 use Rattle.record_texts.specs.Texts.{text_order, read_text, buffer_after}
+use Rattle.std.specs.Prelude.{Err}
+use Rattle.answer.specs.Table.{granted}
+use Rattle.answer.specs.declared.Refusal.{Refusal}
 
 -- ---- characters of bits
 
@@ -105,24 +102,6 @@ module _ (f : Frame) (e : outside f ≡ false) (full : length f.words ≡ 31) wh
   unfolding characters
   characters-frame m h = ap (map meant) (rows_frame widths m f e full (omega arith))
 
--- ---- the loops
-
--- a character goes where the next one is due
-pub write-next : (cs b : List ℕ) (i : ℕ) → i < length cs → i < length b
-    → set (take i cs ++ drop i b) i (get_or cs i 0) ≡ take (i + 1) cs ++ drop (i + 1) b
-write-next cs b i h l =
-    ap (λ r. set (take i cs ++ r) i (get_or cs i 0)) (drop-cons b i 0 l)
-    ∙ set_at (take i cs) (get_or b i 0) (drop (suc i) b) (get_or cs i 0) i (length-take-le i cs (omega arith))
-    ∙ sym (append_assoc (take i cs) (get_or cs i 0 ∷ []) (drop (suc i) b))
-    ∙ ap₂ (λ p q. p ++ q) (sym (take-suc cs i 0 h)) refl
-    ∙ ap (λ k. take k cs ++ drop k b) (sym (add-one i))
-
-pub meets : (i n : ℕ) → i ≤ n → n ≤ i → i ≡ n
-meets i n h l = omega arith
-
-pub length-writing : (cs b : List ℕ) (i : ℕ) → i ≤ length cs → i ≤ length b → length (take i cs ++ drop i b) ≡ length b
-length-writing cs b i h l = omega (arith, length-append (take i cs) (drop i b), length-take i cs, length-drop i b)
-
 -- ---- N and the number of characters
 
 pub some_words : (n : ℕ) → wrong_words n ≡ false → (0 < n) × (n ≤ 30)
@@ -132,23 +111,24 @@ some_words n e = let s = both_false (eqb n 0) (ltb 30 n) e in (positive n (eqb-f
     positive zero z = absurd (z refl)
     positive (suc m) z = omega arith
 
--- ---- what the stages of 11 and 13 say of their checks
+-- what is found of a frame that passed 5 and 8: the number of its characters, at most 93, and they are its text
+pub record Found (f : Frame) (count : ℕ) : Type 0 where
+  pub number : count ≡ length_in f
+  pub text : characters count (data_bits f.words) ≡ text_in f
+  pub few : count ≤ 93
 
-pub told-forbidden : (b : Bool) → Forbidden ≡ cond b Forbidden Permitted → b ≡ true
-told-forbidden true e = refl
-told-forbidden false e = let q : ◌≡◌ {A = ℕ} 0 1 = cc in absurd (omega arith)
-
-pub told-permitted : (b : Bool) → Permitted ≡ cond b Forbidden Permitted → b ≡ false
-told-permitted true e = let q : ◌≡◌ {A = ℕ} 0 1 = cc in absurd (omega arith)
-told-permitted false e = refl
-
-pub told-short : (b : Bool) → Short ≡ cond b Short Enough → b ≡ true
-told-short true e = refl
-told-short false e = let q : ◌≡◌ {A = ℕ} 0 1 = cc in absurd (omega arith)
-
-pub told-enough : (b : Bool) → Enough ≡ cond b Short Enough → b ≡ false
-told-enough true e = let q : ◌≡◌ {A = ℕ} 0 1 = cc in absurd (omega arith)
-told-enough false e = refl
+pub found : (f : Frame) (count : ℕ) → granted ≡ frame_widths f → length f.words ≡ 31 → wrong_words f.n ≡ false
+    → count ≡ text_length (3 * f.n) (data_bits f.words) → Found f count
+found f count within full right counted =
+    let inside = told-within (outside f) within in
+    let some = some_words f.n right in
+    let least = length-le (3 * f.n) (frame_bits f) in
+    let is : count ≡ length_in f = counted ∙ length-frame f inside full some.0 in
+    record {
+      number = is;
+      text = ap (λ m. characters m (data_bits f.words)) is ∙ characters-frame f inside full (length_in f) least.0;
+      few = omega (arith, least.0, some.1);
+    }
 
 -- ---- the answers of reading, with the buffer
 
@@ -165,18 +145,18 @@ module _ (f : Frame) (buffer : List ℕ) where
   unfolding read_text buffer_after
   refuses n law = (law Count count.Refused (count.Of (length_in f)), law (List ℕ) (λ k. buffer) (text_in f ++ drop (length_in f) buffer))
 
-  pub text5 : Outside ≡ frame_widths f → Answers (count.Refused 5) buffer
+  pub text5 : {e : Refusal} → Err e ≡ frame_widths f → Answers (count.Refused 5) buffer
   text5 w = refuses 5 (λ A refuse answer. read5 layout.Text f (wrong_words f.n) last refuse answer w)
 
-  module _ (w : Within ≡ frame_widths f) where
+  module _ (w : granted ≡ frame_widths f) where
     pub text6 : Other ≡ asked_of layout.Text f.header.kind → Answers (count.Refused 6) buffer
     text6 a = refuses 6 (λ A refuse answer. read6 layout.Text f (wrong_words f.n) last refuse answer w a)
 
     module _ (a : Same ≡ asked_of layout.Text f.header.kind) where
-      pub text7 : Late ≡ clock_of f.header.z → Answers (count.Refused 7) buffer
+      pub text7 : {e : Refusal} → Err e ≡ clock_of f.header.z → Answers (count.Refused 7) buffer
       text7 z = refuses 7 (λ A refuse answer. read7 layout.Text f (wrong_words f.n) last refuse answer w a z)
 
-      module _ (z : Hour ≡ clock_of f.header.z) where
+      module _ (z : granted ≡ clock_of f.header.z) where
         pub text8 : wrong_words f.n ≡ true → Answers (count.Refused 8) buffer
         text8 e = refuses 8 (λ A refuse answer. read8 layout.Text f (wrong_words f.n) last refuse answer w a z e)
 

@@ -11,15 +11,9 @@ use Rattle.frame.specs.declared.System.TheVariants.{Gps, Glonass}
 use Rattle.frame.specs.Layout.{system_of}
 use Rattle.record_fields.specs.Coding.{Coding, frame_bits, entry_in, frame_with}
 use Rattle.record_fields.specs.Tables.{row}
-use Rattle.record_stages.specs.declared.Size.{Size}
-use Rattle.record_stages.specs.declared.Size.TheVariants.{Right, Wrong}
 use Rattle.record_stages.specs.declared.Count.{Count}
 use Rattle.record_stages.specs.declared.Count.TheVariants as count
 use Rattle.record_stages.specs.declared.Made.{Made}
-use Rattle.record_texts.specs.declared.Characters.{Characters}
-use Rattle.record_texts.specs.declared.Characters.TheVariants.{Permitted, Forbidden}
-use Rattle.record_texts.specs.declared.Room.{Room}
-use Rattle.record_texts.specs.declared.Room.TheVariants.{Enough, Short}
 use Rattle.record_stages.specs.Stages.{wrong_count, read_order, make_order, refused_made, done_made, HeaderFor, FrameFor}
 
 -- THE LAYOUT of both systems: a character is 8 bits, three a word
@@ -61,9 +55,6 @@ text_in f = characters (length_in f) (frame_bits f)
 abbrev pub wrong_words : ℕ → Bool
 wrong_words n = wrong_count 30 n
 
-abbrev pub words_size : ℕ → Size
-words_size n = cond (wrong_words n) Wrong Right
-
 -- THE LAST CODE: 1 to 127 are ASCII; GLONASS has the Russian letters of annex G too, 128 to 191
 unfoldable pub last_code : System → ℕ
 last_code Gps = 127
@@ -79,16 +70,9 @@ most s = last_code s ∷ []
 abbrev pub forbidden : System → ℕ → Bool
 forbidden s c = ltb c 1 || ltb (last_code s) c
 
-abbrev pub characters_of : System → List ℕ → Characters
-characters_of s t = cond (any_of (forbidden s) t) Forbidden Permitted
-
--- REFUSAL 13: a buffer shorter than the text
-abbrev pub room_of : ℕ → ℕ → Room
-room_of size count = cond (ltb size count) Short Enough
-
 -- ---- the answers; a frame's system is that of its type
 
--- READING into a buffer: 5, 6, 7, 8, 11, 13
+-- READING into a buffer: 5, 6, 7, 8, 11, and 13 for a buffer shorter than the text
 abbrev pub text_order : Frame → List ℕ → List Check
 text_order f buffer =
     read_order layout.Text f (wrong_words f.n)

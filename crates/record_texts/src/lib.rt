@@ -1,31 +1,18 @@
 // Text, 1 to 90 characters of eight bits, three a word: type 16 of GPS, 36 of GLONASS. The last code of a character alone differs.
 #![tactic(auto)]
 
-ghost use Rattle.std.specs.Prelude.{◌≡◌, ◌++◌, map, ◌*◌, ◌≤◌, ◌<◌, length, take, drop};
+ghost use Rattle.std.specs.Prelude.{◌≡◌, map, ◌*◌, ◌≤◌, ◌<◌, length, take};
 ghost use Rattle.bits.specs.Rows.{data_bits};
+ghost use Rattle.frame.specs.Widths.{any_of};
 ghost use Rattle.record_fields.specs.Tables.{no_rows, put_rows};
 ghost use Rattle.record_fields.specs.Coding.{entry_in};
-ghost use Rattle.record_texts.specs.Texts.{widths, coding, least, most, numbers, characters, text_length, words_size};
-ghost use Rattle.record_texts.specs.Texts.{last_code, forbidden, characters_of, room_of};
+ghost use Rattle.record_texts.specs.Texts.{widths, coding, least, most, numbers, characters, text_length, wrong_words};
+ghost use Rattle.record_texts.specs.Texts.{last_code, forbidden};
 ghost use Rattle.record_texts.specs.Texts.{read_text, buffer_after, make_text};
 
-use frame::{Clock, Frame, Header, Layout, System, Widths};
+use frame::{Frame, Header, Layout, System};
 use record_fields::Rows;
-use record_stages::{Asked, Count, Made, Size};
-
-// Whether every character of a text is allowed; one that is not is refusal 11.
-#[derive(Clone, Copy)]
-enum Characters {
-    Permitted,
-    Forbidden,
-}
-
-// Whether a lent buffer has room for a text; one that is too short is refusal 13.
-#[derive(Clone, Copy)]
-enum Room {
-    Enough,
-    Short,
-}
+use record_stages::{Asked, Count, Made};
 
 // THE LAYOUT of both systems: the width of a character and its least; its most is the system's; the last word is filled with zeros.
 const WIDTHS: [u32; 1] = [8];
@@ -33,6 +20,7 @@ const WIDTHS: [u32; 1] = [8];
 const LEAST: [u32; 1] = [1];
 
 // The last code of a character: GPS has ASCII, GLONASS the Russian letters of annex G behind it.
+#[tactic(auto, unfolding(crate::specs::Texts::last_code))]
 fn last_code(system: System) -> u32
     ensures { result ≡ last_code system }
 {
@@ -46,23 +34,14 @@ fn last_code(system: System) -> u32
 fn is_forbidden(system: System, character: u32) -> bool
     ensures { result ≡ forbidden system character }
 {
-    if character < 1 {
-        return true;
-    }
-    character > last_code(system)
+    character < 1 || character > last_code(system)
 }
 
-// Whether a text has N words: 1 to 30.
-fn words_size(n: usize) -> Size
-    ensures { result ≡ words_size n }
+// A text does not have N words: N is not 1 to 30.
+fn wrong_words(n: usize) -> bool
+    ensures { result ≡ wrong_words n }
 {
-    if n == 0 {
-        return Size::Wrong;
-    }
-    if n > 30 {
-        return Size::Wrong;
-    }
-    Size::Right
+    n == 0 || n > 30
 }
 
 // Character number `i` of the data.
@@ -88,40 +67,26 @@ fn text_length(words: [u32; 31], n: usize) -> usize
     all - 2
 }
 
-// Whether the first `count` characters of the data are allowed.
-fn characters_of(system: System, words: [u32; 31], count: usize) -> Characters
+// One of the first `count` characters of the data is not allowed.
+fn any_forbidden(system: System, words: [u32; 31], count: usize) -> bool
     requires { count ≤ 93 }
-    ensures { result ≡ characters_of system (characters count (data_bits words)) }
+    ensures { result ≡ any_of (forbidden system) (characters count (data_bits words)) }
 {
-    let mut i = 0;
-    while i < count {
+    for i in 0..count {
         if is_forbidden(system, character(words, i)) {
-            return Characters::Forbidden;
+            return true;
         }
-        i += 1;
     }
-    Characters::Permitted
+    false
 }
 
-// Whether a buffer of this length has room for `count` characters.
-fn room_of(length: usize, count: usize) -> Room
-    ensures { result ≡ room_of length count }
+// The first characters of the data fill a text.
+fn write_text(words: [u32; 31], text: &mut [u8])
+    requires { length text.old ≤ 93 }
+    ensures { text.new ≡ characters (length text.old) (data_bits words) }
 {
-    if length < count {
-        return Room::Short;
-    }
-    Room::Enough
-}
-
-// The first `count` characters go into the buffer; what stands behind them stays.
-fn write_text(words: [u32; 31], count: usize, buffer: &mut [u8])
-    requires { (count ≤ 93) × (count ≤ length buffer.old) }
-    ensures { buffer.new ≡ characters count (data_bits words) ++ drop count buffer.old }
-{
-    let mut i = 0;
-    while i < count {
-        buffer[i] = character(words, i) as u8;
-        i += 1;
+    for (i, c) in text.iter_mut().enumerate() {
+        *c = character(words, i) as u8;
     }
 }
 
@@ -129,29 +94,28 @@ fn write_text(words: [u32; 31], count: usize, buffer: &mut [u8])
 pub fn read_text(frame: Frame, buffer: &mut [u8]) -> Count
     ensures { (result ≡ read_text frame buffer.old) × (buffer.new ≡ buffer_after frame buffer.old) }
 {
-    let Widths::Within = frame::frame_widths(frame) else {
+    let Ok(()) = frame::frame_widths(frame) else {
         return Count::Refused(5);
     };
     let header = frame.header;
     let Asked::Same = record_stages::asked_of(Layout::Text, header.kind) else {
         return Count::Refused(6);
     };
-    let Clock::Hour = frame::clock_of(header.z) else {
+    let Ok(()) = frame::clock_of(header.z) else {
         return Count::Refused(7);
     };
-    let Size::Right = words_size(frame.n) else {
+    if wrong_words(frame.n) {
         return Count::Refused(8);
-    };
+    }
     let words = frame.words;
     let count = text_length(words, frame.n);
-    let system = frame::system_of(header.kind);
-    let Characters::Permitted = characters_of(system, words, count) else {
+    if any_forbidden(frame::system_of(header.kind), words, count) {
         return Count::Refused(11);
-    };
-    let Room::Enough = room_of(buffer.len(), count) else {
+    }
+    if count > buffer.len() {
         return Count::Refused(13);
-    };
-    write_text(words, count, buffer);
+    }
+    write_text(words, &mut buffer[..count]);
     Count::Of(count)
 }
 
@@ -160,17 +124,12 @@ fn rows_of(system: System, text: &[u8]) -> Rows
     ensures { result ≡ put_rows widths least (most system) (map numbers (take 90 text.now)) no_rows }
 {
     let most = [last_code(system)];
-    let mut rows = record_fields::no_rows();
-    let mut i = 0;
-    while i < 90 {
-        if i >= text.len() {
-            return rows;
-        }
-        let row = [text[i] as u32, 0, 0, 0, 0, 0, 0, 0, 0, 0, 0, 0];
-        rows = record_fields::put_row(rows, row, &WIDTHS, &LEAST, &most);
-        i += 1;
-    }
-    rows
+    text.iter()
+        .take(90)
+        .fold(record_fields::no_rows(), |rows, c| {
+            let row = [u32::from(*c), 0, 0, 0, 0, 0, 0, 0, 0, 0, 0, 0];
+            record_fields::put_row(rows, row, &WIDTHS, &LEAST, &most)
+        })
 }
 
 // A frame of text: 5, 6, 7, 12, 11.

@@ -15,16 +15,6 @@ use Rattle.frame.proofs.WidthLaws.{both_false}
 use Rattle.record_values.specs.Values.{limits}
 use Rattle.record_values.specs.GeneralValues.{general_limits}
 
-limit-le : (udre : ℕ) → get_or limits udre 0 ≤ 8000
-unfolding limits
-limit-le zero = omega arith
-limit-le (suc zero) = omega arith
-limit-le (suc (suc zero)) = omega arith
-limit-le (suc (suc (suc u))) = omega arith
-
-pub limit-fits : (udre h : ℕ) → h < 256 → Fits w32 (get_or limits udre 0 * h)
-limit-fits udre h l = record { fits = omega (arith, mul-le-mul_right h (limit-le udre)) }
-
 -- no limit is rounded, whatever the hundredths
 pub limit-whole : (udre h : ℕ) → get_or limits udre 0 * h / 100 * 100 ≡ get_or limits udre 0 * h
 unfolding limits

@@ -3,7 +3,7 @@ ghost use Rattle.std.specs.Prelude.{◌≡◌};
 ghost use Rattle.record_values.specs.GeneralAnswer.{general_prc_mm, delay_mm, general_udre, use_seconds};
 
 use crate::{Delay, Distance, GeneralLimit, Period, hundredths_of, product};
-use frame::{HealthCode, State, health_of};
+use frame::{State, health_of};
 
 // The upper limits of UDRE codes 0 to 14 of types 41 and 42 at factor 1, in mm.
 const GENERAL_LIMITS: [u32; 15] = [
@@ -17,10 +17,7 @@ const SECONDS: [u8; 4] = [15, 30, 60, 120];
 pub fn general_prc_mm(prc: i16) -> Distance
     ensures { result ≡ general_prc_mm prc }
 {
-    if prc < -8192 {
-        return Distance::Refused(10);
-    }
-    if prc > 8191 {
+    if prc < -8192 || prc > 8191 {
         return Distance::Refused(10);
     }
     if prc == -8192 {
@@ -43,10 +40,11 @@ pub fn delay_mm(delay: u16) -> Delay
 }
 
 // A UDRE's upper limit of types 41 and 42 in hundredths of a mm, with the station's factor: exact, since the factor is in hundredths.
+#[tactic(auto, unfolding(crate::specs::GeneralValues::general_udre_value, crate::specs::GeneralValues::general_limits))]
 pub fn general_udre(state: State, udre: u8) -> GeneralLimit
     ensures { result ≡ general_udre state udre }
 {
-    let HealthCode::Code(_) = health_of(state) else {
+    let Ok(_) = health_of(state) else {
         return GeneralLimit::Refused(5);
     };
     if udre > 15 {
@@ -59,6 +57,7 @@ pub fn general_udre(state: State, udre: u8) -> GeneralLimit
 }
 
 // How long corrections of types 41 and 42 may be used, in seconds.
+#[tactic(auto, unfolding(crate::specs::GeneralValues::seconds_of_use))]
 pub fn use_seconds(code: u8) -> Period
     ensures { result ≡ use_seconds code }
 {

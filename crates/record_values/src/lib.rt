@@ -8,7 +8,7 @@ ghost use Rattle.std.specs.Prelude.{◌≡◌, pos, ◌*ℤ◌};
 ghost use Rattle.record_values.specs.Values.{step_of, stops_use, hundredths_of};
 ghost use Rattle.record_values.specs.Answer.{prc_mm, rrc_mm_s, udre_limit, cn0_db_hz, minutes_of, z_tenths, letter_of};
 
-use frame::{Clock, HealthCode, State, clock_of, health_of};
+use frame::{State, clock_of, health_of};
 
 // A pseudorange correction (PRC), that the satellite is not to be used, or the refusal's number.
 #[derive(Clone, Copy)]
@@ -93,10 +93,7 @@ const LIMITS: [u32; 3] = [1000, 4000, 8000];
 fn step_of(small: u16, large: u16, scale: u8) -> u16
     ensures { result ≡ step_of small large scale }
 {
-    if scale == 0 {
-        return small;
-    }
-    large
+    if scale == 0 { small } else { large }
 }
 
 // A signed number times a step: sixteen bits by sixteen always fit, so this is exact at both ends.
@@ -140,21 +137,22 @@ pub fn stops(prc: i16, rrc: i8) -> bool
 }
 
 // The factor of a state in hundredths: a station that is not monitored or not working has factor 1.
+#[tactic(auto, unfolding(crate::specs::Values::hundredths_of))]
 pub(crate) fn hundredths_of(state: State) -> u8
     ensures { result ≡ hundredths_of state }
 {
     match state {
         State::Factor(factor) => factor,
-        State::Unmonitored => 100,
-        State::Down => 100,
+        State::Unmonitored | State::Down => 100,
     }
 }
 
 // A UDRE's upper limit in mm, with the station's factor. A state outside its widths has no health code.
+#[tactic(auto, unfolding(crate::specs::Values::udre_value, crate::specs::Values::limits))]
 pub fn udre_limit(state: State, udre: u8) -> Limit
     ensures { result ≡ udre_limit state udre }
 {
-    let HealthCode::Code(_) = health_of(state) else {
+    let Ok(_) = health_of(state) else {
         return Limit::Refused(5);
     };
     if udre > 3 {
@@ -196,7 +194,7 @@ pub fn z_tenths(z: u16) -> SinceHour
     if z > 8191 {
         return SinceHour::Refused(5);
     }
-    let Clock::Hour = clock_of(z) else {
+    let Ok(()) = clock_of(z) else {
         return SinceHour::Refused(7);
     };
     SinceHour::Tenths(6 * z)
@@ -207,14 +205,9 @@ pub fn z_tenths(z: u16) -> SinceHour
 pub fn letter_of(code: u8) -> Letter
     ensures { result ≡ letter_of code }
 {
-    if code < 1 {
-        return Letter::Refused(11);
+    match code {
+        1..=127 => Letter::Unicode(code as u32),
+        128..=191 => Letter::Unicode(0x0410 + (code as u32 - 128)),
+        _ => Letter::Refused(11),
     }
-    if code > 191 {
-        return Letter::Refused(11);
-    }
-    if code < 128 {
-        return Letter::Unicode(code as u32);
-    }
-    Letter::Unicode(0x0410 + (code as u32 - 128))
 }

@@ -13,7 +13,6 @@ use Rattle.frame.specs.Frames.{framed, frame_of}
 use Rattle.frame.specs.Answer.{health_of}
 use Rattle.frame.specs.declared.State.{State}
 use Rattle.frame.specs.declared.Frame.{Frame}
-use Rattle.frame.specs.declared.HealthCode.TheVariants as health
 use Rattle.frame.proofs.StateLaws.{state-inside}
 use Rattle.journal.specs.Bytes.{words_from}
 use Rattle.journal.specs.Forms.{n_byte, words_after, start_order}
@@ -24,6 +23,9 @@ use Rattle.journal.proofs.WordLaws.{length-words}
 use Rattle.journal.proofs.FormLaws.{start-few}
 use Rattle.rtcm2.specs.Answer.{and_then}
 use Rattle.rtcm2.specs.Frames.{recall_said, frame_said}
+use Rattle.std.specs.Prelude.{Ok, Err}
+use Rattle.answer.specs.Table.{refused}
+use Rattle.answer.specs.declared.Refusal.{Refusal}
 
 -- ---- what was recalled
 
@@ -74,11 +76,11 @@ module _ (bs : List ℕ) {size : ℕ} {f : Frame} (h : answers (size, f) ≡ rec
 -- ---- a state within its widths has its code
 
 module _ (s : State) (e : state_outside s ≡ false) where
-  coded : health_of s ≡ health.Code (code_of s)
+  coded : health_of s ≡ Ok (code_of s)
   coded = rw e
 
-  pub health-told : {c : ℕ} → health.Code c ≡ health_of s → c ≡ code_of s
+  pub health-told : {c : ℕ} → Ok c ≡ health_of s → c ≡ code_of s
   health-told h = cc (coded, h)
 
-  pub health-never : {n : ℕ} → health.Refused n ≡ health_of s → ⊥
+  pub health-never : {n : Refusal} → Err n ≡ health_of s → ⊥
   health-never h = let z : ◌≡◌ {A = ℕ} 0 1 = cc (coded, h) in omega arith

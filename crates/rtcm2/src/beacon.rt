@@ -38,11 +38,9 @@ fn records_size(cut: [Frame; 6], number: usize) -> usize
     ensures { result ≡ list.length (records_of (list.take number cut)) }
 {
     let mut size = 0;
-    let mut i = 0;
-    while i < number {
+    for i in 0..number {
         let f = cut[i];
-        size = size + 3 * f.n + 9;
-        i += 1;
+        size += 3 * f.n + 9;
     }
     size
 }
@@ -54,12 +52,10 @@ fn put_records(cut: [Frame; 6], number: usize, frames: &mut [u8])
         ≡ records_of (list.take number cut) ++ list.drop (list.length (records_of (list.take number cut))) frames.old }
 {
     let mut at = 0;
-    let mut i = 0;
-    while i < number {
+    for i in 0..number {
         let f = cut[i];
         journal::keep(f, &mut frames[at..]);
         at = at + 3 * f.n + 9;
-        i += 1;
     }
 }
 

@@ -9,7 +9,7 @@ ghost use Rattle.rtcm2.specs.Frames.{kept_to, held_to, size_to, words_said, keep
 ghost use Rattle.rtcm2.specs.Frames.{recall_said, kind_said, station_said, z_count_said, sequence_said, health_said, n_said, length_said};
 
 use crate::header::{Headed, header_of};
-use frame::{Frame, Header, HealthCode};
+use frame::{Frame, Header};
 use journal::{Found, Kept};
 use record_stages::{Made, Making};
 
@@ -55,10 +55,8 @@ fn words_of(n: usize, bytes: &[u8]) -> [u32; 31]
     ensures { result ≡ words_from 3 n bytes.now ++ list.replicate (31 - n) 0 }
 {
     let mut words = [0u32; 31];
-    let mut i = 0;
-    while i < n {
+    for i in 0..n {
         words[i] = word_at(3 * i, bytes);
-        i += 1;
     }
     words
 }
@@ -128,7 +126,7 @@ pub fn rtcm2_recall(
     let state = header.state;
     match answer {
         Found::Record(size) => match frame::health_of(state) {
-            HealthCode::Code(code) => {
+            Ok(code) => {
                 *kind = header.kind;
                 *station = header.station;
                 *z = header.z;
@@ -139,7 +137,7 @@ pub fn rtcm2_recall(
                 0
             }
             // no state that is recalled lacks a code
-            HealthCode::Refused(number) => number,
+            Err(refusal) => refusal.number(),
         },
         Found::Refused(number) => number,
     }

@@ -6,7 +6,8 @@ use native.Mathlib.Nat.{mod-eq_of_lt}
 use native.Mathlib.Omega.{arith}
 use lib.IntN.{ℤ}
 use lib.ListN.{get_or}
-use lib.Seq.{sets}
+use mir.Syntax.{w16}
+use Rattle.std.specs.Int.{from_le_bytes}
 use Rattle.bits.specs.Fields.{Fit}
 use Rattle.bits.specs.Signed.{signed, code}
 use Rattle.bits.proofs.SignedLaws.{code-signed, signed-code, code_lt}
@@ -18,6 +19,7 @@ use Rattle.record_corrections.specs.declared.Issue.{Issue}
 use Rattle.record_corrections.specs.declared.Issue.TheVariants.{Iod, Age}
 use Rattle.record_corrections.specs.declared.Correction.{Correction}
 use Rattle.record_corrections.specs.Issues.{issue_of, issue_in}
+use Rattle.rtcm2_rows.proofs.RowLaws.{two_bytes}
 use Rattle.rtcm2_rows.specs.Corrections.{last_byte, row, meant, codes, Eight, Typed}
 
 -- eight bits and the issue that they are
@@ -41,24 +43,19 @@ last-small Glonass (Iod v) h = absurd h
 last-small Glonass (Age c t) h = omega arith
 
 -- seven bytes read are the entry
-pub entry-law : (s : System) (vs : List ℕ) (scale udre satellite low high last eight : ℕ) (prc rrc : ℤ) (issue : Issue)
-    → scale ≡ get_or vs 0 0 → udre ≡ get_or vs 1 0 → satellite ≡ get_or vs 2 0 → low ≡ get_or vs 3 0 → high ≡ get_or vs 4 0 → last ≡ get_or vs 5 0
-    → eight ≡ get_or vs 6 0 → low < 256 → high < 256 → last < 256
-    → prc ≡ signed 15 ((low + 256 * high) % 65536) → rrc ≡ signed 7 (last % 256) → issue ≡ issue_in s eight
-    → record { scale = scale; udre = udre; satellite = satellite; prc = prc; rrc = rrc; issue = issue } ≡ meant s vs
-entry-law s vs scale udre satellite low high last eight prc rrc issue e0 e1 e2 e3 e4 e5 e6 l h r p q z =
-    let x : prc ≡ signed 15 (get_or vs 3 0 + 256 * get_or vs 4 0) =
-    p ∙ ap (signed 15) (mod-eq_of_lt (two l h)) ∙ ap₂ (λ a b. signed 15 (a + 256 * b)) e3 e4 in
-    let y : rrc ≡ signed 7 (get_or vs 5 0) = q ∙ ap (signed 7) (mod-eq_of_lt r ∙ e5) in
-    rw (e0, e1, e2, x, y, z ∙ ap (issue_in s) e6)
-  where
-    two : low < 256 → high < 256 → low + 256 * high < 65536
-    two l h = omega arith
-
--- seven stores are the row
-pub stores : (bs : List ℕ) (e : Correction) (x y z : ℕ) → x ≡ code 15 e.prc → y ≡ code 7 e.rrc → z ≡ last_byte e.issue
-    → sets bs 0 (e.scale ∷ e.udre ∷ e.satellite ∷ x % 256 ∷ x / 256 % 256 ∷ y % 256 ∷ z ∷ []) ≡ sets bs 0 (codes e)
-stores bs e x y z p q r = rw (p, q, r)
+pub entry-law : (s : System) (r vs : List ℕ) (prc rrc : ℤ) (n : ℕ) (issue : Issue) → ((j : ℕ) → j < 7 → get_or r j 0 ≡ get_or vs j 0)
+    → n ≡ from_le_bytes w16 (get_or r 3 0 ∷ get_or r 4 0 ∷ []) → n < 2 ^ 16 → prc ≡ signed 15 (n % 65536)
+    → get_or r 5 0 < 256 → rrc ≡ signed 7 (get_or r 5 0 % 256) → issue ≡ issue_in s (get_or r 6 0)
+    → record { scale = get_or r 0 0; udre = get_or r 1 0; satellite = get_or r 2 0; prc = prc; rrc = rrc; issue = issue } ≡ meant s vs
+entry-law s r vs prc rrc n issue at e h p l q i =
+    rw (
+      at 0 (omega arith),
+      at 1 (omega arith),
+      at 2 (omega arith),
+      p ∙ ap (signed 15) (mod-eq_of_lt h ∙ e ∙ two_bytes r vs 3 4 (at 3 (omega arith)) (at 4 (omega arith))),
+      q ∙ ap (signed 7) (mod-eq_of_lt l ∙ at 5 (omega arith)),
+      i ∙ ap (issue_in s) (at 6 (omega arith)),
+    )
 
 -- ---- the three laws on bytes
 

@@ -1,38 +1,36 @@
 -- A correction of types 41 and 42 and its seven bytes: what the functions' proofs cite over plain values, and the laws that the row owes.
 -- Assumes nothing.
-use mathlib.Core.Path.{◌≡◌, ap, ap₂, ◌∙◌}
+use mathlib.Core.Path.{◌≡◌, ap, ◌∙◌}
 use mathlib.Core.List.{List, [], ◌∷◌}
 use Prim.Native.Nat.{ℕ, ◌+◌, ◌*◌, ◌/◌, ◌%◌, ◌^◌, ◌<◌}
 use native.Mathlib.Nat.{mod-eq_of_lt}
 use native.Mathlib.Omega.{arith}
 use lib.IntN.{ℤ}
 use lib.ListN.{get_or}
-use lib.Seq.{sets}
+use mir.Syntax.{w16}
+use Rattle.std.specs.Int.{from_le_bytes}
 use Rattle.bits.specs.Fields.{Fit}
 use Rattle.bits.specs.Signed.{signed, code}
 use Rattle.bits.proofs.SignedLaws.{code-signed, signed-code, code_lt}
 use Rattle.record_fields.proofs.Faithful.{Faithful}
 use Rattle.record_fields.proofs.TableRound.{fit-below, fit-places}
 use Rattle.record_generals.specs.declared.General.{General}
+use Rattle.rtcm2_rows.proofs.RowLaws.{two_bytes}
 use Rattle.rtcm2_rows.specs.Generals.{row, meant, codes, Typed}
 
 -- seven bytes read are the entry
-pub entry-law : (vs : List ℕ) (satellite udre iod low high low-delay high-delay : ℕ) (prc : ℤ)
-    → satellite ≡ get_or vs 0 0 → udre ≡ get_or vs 1 0 → iod ≡ get_or vs 2 0 → low ≡ get_or vs 3 0 → high ≡ get_or vs 4 0 → low-delay ≡ get_or vs 5 0
-    → high-delay ≡ get_or vs 6 0 → low < 256 → high < 256 → prc ≡ signed 15 ((low + 256 * high) % 65536)
-    → record { satellite = satellite; udre = udre; iod = iod; prc = prc; delay = low-delay + 256 * high-delay } ≡ meant vs
-entry-law vs satellite udre iod low high low-delay high-delay prc e0 e1 e2 e3 e4 e5 e6 l h p =
-    let x : prc ≡ signed 15 (get_or vs 3 0 + 256 * get_or vs 4 0) =
-    p ∙ ap (signed 15) (mod-eq_of_lt (two l h)) ∙ ap₂ (λ a b. signed 15 (a + 256 * b)) e3 e4 in
-    rw (e0, e1, e2, x, e5, e6)
-  where
-    two : low < 256 → high < 256 → low + 256 * high < 65536
-    two l h = omega arith
-
--- seven stores are the row
-pub stores : (bs : List ℕ) (e : General) (x : ℕ) → x ≡ code 15 e.prc
-    → sets bs 0 (e.satellite ∷ e.udre ∷ e.iod ∷ x % 256 ∷ x / 256 % 256 ∷ e.delay % 256 ∷ e.delay / 256 % 256 ∷ []) ≡ sets bs 0 (codes e)
-stores bs e x p = rw p
+pub entry-law : (r vs : List ℕ) (prc : ℤ) (n delay : ℕ) → ((j : ℕ) → j < 7 → get_or r j 0 ≡ get_or vs j 0)
+    → n ≡ from_le_bytes w16 (get_or r 3 0 ∷ get_or r 4 0 ∷ []) → n < 2 ^ 16 → prc ≡ signed 15 (n % 65536)
+    → delay ≡ from_le_bytes w16 (get_or r 5 0 ∷ get_or r 6 0 ∷ [])
+    → record { satellite = get_or r 0 0; udre = get_or r 1 0; iod = get_or r 2 0; prc = prc; delay = delay } ≡ meant vs
+entry-law r vs prc n delay at e h p d =
+    rw (
+      at 0 (omega arith),
+      at 1 (omega arith),
+      at 2 (omega arith),
+      p ∙ ap (signed 15) (mod-eq_of_lt h ∙ e ∙ two_bytes r vs 3 4 (at 3 (omega arith)) (at 4 (omega arith))),
+      d ∙ two_bytes r vs 5 6 (at 5 (omega arith)) (at 6 (omega arith)),
+    )
 
 -- ---- the three laws on bytes
 

@@ -1,103 +1,118 @@
--- A number and its bytes, as loops over the bytes read and put it. Assumes nothing.
-use mathlib.Core.Path.{◌≡◌, ap, ap₂, ◌∙◌}
-use mathlib.Core.List.{List}
-use Prim.Native.Nat.{ℕ, suc, ◌+◌, ◌-◌, ◌*◌, ◌/◌, ◌%◌, ◌^◌, ◌≤◌, ◌<◌}
+-- A number and its bytes: the library's bytes of it are those that the definitions say. Assumes nothing.
+use mathlib.Core.Path.{◌≡◌, refl, sym, ap, ◌∙◌}
+use mathlib.Core.List.{List, [], ◌∷◌, ◌++◌, append_assoc}
+use Prim.Native.Nat.{ℕ, zero, suc, ◌+◌, ◌-◌, ◌*◌, ◌/◌, ◌%◌, ◌^◌, ◌≤◌, ◌<◌}
+use native.Mathlib.Nat.{div-div-eq-div-mul, pow-suc}
 use native.Mathlib.Omega.{arith}
-use lib.Pow.{pow_mono, pow-add}
-use lib.ListN.{length, take, drop, get_or, set}
-use lib.Seq.{drop-cons, sets}
+use lib.ListN.{length, take, drop, get_or, replicate, length-append, length-drop, length-replicate, length-take, drop_of_length-le}
+use lib.Seq.{get_or-drop, drop-drop, sets, sets-eq}
+use mir.Syntax.{w64}
+use Rattle.std.specs.Int.{from_le_bytes, to_le_bytes, bytes_low_first}
 use Rattle.rtcm2_state.specs.Numbers.{low_bytes, number_in}
+use Rattle.rtcm2_state.proofs.NumberLaws.{length-bytes}
 
--- ---- reading, from the highest byte down
+-- ---- reading
 
-first_byte : (bs : List ℕ) (i k : ℕ) → i < length bs
-    → number_in (take (suc k) (drop i bs)) ≡ get_or bs i 0 + 256 * number_in (take k (drop (suc i) bs))
+-- a byte and those above it
+first_byte : (l : List ℕ) (i : ℕ) → number_in (drop i l) ≡ get_or l i 0 + 256 * number_in (drop (suc i) l)
 unfolding number_in
-first_byte bs i k h = ap (λ l. number_in (take (suc k) l)) (drop-cons bs i 0 h)
+first_byte [] zero = refl
+first_byte [] (suc i) = refl
+first_byte (b ∷ l) zero = refl
+first_byte (b ∷ l) (suc i) = first_byte l i
 
-pub number-none : (bs : List ℕ) (at size : ℕ) → 0 ≡ number_in (take (size - size) (drop (at + size) bs))
+none-left : (l : List ℕ) (i : ℕ) → length l ≤ i → number_in (drop i l) ≡ 0
 unfolding number_in
-number-none bs at size = ap (λ k. number_in (take k (drop (at + size) bs))) none
+none-left l i h = ap number_in (drop_of_length-le l {i = i} h)
+
+-- eight bytes as the library reads them
+pub eight_bytes : (l : List ℕ) → length l ≤ 8 → from_le_bytes w64 l ≡ number_in l
+eight_bytes l h =
+    omega (arith, first_byte l 0, first_byte l 1, first_byte l 2, first_byte l 3, first_byte l 4, first_byte l 5, first_byte l 6, first_byte l 7, none-left l 8 h)
+
+-- zeros past bytes add nothing
+zeros : (k m : ℕ) → number_in (drop k (replicate m 0)) ≡ 0
+unfolding number_in
+zeros zero zero = refl
+zeros zero (suc m) = omega (arith, zeros zero m)
+zeros (suc k) zero = refl
+zeros (suc k) (suc m) = zeros k m
+
+padded : (bs : List ℕ) (k : ℕ) → number_in (bs ++ drop k (replicate 8 0)) ≡ number_in bs
+unfolding number_in
+padded [] k = zeros k 8
+padded (b ∷ bs) k = ap (λ n. b + 256 * n) (padded bs k)
+
+pub number-law : (bs l : List ℕ) (at size k n : ℕ) → size ≤ 8 → at + size ≤ length bs → k ≡ size → l ≡ take (at + size - at) (drop at bs)
+    → n ≡ from_le_bytes w64 (l ++ drop k (replicate 8 0)) → n ≡ number_in (take size (drop at bs))
+number-law bs l at size k n e h ek el en =
+    en ∙ eight_bytes (l ++ drop k (replicate 8 0)) whole ∙ padded l k ∙ ap number_in (el ∙ ap (λ j. take j (drop at bs)) same)
   where
-    none : 0 ≡ size - size
-    none = omega arith
+    same : at + size - at ≡ size
+    same = omega arith
 
--- one byte more
-pub number-next : (bs : List ℕ) (at size left n b : ℕ) → 0 < left → left ≤ size → at + size ≤ length bs
-    → n ≡ number_in (take (size - left) (drop (at + left) bs)) → b ≡ get_or bs (at + (left - 1)) 0
-    → n * 256 + b ≡ number_in (take (size - (left - 1)) (drop (at + (left - 1)) bs))
-number-next bs at size left n b h l f e q = omega (arith, first)
+    whole : length (l ++ drop k (replicate 8 0)) ≤ 8
+    whole = omega (
+      arith,
+      length-append {A = ℕ} l (drop k (replicate 8 0)),
+      length-drop {A = ℕ} k (replicate 8 0),
+      length-replicate {A = ℕ} 8 0,
+      ap length el,
+      length-take (at + size - at) (drop at bs),
+    )
+
+-- four bytes at most are below 2^32
+take-small : (k : ℕ) (bs : List ℕ) → ((i : ℕ) → get_or bs i 0 < 256) → (i : ℕ) → get_or (take k bs) i 0 < 256
+take-small zero bs h i = omega arith
+take-small (suc k) [] h i = omega arith
+take-small (suc k) (b ∷ bs) h zero = h 0
+take-small (suc k) (b ∷ bs) h (suc i) = take-small k bs (λ j. h (suc j)) i
+
+pub few-fit : (bs : List ℕ) (at size : ℕ) → size ≤ 4 → ((i : ℕ) → get_or bs i 0 < 256) → number_in (take size (drop at bs)) < 2 ^ 32
+few-fit bs at size e h =
+    let small = take-small size (drop at bs) (λ i. omega (arith, get_or-drop at bs i 0, h (at + i))) in
+    let l = take size (drop at bs) in
+    omega (
+      arith,
+      first_byte l 0,
+      first_byte l 1,
+      first_byte l 2,
+      first_byte l 3,
+      none-left l 4 (omega (arith, length-take size (drop at bs))),
+      small 0,
+      small 1,
+      small 2,
+      small 3,
+    )
+
+-- ---- putting
+
+take-low : (k m n : ℕ) → k ≤ m → take k (low_bytes m n) ≡ low_bytes k n
+unfolding low_bytes
+take-low zero m n h = refl
+take-low (suc k) zero n h = absurd (omega arith)
+take-low (suc k) (suc m) n h = ap (λ l. n % 256 ∷ l) (take-low k m (n / 256) (omega arith))
+
+-- bytes as the library puts them
+low-first : (i k n : ℕ) → bytes_low_first (suc i) k n ≡ low_bytes k (n / 256 ^ suc i)
+unfolding low_bytes
+low-first i zero n = refl
+low-first i (suc k) n = ap (λ l. n / 256 ^ suc i % 256 ∷ l) (low-first (suc i) k n ∙ ap (low_bytes k) up)
   where
-    more : size - (left - 1) ≡ suc (size - left)
-    more = omega arith
+    up : n / 256 ^ suc (suc i) ≡ n / 256 ^ suc i / 256
+    up = ap (λ m. n / m) (pow-suc 256 (suc i)) ∙ sym (div-div-eq-div-mul n (256 ^ suc i) 256)
 
-    on : suc (at + (left - 1)) ≡ at + left
-    on = omega arith
+low-eight : (n : ℕ) → to_le_bytes w64 n ≡ low_bytes 8 n
+unfolding low_bytes
+low-eight n = ap (λ l. n % 256 ∷ l) (low-first 0 7 n)
 
-    first : number_in (take (size - (left - 1)) (drop (at + (left - 1)) bs))
-        ≡ get_or bs (at + (left - 1)) 0 + 256 * number_in (take (size - left) (drop (at + left) bs))
-    first =
-        ap (λ k. number_in (take k (drop (at + (left - 1)) bs))) more
-        ∙ first_byte bs (at + (left - 1)) (size - left) (omega arith)
-        ∙ ap (λ j. get_or bs (at + (left - 1)) 0 + 256 * number_in (take (size - left) (drop j bs))) on
-
-pub number-all : (bs : List ℕ) (at size left n : ℕ) → left ≡ 0 → n ≡ number_in (take (size - left) (drop (at + left) bs))
-    → n ≡ number_in (take size (drop at bs))
-number-all bs at size left n z e = e ∙ ap₂ (λ k j. number_in (take k (drop j bs))) all start
+pub put-law : (bs l r : List ℕ) (at size n : ℕ) → size ≤ 8 → at + size ≤ length bs → l ≡ take size r → r ≡ to_le_bytes w64 n
+    → take at bs ++ (l ++ drop (at + size - at) (drop at bs)) ≡ sets bs at (low_bytes size n)
+put-law bs l r at size n e h el er =
+    ap (λ x. take at bs ++ (x ++ drop (at + size - at) (drop at bs))) (el ∙ ap (take size) (er ∙ low-eight n) ∙ take-low size 8 n e)
+    ∙ ap (λ x. take at bs ++ (low_bytes size n ++ x)) (drop-drop (at + size - at) at bs ∙ ap (λ j. drop j bs) past)
+    ∙ sym (append_assoc (take at bs) (low_bytes size n) (drop (at + length (low_bytes size n)) bs))
+    ∙ sym (sets-eq (low_bytes size n) bs at (omega (arith, length-bytes size n)))
   where
-    all : size - left ≡ size
-    all = omega arith
-
-    start : at + left ≡ at
-    start = omega arith
-
--- k bytes, and one more, are below two to their bits
-pub bytes-more : (size left n b : ℕ) → 0 < left → left ≤ size → n < 2 ^ (8 * (size - left)) → b < 256
-    → n * 256 + b < 2 ^ (8 * (size - (left - 1)))
-bytes-more size left n b h l s q = omega (arith, shifted, wider)
-  where
-    more : 8 * (size - left) + 8 ≡ 8 * (size - (left - 1))
-    more = omega arith
-
-    wider : 2 ^ (8 * (size - left) + 8) ≡ 2 ^ (8 * (size - (left - 1)))
-    wider = ap (λ k. 2 ^ k) more
-
-    shifted : (n + 1) * 256 ≤ 2 ^ (8 * (size - left) + 8)
-    shifted = omega (arith, pow-add 2 (8 * (size - left)) 8)
-
-pub bytes_fit : (size left n : ℕ) → 0 < left → left ≤ size → size ≤ 8 → n < 2 ^ (8 * (size - left)) → n < 2 ^ 56
-bytes_fit size left n h l e s = omega (arith, pow_mono {i = 8 * (size - left)} {j = 56} (omega arith))
-
-pub few-fit : (size left n : ℕ) → 0 < left → left ≤ size → size ≤ 4 → n < 2 ^ (8 * (size - left)) → n < 2 ^ 24
-few-fit size left n h l e s = omega (arith, pow_mono {i = 8 * (size - left)} {j = 24} (omega arith))
-
--- ---- putting, from the lowest byte up
-
-module _ (l : List ℕ) (at size n : ℕ) where
-  pub put-none : sets l at (low_bytes size n) ≡ sets l (at + 0) (low_bytes (size - 0) n)
-  put-none = ap₂ (λ i k. sets l i (low_bytes k n)) start all
-    where
-      start : at ≡ at + 0
-      start = omega arith
-
-      all : size ≡ size - 0
-      all = omega arith
-
-  pub put_next : (i : ℕ) → i < size → sets l (at + i) (low_bytes (size - i) n)
-      ≡ sets (set l (at + i) (n % 256)) (at + (i + 1)) (low_bytes (size - (i + 1)) (n / 256))
-  unfolding low_bytes
-  put_next i h =
-      ap (λ k. sets l (at + i) (low_bytes k n)) more ∙ ap (λ j. sets (set l (at + i) (n % 256)) j (low_bytes (size - (i + 1)) (n / 256))) on
-    where
-      more : size - i ≡ suc (size - (i + 1))
-      more = omega arith
-
-      on : suc (at + i) ≡ at + (i + 1)
-      on = omega arith
-
-  pub put_all : (i : ℕ) → size ≤ i → sets l (at + i) (low_bytes (size - i) n) ≡ l
-  unfolding low_bytes
-  put_all i h = ap (λ k. sets l (at + i) (low_bytes k n)) none
-    where
-      none : size - i ≡ 0
-      none = omega arith
+    past : at + (at + size - at) ≡ at + length (low_bytes size n)
+    past = omega (arith, length-bytes size n)

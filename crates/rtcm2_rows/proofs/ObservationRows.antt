@@ -1,14 +1,12 @@
--- An observation and its twelve bytes: what the functions' proofs cite over plain values, and that bytes which name a mark and a number are
--- those of what they say. Assumes nothing.
-use mathlib.Core.Path.{◌≡◌, refl, sym, ap, subst, ◌∙◌}
+-- An observation and its twelve bytes: bytes which name a mark and a number are those of what they say. Assumes nothing.
+use mathlib.Core.Path.{◌≡◌, refl, subst}
 use mathlib.Core.Bool.{Bool, true, false, cond}
-use mathlib.Core.List.{List, [], ◌∷◌}
+use mathlib.Core.List.{List}
 use Prim.Native.Nat.{ℕ, zero, suc, ◌+◌, ◌*◌, ◌-◌, ◌/◌, ◌%◌, ◌^◌, ◌≤◌, ◌<◌}
 use native.Mathlib.Nat.{mod-eq_of_lt}
 use native.Mathlib.Omega.{arith}
 use lib.Dec.{ltb, eqb}
-use lib.ListN.{take, drop, get_or}
-use lib.Seq.{sets}
+use lib.ListN.{get_or}
 use borrow.Author.Tests.{ne_eqb, ltb-true, ltb-false}
 use Rattle.bits.specs.Fields.{Fit}
 use Rattle.bits.specs.Signed.{signed}
@@ -19,43 +17,11 @@ use Rattle.record_observations.specs.declared.Edition.{Edition}
 use Rattle.record_observations.specs.declared.Edition.TheVariants.{Gost, Bd}
 use Rattle.record_observations.specs.declared.Quantity.{Quantity}
 use Rattle.record_observations.specs.declared.Quantity.TheVariants as quantity
-use Rattle.record_observations.specs.declared.Mark.{Mark}
 use Rattle.record_observations.specs.declared.Mark.TheVariants.{More}
-use Rattle.record_observations.specs.declared.Measured.{Measured}
 use Rattle.record_observations.specs.declared.Measured.TheVariants.{Phase, Range}
-use Rattle.record_observations.specs.declared.Observation.{Observation}
 use Rattle.record_observations.specs.Editions.{which_mark, which_of, mark_bit, mark_number, beside_of, quality_width, MeasuredTyped}
 use Rattle.record_observations.specs.Observations.{least, most, numbers, out_of_range}
-use Rattle.rtcm2_rows.proofs.RowLaws.{byte-in}
 use Rattle.rtcm2_rows.specs.Observations.{mark_with, measured_with, which_measured, beside_byte, amount_number, four_bytes, row, meant, codes, Named}
-
--- twelve bytes read are the observation
-pub entry-law : (vs : List ℕ) (m : Mark) (code system satellite quality : ℕ) (x : Measured)
-    → m ≡ mark_with (get_or vs 0 0) (get_or vs 1 0) → code ≡ get_or vs 2 0 → system ≡ get_or vs 3 0 → satellite ≡ get_or vs 4 0 → quality ≡ get_or vs 5 0
-    → x ≡ measured_with (get_or vs 7 0) (get_or vs 6 0) (four_bytes vs 8)
-    → record { mark = m; code = code; system = system; satellite = satellite; quality = quality; measured = x } ≡ meant vs
-entry-law vs m code system satellite quality x em e2 e3 e4 e5 ex = rw (em, e2, e3, e4, e5, ex)
-
-pub measured-as : {w a n w' a' n' : ℕ} → w ≡ w' → a ≡ a' → n ≡ n' → measured_with w a n ≡ measured_with w' a' n'
-measured-as e f g = cc
-
--- four of them are the number
-pub four-law : (bs : List ℕ) (at : ℕ) → get_or bs (at + 8) 0 + 256 * (get_or bs (at + 8 + 1) 0 + 256 * (get_or bs (at + 8 + 2) 0 + 256 * get_or bs (at + 8 + 3) 0))
-    ≡ four_bytes (take 12 (drop at bs)) 8
-four-law bs at = rw (sym (byte-in 12 bs at 8 (omega arith)), byte 1 9 refl (omega arith), byte 2 10 refl (omega arith), byte 3 11 refl (omega arith))
-  where
-    byte : (j k : ℕ) → 8 + j ≡ k → k < 12 → get_or bs (at + 8 + j) 0 ≡ get_or (take 12 (drop at bs)) k 0
-    byte j k e l = ap (λ i. get_or bs i 0) place ∙ sym (byte-in 12 bs at k l)
-      where
-        place : at + 8 + j ≡ at + k
-        place = omega (arith, e)
-
--- twelve stores are the row
-pub stores : (bs : List ℕ) (o : Observation) (ms ns : List ℕ) → ms ≡ which_mark o.mark ∷ mark_bit o.mark ∷ []
-    → ns ≡ which_measured o.measured ∷ beside_byte o.measured ∷ amount_number o.measured ∷ []
-    → sets bs 0 (get_or ms 0 0 ∷ get_or ms 1 0 ∷ o.code ∷ o.system ∷ o.satellite ∷ o.quality ∷ get_or ns 1 0 % 256 ∷ get_or ns 0 0 % 256
-    ∷ get_or ns 2 0 % 256 ∷ get_or ns 2 0 / 256 % 256 ∷ get_or ns 2 0 / 65536 % 256 ∷ get_or ns 2 0 / 16777216 % 256 ∷ []) ≡ sets bs 0 (codes o)
-stores bs o ms ns em en = rw (em, en)
 
 -- ---- bytes that name a mark and a number
 

@@ -1,15 +1,19 @@
 -- Entries and their rows of bytes, over the row: what one turn of the reading loop fills, and what putting leaves. Assumes nothing.
-use mathlib.Core.Path.{◌≡◌, refl, sym, ap, ap₂, ◌∙◌}
+use mathlib.Core.Path.{◌≡◌, refl, sym, ap, ap₂, subst, ◌∙◌}
 use mathlib.Core.Bool.{Bool, true, false, cond}
 use mathlib.Core.List.{List, [], ◌∷◌, ◌++◌}
 use Prim.Native.Nat.{ℕ, zero, suc, ◌+◌, ◌*◌, ◌/◌, ◌%◌, ◌≤◌, ◌<◌}
-use native.Mathlib.Nat.{add-zero, add_comm, zero-mul, suc-mul, div-mul-le_self}
+use native.Mathlib.Nat.{add_comm, zero-mul, suc-mul, div-mul-le_self}
 use native.Mathlib.Numerals.{add-one}
 use native.Mathlib.Omega.{arith}
 use lib.Dec.{eqb}
-use lib.ListN.{length, take, drop, get_or, set}
-use lib.Seq.{take-suc-set, get_or-take, get_or-drop, drop-drop, sets, sets-eq}
-use borrow.Author.Tests.{lt-ltb, le-ltb, eq-eqb, ne_eqb}
+use lib.ListN.{length, take, drop, get_or, set, drop_of_length-le}
+use lib.Seq.{drop-cons, take-suc-set, get_or-take, get_or-drop, drop-drop, sets, sets-eq}
+use denote.Param.Members.{Mut, Called}
+use mir.Syntax.{w16}
+use Rattle.std.specs.Int.{from_le_bytes}
+use Rattle.std.specs.Array.{IsFromFnResultFrom, IsFromFnResult}
+use borrow.Author.Tests.{eqb-true, eqb-false, lt-ltb, le-ltb, eq-eqb, ne_eqb}
 use Rattle.record_fields.specs.Coding.{Coding}
 use Rattle.rtcm2_rows.specs.declared.row.Put.{Put}
 use Rattle.rtcm2_rows.specs.declared.row.Put.TheVariants.{Done, Refused}
@@ -41,14 +45,36 @@ count_held s l = go (eqb s 0) (eqb (l % s) 0)
     go false true = div-mul-le_self l s
     go false false = omega (arith, zero-mul s)
 
+-- ---- arrays that a closure makes
+
+-- what each call gives stands at its index
+pub made_each : {F A : Type 0} (g : Mut F (ℕ × Unit {0}) A) (f : F) (es : List A) (n : ℕ) (want : ℕ → A)
+    → ((i : ℕ) (e : A) (q : F) → Called g f (i, tt) e q → (e ≡ want i) × (q ≡ f)) → IsFromFnResult g f es n → (j : ℕ) (d : A) → j < n
+    → get_or es j d ≡ want j
+made_each {F} g f es n want call made j d h = go n 0 f refl made.each (omega arith) (omega arith)
+  where
+    go : (m i : ℕ) (p : F) → p ≡ f → IsFromFnResultFrom g p es i m → i ≤ j → j < i + m → get_or es j d ≡ want j
+    go zero i p e r l u = absurd (omega arith)
+    go (suc m) i p e r l u =
+        let said = call i r.1 r.0 (subst (λ s. Called g s (i, tt) r.1 r.0) e r.3) in
+        case (eqb i j) refl (λ apart. go m (i + 1) r.0 said.1 r.4 (omega (arith, apart)) (omega arith))
+      where
+        case : (t : Bool) → eqb i j ≡ t → ((i ≡ j → ⊥) → get_or es j d ≡ want j) → get_or es j d ≡ want j
+        case true s rest =
+            let same : i ≡ j = eqb-true i j s in
+            ap (λ k. get_or es k d) (sym same) ∙ r.2.1 d ∙ (call i r.1 r.0 (subst (λ s. Called g s (i, tt) r.1 r.0) e r.3)).0 ∙ ap want same
+        case false s rest = rest (eqb-false i j s)
+
 -- ---- bytes of a row
 
 -- byte j of the row that starts at `at`
 pub byte-in : (n : ℕ) (bs : List ℕ) (at j : ℕ) → j < n → get_or (take n (drop at bs)) j 0 ≡ get_or bs (at + j) 0
 byte-in n bs at j h = get_or-take n (drop at bs) j 0 h ∙ get_or-drop at bs j 0
 
-pub byte-first : (n : ℕ) (bs : List ℕ) (at : ℕ) → 0 < n → get_or (take n (drop at bs)) 0 0 ≡ get_or bs at 0
-byte-first n bs at h = byte-in n bs at 0 h ∙ ap (λ j. get_or bs j 0) (add-zero at)
+-- two bytes of a row as a number
+pub two_bytes : (r vs : List ℕ) (i j : ℕ) → get_or r i 0 ≡ get_or vs i 0 → get_or r j 0 ≡ get_or vs j 0
+    → from_le_bytes w16 (get_or r i 0 ∷ get_or r j 0 ∷ []) ≡ get_or vs i 0 + 256 * get_or vs j 0
+two_bytes r vs i j e h = omega arith
 
 module _ {A : Type 0} (k : Coding A) where
   pub more : (n : ℕ) → suc n * row_size k ≡ row_size k + n * row_size k
@@ -89,6 +115,21 @@ module _ {A : Type 0} (k : Coding A) where
       ∙ ap₂ (λ l x. l ++ (x ∷ [])) q r
       ∙ sym (entries-snoc i bs)
       ∙ ap (λ j. entries_from k j bs) (sym (add-one i))
+
+  -- entries that calls make one after the other are those that the bytes say
+  pub made_entries : {F : Type 0} (g : Mut F (ℕ × Unit {0}) A) (f : F) (bs : List ℕ) (es : List A) (n : ℕ)
+      → ((i : ℕ) (e : A) (q : F) → Called g f (i, tt) e q → (e ≡ entry_of k (drop (i * row_size k) bs)) × (q ≡ f)) → IsFromFnResult g f es n
+      → es ≡ entries_from k n bs
+  unfolding entries_from
+  made_entries {F} g f bs es n call made = go n 0 f refl made.each (omega (arith, made.long)) ∙ ap (λ j. entries_from k n (drop j bs)) (zero-mul (row_size k))
+    where
+      go : (m i : ℕ) (p : F) → p ≡ f → IsFromFnResultFrom g p es i m → length es ≡ i + m → drop i es ≡ entries_from k m (drop (i * row_size k) bs)
+      go zero i p e r l = drop_of_length-le es {i = i} (omega arith)
+      go (suc m) i p e r l =
+          let said = call i r.1 r.0 (subst (λ s. Called g s (i, tt) r.1 r.0) e r.3) in
+          drop-cons es i r.1 (omega arith)
+          ∙ ap₂ ◌∷◌ (r.2.1 r.1 ∙ said.0) (ap (λ j. drop j es) (sym (add-one i)) ∙ go m (i + 1) r.0 said.1 r.4 (omega arith)
+          ∙ ap (entries_from k m) (ap (λ j. drop j bs) (ap (λ j. j * row_size k) (add-one i) ∙ suc-mul i (row_size k)) ∙ sym (drop-drop (row_size k) (i * row_size k) bs)))
 
   -- ---- putting
 

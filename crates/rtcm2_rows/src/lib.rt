@@ -3,6 +3,7 @@
 
 pub mod correction;
 pub mod general;
+mod number;
 pub mod observation;
 pub mod row;
 pub mod table;

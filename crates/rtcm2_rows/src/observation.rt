@@ -4,77 +4,64 @@ ghost use Rattle.record_observations.specs.Editions.{which_mark, mark_bit};
 ghost use Rattle.rtcm2_rows.specs.Rows.{entry_of, entries_from, put_by, row_after};
 ghost use Rattle.rtcm2_rows.specs.Observations.{mark_with, measured_with, which_measured, beside_byte, amount_number, row};
 
-use crate::row::{Put, byte_at};
+use crate::row::{Put, put_row, row_at};
 use record_observations::{Mark, Measured, Observation};
+use std::array;
 
 // The bytes of one observation.
 pub const SIZE: usize = 12;
 
 // A mark by its number and its bit; a number over 2 gives one that can't be sent.
+#[tactic(auto, unfolding(crate::specs::Observations::mark_with))]
 fn mark_with(which: u8, bit: u8) -> Mark
     ensures { result ≡ mark_with which bit }
 {
-    if which == 0 {
-        return Mark::Half(bit);
+    match which {
+        0 => Mark::Half(bit),
+        1 => Mark::Reserved(bit),
+        2 => Mark::More(bit),
+        _ => Mark::More(255),
     }
-    if which == 1 {
-        return Mark::Reserved(bit);
-    }
-    if which == 2 {
-        return Mark::More(bit);
-    }
-    Mark::More(255)
 }
 
 // What was measured, by its number, a phase or a range; a number over 1 gives one that can't be sent.
+#[tactic(auto, unfolding(crate::specs::Observations::measured_with))]
 fn measured_with(which: u8, beside: u8, amount: u32) -> Measured
     ensures { result ≡ measured_with which beside amount }
 {
-    if which == 0 {
-        return Measured::Phase(beside, record_fields::signed32(amount));
+    match which {
+        0 => Measured::Phase(beside, record_fields::signed32(amount)),
+        1 => Measured::Range(beside, amount),
+        _ => Measured::Range(255, amount),
     }
-    if which == 1 {
-        return Measured::Range(beside, amount);
-    }
-    Measured::Range(255, amount)
-}
-
-// Four bytes as a number, the low one first; a byte past the last counts as 0.
-fn number_at(bytes: &[u8], at: usize) -> u32
-    requires { at ≤ 744 }
-    ensures { result ≡ get_or bytes.now at 0 + 256 * (get_or bytes.now (at + 1) 0
-        + 256 * (get_or bytes.now (at + 2) 0 + 256 * get_or bytes.now (at + 3) 0)) }
-{
-    let first = byte_at(bytes, at);
-    let second = byte_at(bytes, at + 1);
-    let third = byte_at(bytes, at + 2);
-    let fourth = byte_at(bytes, at + 3);
-    first as u32 + 256 * (second as u32 + 256 * (third as u32 + 256 * (fourth as u32)))
 }
 
 // The observation whose bytes start at `at`; a byte past the last counts as 0.
 fn entry_from(bytes: &[u8], at: usize) -> Observation
-    requires { at ≤ 722 }
+    requires { at + 12 ≤ 744 }
     ensures { result ≡ entry_of row (drop at bytes.now) }
 {
-    let which = byte_at(bytes, at);
-    let bit = byte_at(bytes, at + 1);
-    let code = byte_at(bytes, at + 2);
-    let system = byte_at(bytes, at + 3);
-    let satellite = byte_at(bytes, at + 4);
-    let quality = byte_at(bytes, at + 5);
-    let beside = byte_at(bytes, at + 6);
-    let sort = byte_at(bytes, at + 7);
-    let amount = number_at(bytes, at + 8);
-    let mark = mark_with(which, bit);
-    let measured = measured_with(sort, beside, amount);
-    Observation {
-        mark,
+    let [
+        which,
+        bit,
         code,
         system,
         satellite,
         quality,
-        measured,
+        beside,
+        sort,
+        b0,
+        b1,
+        b2,
+        b3,
+    ] = row_at::<SIZE>(bytes, at);
+    Observation {
+        mark: mark_with(which, bit),
+        code,
+        system,
+        satellite,
+        quality,
+        measured: measured_with(sort, beside, u32::from_le_bytes([b0, b1, b2, b3])),
     }
 }
 
@@ -82,16 +69,11 @@ fn entry_from(bytes: &[u8], at: usize) -> Observation
 pub fn observations_in(bytes: &[u8]) -> [Observation; 15]
     ensures { result ≡ entries_from row 15 bytes.now }
 {
-    let mut entries = [entry_from(bytes, 0); 15];
-    let mut i = 1;
-    while i < 15 {
-        entries[i] = entry_from(bytes, i * SIZE);
-        i += 1;
-    }
-    entries
+    array::from_fn(|i| entry_from(bytes, i * SIZE))
 }
 
 // The number of a mark, and its bit.
+#[tactic(auto, unfolding(record_observations::specs::Editions::which_mark, record_observations::specs::Editions::mark_bit))]
 fn mark_bytes(mark: Mark) -> [u8; 2]
     ensures { result ≡ which_mark mark ∷ mark_bit mark ∷ [] }
 {
@@ -103,6 +85,7 @@ fn mark_bytes(mark: Mark) -> [u8; 2]
 }
 
 // What was measured as three numbers: which, what stands beside it, and the amount.
+#[tactic(auto, unfolding(crate::specs::Observations::which_measured, crate::specs::Observations::beside_byte, crate::specs::Observations::amount_number))]
 fn measured_numbers(measured: Measured) -> [u32; 3]
     ensures { result ≡ which_measured measured ∷ beside_byte measured ∷ amount_number measured ∷ [] }
 {
@@ -117,25 +100,22 @@ pub fn put_observation(entry: Observation, bytes: &mut [u8]) -> Put
     ensures value { result ≡ put_by row bytes.old }
     ensures bytes_after { bytes.new ≡ row_after row entry bytes.old }
 {
-    if bytes.len() < SIZE {
-        return Put::Refused(13);
-    }
-    let mark = entry.mark;
-    let first = mark_bytes(mark);
-    let measured = entry.measured;
-    let last = measured_numbers(measured);
-    let amount = last[2];
-    bytes[0] = first[0];
-    bytes[1] = first[1];
-    bytes[2] = entry.code;
-    bytes[3] = entry.system;
-    bytes[4] = entry.satellite;
-    bytes[5] = entry.quality;
-    bytes[6] = (last[1] % 256) as u8;
-    bytes[7] = (last[0] % 256) as u8;
-    bytes[8] = (amount % 256) as u8;
-    bytes[9] = (amount / 256 % 256) as u8;
-    bytes[10] = (amount / 65536 % 256) as u8;
-    bytes[11] = (amount / 16777216 % 256) as u8;
-    Put::Done
+    let [which, bit] = mark_bytes(entry.mark);
+    let [sort, beside, amount] = measured_numbers(entry.measured);
+    let [sort, ..] = sort.to_le_bytes();
+    let [beside, ..] = beside.to_le_bytes();
+    let [b0, b1, b2, b3] = amount.to_le_bytes();
+    let Observation {
+        code,
+        system,
+        satellite,
+        quality,
+        ..
+    } = entry;
+    put_row::<SIZE>(
+        [
+            which, bit, code, system, satellite, quality, beside, sort, b0, b1, b2, b3,
+        ],
+        bytes,
+    )
 }

@@ -8,6 +8,7 @@ ghost use Rattle.rtcm2_rows.specs.Sizes.{sized_in};
 ghost use Rattle.rtcm2_rows.specs.Rows.{row_size, count_of, entries_from, put_by, row_after};
 ghost use Rattle.rtcm2_rows.specs.Tables.{few_bytes, few, table_row};
 
+use crate::number::{number_at, put_number};
 use crate::row::{Put, count_of};
 use record_fields::Rows;
 
@@ -15,10 +16,7 @@ use record_fields::Rows;
 fn size_of(size: u8) -> usize
     ensures { (result ≡ few_bytes size) × (result ≤ 4) }
 {
-    if size > 4 {
-        return 4;
-    }
-    size as usize
+    size.min(4) as usize
 }
 
 // The bytes of a row.
@@ -26,33 +24,10 @@ fn row_size(sizes: [u8; 12]) -> usize
     ensures { (result ≡ span (few sizes)) × (result ≤ 48) }
 {
     let mut bytes = 0;
-    let mut i = 0;
-    while i < 12 {
+    for i in 0..12 {
         bytes += size_of(sizes[i]);
-        i += 1;
     }
     bytes
-}
-
-// A byte as a wider number.
-fn byte(x: u8) -> u32
-    ensures { (result ≡ x) × (result < 256) }
-{
-    x as u32
-}
-
-// The number of `size` bytes from `at` on.
-fn number_at(at: usize, size: usize, bytes: &[u8]) -> u32
-    requires { (at + size ≤ length bytes.now) × (size ≤ 4) }
-    ensures { result ≡ number_in (take size (drop at bytes.now)) }
-{
-    let mut n: u32 = 0;
-    let mut left = size;
-    while left > 0 {
-        left -= 1;
-        n = n * 256 + byte(bytes[at + left]);
-    }
-    n
 }
 
 // The twelve numbers of the row whose bytes start at `at`.
@@ -62,12 +37,10 @@ fn numbers_at(at: usize, sizes: [u8; 12], bytes: &[u8]) -> [u32; 12]
 {
     let mut numbers = [0u32; 12];
     let mut next = at;
-    let mut i = 0;
-    while i < 12 {
+    for i in 0..12 {
         let size = size_of(sizes[i]);
-        numbers[i] = number_at(next, size, bytes);
+        numbers[i] = number_at(next, size, bytes) as u32;
         next += size;
-        i += 1;
     }
     numbers
 }
@@ -87,30 +60,11 @@ pub fn rows_in(
     let size = row_size(sizes);
     let count = count_of(size, bytes.len());
     let mut rows = record_fields::no_rows();
-    let mut i = 0;
-    while i < limit as usize {
-        if i >= count {
-            return rows;
-        }
+    for i in 0..count.min(limit as usize) {
         let numbers = numbers_at(i * size, sizes, bytes);
         rows = record_fields::put_row(rows, numbers, widths, least, most);
-        i += 1;
     }
     rows
-}
-
-// Puts the `size` low bytes of a number from `at` on.
-fn put_number(n: u32, size: usize, at: usize, bytes: &mut [u8])
-    requires { at + size ≤ length bytes.old }
-    ensures { bytes.new ≡ sets bytes.old at (low_bytes size n) }
-{
-    let mut rest = n;
-    let mut i: usize = 0;
-    while i < size {
-        bytes[at + i] = (rest % 256) as u8;
-        rest /= 256;
-        i += 1;
-    }
 }
 
 // Numbers as a row at the start of the bytes; 13 where they are too few.
@@ -122,12 +76,10 @@ pub fn put_numbers(numbers: [u32; 12], sizes: [u8; 12], bytes: &mut [u8]) -> Put
         return Put::Refused(13);
     }
     let mut next = 0;
-    let mut i = 0;
-    while i < 12 {
+    for i in 0..12 {
         let size = size_of(sizes[i]);
-        put_number(numbers[i], size, next, bytes);
+        put_number(numbers[i] as u64, size, next, bytes);
         next += size;
-        i += 1;
     }
     Put::Done
 }

@@ -1,4 +1,3 @@
-pub mod SignedLaws
 pub mod RowLaws
 pub mod ReportLaws
 pub mod Back

@@ -32,12 +32,10 @@ fn all_name(used: usize, bytes: &[u8]) -> bool
     requires { (used ≤ 512) × (report_size ≤ length bytes.now) }
     ensures { result ≡ all_name used (drop 4 bytes.now) }
 {
-    let mut i = 0;
-    while i < used {
+    for i in 0..used {
         if !names_row(numbers_at(4 + i * row::SIZE, bytes)) {
             return false;
         }
-        i += 1;
     }
     true
 }
@@ -63,10 +61,8 @@ fn rows_in(used: usize, bytes: &[u8]) -> [Row; 512]
 {
     let blank = season_reports::empty();
     let mut rows = blank.rows;
-    let mut i = 0;
-    while i < used {
+    for i in 0..used {
         rows[i] = row_with(numbers_at(4 + i * row::SIZE, bytes));
-        i += 1;
     }
     rows
 }
@@ -88,11 +84,9 @@ fn put_rows(rows: [Row; 512], bytes: &mut [u8])
     requires { report_size ≤ length bytes.old }
     ensures { (bytes.new ≡ sets bytes.old 4 (row_bytes report_row rows)) × (length rows ≡ 512) }
 {
-    let mut i = 0;
-    while i < 512 {
+    for i in 0..512 {
         let row = rows[i];
         put_row_at(row, 4 + i * row::SIZE, bytes);
-        i += 1;
     }
 }
 

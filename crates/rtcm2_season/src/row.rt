@@ -33,32 +33,21 @@ pub(crate) fn numbers_at(at: usize, bytes: &[u8]) -> [u64; 9]
 }
 
 // Whether these numbers name a row.
+#[tactic(auto, unfolding(crate::specs::Rows::names_row))]
 pub(crate) fn names_row(numbers: [u64; 9]) -> bool
     ensures { result ≡ names_row numbers }
 {
-    if numbers[0] >= 2 {
-        return false;
-    }
-    if numbers[5] == 1 {
-        return true;
-    }
-    if numbers[5] != 0 {
-        return false;
-    }
-    if numbers[6] != 0 {
-        return false;
-    }
-    numbers[7] == 0
+    numbers[0] < 2 && (numbers[5] == 1 || numbers[5] == 0 && numbers[6] == 0 && numbers[7] == 0)
 }
 
 // 0 is GPS, all others are GLONASS.
 fn system_with(n: u64) -> System
     ensures { result ≡ system_with n }
 {
-    if n == 0 {
-        return System::Gps;
+    match n {
+        0 => System::Gps,
+        _ => System::Glonass,
     }
-    System::Glonass
 }
 
 // Least and largest, where they are present.

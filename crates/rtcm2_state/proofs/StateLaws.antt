@@ -8,6 +8,7 @@ use lib.Dec.{ltb, eqb}
 use lib.ListN.{length, take, drop}
 use lib.Seq.{sets, sets-eq}
 use borrow.Author.Tests.{lt-ltb, le-ltb, ltb-false, lt-leb}
+use Rattle.std.specs.Int.{from_bool}
 use Rattle.bits.specs.Bits.{val}
 use Rattle.reader.specs.Reading.{started}
 use Rattle.reader.specs.declared.Tally.{Tally}
@@ -93,6 +94,11 @@ unfolding reader_of
 read_held bs e e₁ e₂ e₃ = rw (read_is bs e, numbers-from state_count 40 9 bs (omega arith), e₁, e₂, e₃)
 
 -- ---- what is put
+
+-- 1 for yes, 0 for no
+pub from-val : (b : Bool) → from_bool b ≡ val b
+from-val true = refl
+from-val false = refl
 
 -- the mark, the counts, waits and ended, one after the other
 pub put-counts : (c : Candidate) (ended : Bool) (l : List ℕ) {l₁ l₂ l₃ l₄ l₅ l₆ l₇ : List ℕ} {m at w e : ℕ}

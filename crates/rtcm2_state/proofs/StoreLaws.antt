@@ -1,10 +1,11 @@
 -- The four bytes of a number as they are read and stored. Assumes nothing.
 use mathlib.Core.Path.{◌≡◌, refl, sym, ap, ap₂, ◌∙◌}
 use mathlib.Core.List.{List, [], ◌∷◌, ◌++◌}
-use Prim.Native.Nat.{ℕ, suc, ◌+◌, ◌*◌, ◌/◌, ◌%◌, ◌≤◌, ◌<◌}
+use Prim.Native.Nat.{ℕ, suc, ◌+◌, ◌*◌, ◌/◌, ◌≤◌, ◌<◌}
 use native.Mathlib.Omega.{arith}
-use lib.ListN.{length, take, drop, get_or, set}
+use lib.ListN.{length, take, drop, get_or}
 use lib.Seq.{drop-cons, sets}
+use Rattle.std.specs.Int.{w32, w64, from_le_bytes, to_le_bytes}
 use Rattle.rtcm2_state.specs.Numbers.{low_bytes, number_in, numbers_written}
 
 -- ---- reads
@@ -18,11 +19,10 @@ number-first k bs i j e h = ap (λ l. number_in (take (suc k) l)) (drop-cons bs 
     next : suc i ≡ j
     next = omega arith
 
-pub number-four : (bs : List ℕ) (at a b c d : ℕ) → at + 4 ≤ length bs
-    → a ≡ get_or bs at 0 → b ≡ get_or bs (at + 1) 0 → c ≡ get_or bs (at + 2) 0 → d ≡ get_or bs (at + 3) 0
-    → a + 256 * b + 65536 * (c + 256 * d) ≡ number_in (take 4 (drop at bs))
+pub number-four : (bs : List ℕ) (at : ℕ) → at + 4 ≤ length bs
+    → from_le_bytes w32 (get_or bs at 0 ∷ get_or bs (at + 1) 0 ∷ get_or bs (at + 2) 0 ∷ get_or bs (at + 3) 0 ∷ []) ≡ number_in (take 4 (drop at bs))
 unfolding number_in
-number-four bs at a b c d h ea eb ec ed =
+number-four bs at h =
     omega (
       arith,
       number-first 3 bs at (at + 1) refl (omega arith),
@@ -37,20 +37,10 @@ number-four bs at a b c d h ea eb ec ed =
 
 -- ---- stores
 
-pub store-four : (l : List ℕ) (at n : ℕ)
-    → set (set (set (set l at (n % 256)) (at + 1) (n / 256 % 256)) (at + 2) (n / 65536 % 256)) (at + 3) (n / 16777216 % 256) ≡ sets l at (low_bytes 4 n)
+pub low-four : (n : ℕ) → take 4 (to_le_bytes w64 n) ≡ low_bytes 4 n
 unfolding low_bytes
-store-four l at n = rw (one, two, three, second, third)
+low-four n = rw (second, third)
   where
-    one : at + 1 ≡ suc at
-    one = omega arith
-
-    two : at + 2 ≡ suc (suc at)
-    two = omega arith
-
-    three : at + 3 ≡ suc (suc (suc at))
-    three = omega arith
-
     second : n / 65536 ≡ n / 256 / 256
     second = omega arith
 

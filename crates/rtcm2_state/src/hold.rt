@@ -7,9 +7,8 @@ ghost use Rattle.rtcm2_state.specs.Numbers.{numbers_in};
 ghost use Rattle.rtcm2_state.specs.State.{start_size, state_size, state_in, state_put};
 ghost use Rattle.rtcm2_state.specs.Holding.{takes_six, after_six, quiet_in, six_put};
 
-use crate::number::{number_at, put_number, wider};
+use crate::number::{number_at, put_number};
 use crate::{CELLS, candidate_at, ended_at, holds_state};
-use line::Six;
 use reader::Candidate;
 
 // What six bits more tell without a hunt: how many words are then known, that all words of the frame have come, or nothing.
@@ -25,8 +24,8 @@ fn with_six(cell: u32, off: u32, six: u32) -> u64
     requires { (off < 32) × (six < 64) }
     ensures { result ≡ put_pair cell off six }
 {
-    let kept = wider(cell) >> (32 - off);
-    (kept * 64 + wider(six)) << (58 - off)
+    let kept = u64::from(cell) >> (32 - off);
+    (kept * 64 + u64::from(six)) << (58 - off)
 }
 
 // The counts of a reader that takes bits, with room for six more.
@@ -51,9 +50,9 @@ fn pair_after(k: usize, end: usize, six: u32, bytes: &[u8]) -> u64
     ensures { result ≡ pair_at (put_cells (numbers_in 40 (drop start_size bytes.now)) end six) k }
 {
     let last = end / 32;
-    let first = wider(number_at(CELLS + 4 * k, bytes));
+    let first = u64::from(number_at(CELLS + 4 * k, bytes));
     if k + 1 < last {
-        return first * 4294967296 + wider(number_at(CELLS + 4 * k + 4, bytes));
+        return first * 4294967296 + u64::from(number_at(CELLS + 4 * k + 4, bytes));
     }
     let both = with_six(number_at(CELLS + 4 * last, bytes), (end % 32) as u32, six);
     if k == last {
@@ -126,7 +125,7 @@ pub fn hold(byte: u8, bytes: &mut [u8]) -> bool
         return false;
     }
     let line = line::six_of(byte);
-    let Six::Bits(six) = line else {
+    let Ok(six) = line else {
         return false;
     };
     match tell(c, six, bytes) {

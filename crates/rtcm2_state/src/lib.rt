@@ -6,12 +6,11 @@ mod number;
 
 ghost use Rattle.std.specs.Prelude.{◌≡◌, ◌≤◌, length, drop};
 ghost use Rattle.std.proofs.lemmas.List.Edits.{sets};
-ghost use Rattle.bits.specs.Bits.{val};
 ghost use Rattle.rtcm2_state.specs.Numbers.{numbers_written, numbers_in};
 ghost use Rattle.rtcm2_state.specs.State.{start_size, state_size, state_count, counts_of, tally_of, start_of, reader_of, holds_state, state_in, too_wide};
 ghost use Rattle.rtcm2_state.specs.State.{stored_by, start_put, state_put};
 
-use crate::number::{number_at, put_number, wide};
+use crate::number::{number_at, put_number};
 use reader::{Candidate, Reader, Tally};
 
 // A state is put in bytes, or the refusal's number.
@@ -52,12 +51,8 @@ fn cells_in(bytes: &[u8]) -> [u32; 40]
     ensures { result ≡ numbers_in 40 (drop start_size bytes.now) }
 {
     let mut cells = [0u32; 40];
-    let mut i = 0;
-    let mut next = CELLS;
-    while i < 40 {
-        cells[i] = number_at(next, bytes);
-        next += 4;
-        i += 1;
+    for i in 0..40 {
+        cells[i] = number_at(CELLS + 4 * i, bytes);
     }
     cells
 }
@@ -75,9 +70,9 @@ pub(crate) fn candidate_at(bytes: &[u8]) -> Candidate
     let odd = number_at(28, bytes);
     let even = number_at(32, bytes);
     Candidate {
-        end: wide(end),
-        held: wide(held),
-        words: wide(words),
+        end: end as usize,
+        held: held as usize,
+        words: words as usize,
         at,
         waits: waits == 1,
         tally: Tally { odd, even },
@@ -119,28 +114,18 @@ pub fn state_in(bytes: &[u8]) -> Reader
     }
 }
 
-// 1 for yes, 0 for no.
-fn flag(yes: bool) -> usize
-    ensures { result ≡ val yes }
-{
-    if yes {
-        return 1;
-    }
-    0
-}
-
 // Puts the mark, the counts and whether a frame waits and the input has ended.
 fn put_counts(c: Candidate, ended: bool, bytes: &mut [u8])
     requires { state_size ≤ length bytes.old }
     ensures { bytes.new ≡ sets bytes.old 0 (numbers_written (counts_of c ended)) }
 {
-    put_number(wide(MARK), 0, bytes);
+    put_number(MARK as usize, 0, bytes);
     put_number(c.end, 4, bytes);
     put_number(c.held, 8, bytes);
     put_number(c.words, 12, bytes);
-    put_number(wide(c.at), 16, bytes);
-    put_number(flag(c.waits), 20, bytes);
-    put_number(flag(ended), 24, bytes);
+    put_number(c.at as usize, 16, bytes);
+    put_number(usize::from(c.waits), 20, bytes);
+    put_number(usize::from(ended), 24, bytes);
 }
 
 // Puts the two counters behind them.
@@ -148,8 +133,8 @@ fn put_tally(tally: Tally, bytes: &mut [u8])
     requires { state_size ≤ length bytes.old }
     ensures { bytes.new ≡ sets bytes.old 28 (numbers_written (tally_of tally)) }
 {
-    put_number(wide(tally.odd), 28, bytes);
-    put_number(wide(tally.even), 32, bytes);
+    put_number(tally.odd as usize, 28, bytes);
+    put_number(tally.even as usize, 32, bytes);
 }
 
 // Puts all of these.
@@ -194,12 +179,8 @@ fn put_cells(cells: &[u32; 40], bytes: &mut [u8])
     requires { (length cells.now ≡ 40) × (state_size ≤ length bytes.old) }
     ensures { bytes.new ≡ sets bytes.old start_size (numbers_written cells.now) }
 {
-    let mut i = 0;
-    let mut next = CELLS;
-    while i < 40 {
-        put_number(wide(cells[i]), next, bytes);
-        next += 4;
-        i += 1;
+    for (i, cell) in cells.iter().enumerate() {
+        put_number(*cell as usize, CELLS + 4 * i, bytes);
     }
 }
 

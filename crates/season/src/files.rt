@@ -8,13 +8,7 @@ use std::alloc::Global;
 use std::env::Env;
 use std::fs::File;
 use std::io::{Error, ErrorKind};
-
-// The report of the files so far, and whether the run is over.
-#[derive(Clone, Copy)]
-pub(crate) struct Season {
-    pub report: Report,
-    pub is_over: bool,
-}
+use std::ops::ControlFlow;
 
 // Starts a line on standard error with the name of a file.
 fn say_name(name: &[u8]) {
@@ -83,35 +77,24 @@ fn with_course(report: Report, course: Course) -> Added {
     if !course.is_passed {
         return sum;
     }
-    let answer = sum.answer;
-    if is_no_room(answer) {
+    if is_no_room(sum.answer) {
         return sum;
     }
     refused(report, 19)
 }
 
 // The report with a file's records. On a refusal the run is over, and the report as it was.
-fn with_records(report: Report, name: &[u8], course: Course) -> Season {
-    let ending = course.ending;
-    let at = course.at;
+fn with_records(report: Report, name: &[u8], course: Course) -> ControlFlow<Report, Report> {
     let sum = with_course(report, course);
-    let answer = sum.answer;
-    let total = sum.report;
-    match answer {
+    match sum.answer {
         Adding::Done => {
-            say_stop(name, ending, at);
-            Season {
-                report: total,
-                is_over: false,
-            }
+            say_stop(name, course.ending, course.at);
+            ControlFlow::Continue(sum.report)
         }
         Adding::Refused(number) => {
             say_refusal(name, number);
             io::write_all(STDERR, b"\n");
-            Season {
-                report: total,
-                is_over: true,
-            }
+            ControlFlow::Break(sum.report)
         }
     }
 }
@@ -128,10 +111,7 @@ fn open_read(rt: &HostRuntime, name: &[u8]) -> Result<File, Error> {
 fn argument(rt: &HostRuntime, i: usize, buffer: &mut [u8]) -> usize
     ensures { IsPrefixLen result buffer.new }
 {
-    match rt.arg(i, buffer) {
-        Ok(length) => length,
-        Err(_) => 0,
-    }
+    rt.arg(i, buffer).unwrap_or(0)
 }
 
 // Reads a file that is open.
@@ -141,36 +121,37 @@ fn with_opened(
     name: &[u8],
     mut file: File,
     window: &mut [u8],
-) -> Season {
+) -> ControlFlow<Report, Report> {
     let course = read_file(&mut file, window);
-    let ending = course.ending;
-    if let Ending::Unread(error) = ending {
+    if let Ending::Unread(error) = course.ending {
         say_failure(rt.alloc(), name, error);
     }
     with_records(report, name, course)
 }
 
 // Opens and reads a file. What can't be opened or read is said; the records before that place count.
-fn with_file(rt: &HostRuntime, report: Report, name: &[u8], window: &mut [u8]) -> Season {
+fn with_file(
+    rt: &HostRuntime,
+    report: Report,
+    name: &[u8],
+    window: &mut [u8],
+) -> ControlFlow<Report, Report> {
     match open_read(rt, name) {
         Ok(file) => with_opened(rt, report, name, file, window),
         Err(error) => {
             say_failure(rt.alloc(), name, error);
-            Season {
-                report,
-                is_over: false,
-            }
+            ControlFlow::Continue(report)
         }
     }
 }
 
-// The file that argument number `i` names.
+// The report with the file that argument number `i` names; a break ends the run.
 pub(crate) fn with_argument(
     rt: &HostRuntime,
     report: Report,
     i: usize,
     window: &mut [u8],
-) -> Season {
+) -> ControlFlow<Report, Report> {
     let mut name = io::buffer();
     let length = argument(rt, i, &mut name);
     with_file(rt, report, &name[..length], window)

@@ -1,8 +1,12 @@
 // A report as lines of tabs: what is counted, the names of the columns, a line for each row, and the totals.
+ghost use Rattle.std.specs.Prelude.{◌^◌, ◌<◌};
+
 use crate::STDOUT;
-use crate::sums::{Amount, is_less, less, totals_of};
+use crate::sums::totals_of;
 use frame::System;
 use season_reports::{Extremes, Report, Row};
+
+const BILLION: u128 = 1000000000;
 
 // Writes text as it is, and answers whether it was written.
 fn print(text: &[u8]) -> bool {
@@ -21,7 +25,7 @@ fn print_signed(z: i64) {
     if z < 0 {
         print(b"-");
     }
-    io::print_decimal(STDOUT, printing::magnitude(z));
+    io::print_decimal(STDOUT, z.unsigned_abs());
 }
 
 // Writes the name of a system.
@@ -32,11 +36,6 @@ fn print_system(system: System) {
     };
 }
 
-// A number of 32 bits in 64.
-fn wide(z: i32) -> i64 {
-    z as i64
-}
-
 // Writes the least and the largest in their columns.
 fn print_extremes(extremes: Extremes) {
     match extremes {
@@ -44,8 +43,8 @@ fn print_extremes(extremes: Extremes) {
             print(b"\t-\t-");
         }
         Extremes::Present(least, largest) => {
-            print_signed(wide(least));
-            print_signed(wide(largest));
+            print_signed(i64::from(least));
+            print_signed(i64::from(largest));
         }
     }
 }
@@ -53,56 +52,53 @@ fn print_extremes(extremes: Extremes) {
 // Writes the line of a row. The mean is the sum over the count.
 fn print_row(row: Row) {
     let key = row.key;
-    let system = key.system;
-    let extremes = row.extremes;
-    print_system(system);
+    print_system(key.system);
     print_number(key.station as u64);
     print_number(key.satellite as u64);
     print_number(row.usable as u64);
     print_number(row.stops as u64);
-    print_extremes(extremes);
+    print_extremes(row.extremes);
     print_signed(row.sum);
     print_number(row.usable as u64);
     print(b"\n");
 }
 
-// Writes an amount: the rest has nine digits behind thousand millions.
-fn print_amount(amount: Amount) {
-    if amount.billions == 0 {
-        io::print_decimal(STDOUT, amount.rest);
+// Writes a number that has nine digits behind thousand millions.
+fn print_wide(n: u128)
+    requires { n < 2 ^ 74 }
+{
+    let rest = (n % BILLION) as u64;
+    if n < BILLION {
+        io::print_decimal(STDOUT, rest);
         return;
     }
-    io::print_decimal(STDOUT, amount.billions);
+    io::print_decimal(STDOUT, (n / BILLION) as u64);
     let mut text = [0u8; 20];
-    let n = io::decimal(
-        std::num::wrapping_add_u64(amount.rest, 1000000000),
-        &mut text,
-    );
-    print(&text[1..n]);
+    let k = io::decimal(1000000000 + rest, &mut text);
+    print(&text[1..k]);
 }
 
 // Writes what is above 0 less what is below, in its column.
-fn print_difference(above: Amount, below: Amount) {
+fn print_difference(above: u128, below: u128)
+    requires { (above < 2 ^ 74) × (below < 2 ^ 74) }
+{
     print(b"\t");
-    if is_less(above, below) {
+    if above < below {
         print(b"-");
-        print_amount(less(below, above));
+        print_wide(below - above);
         return;
     }
-    print_amount(less(above, below));
+    print_wide(above - below);
 }
 
 // Writes the line of totals, and answers whether its end was written.
 fn print_totals(report: Report) -> bool {
     let totals = totals_of(report);
-    let extremes = totals.extremes;
-    let above = totals.above;
-    let below = totals.below;
     print(b"total\t-\t-");
     print_number(totals.usable);
     print_number(totals.stops);
-    print_extremes(extremes);
-    print_difference(above, below);
+    print_extremes(totals.extremes);
+    print_difference(totals.above, totals.below);
     print_number(totals.usable);
     print(b"\n")
 }
@@ -111,15 +107,8 @@ fn print_totals(report: Report) -> bool {
 pub(crate) fn print_report(report: Report) -> bool {
     print(b"# types 1, 9, 31 and 34 are counted, types 41 and 42 are not\n");
     print(b"system\tstation\tsatellite\tusable\tstops\tleast\tlargest\tsum\tcount\n");
-    let rows = report.rows;
-    let used = report.used;
-    let mut i: usize = 0;
-    while i < 512 {
-        if i < used {
-            let row = rows[i];
-            print_row(row);
-        }
-        i += 1;
+    for row in report.rows.iter().take(report.used) {
+        print_row(*row);
     }
     print_totals(report)
 }

@@ -11,6 +11,7 @@ mod window;
 
 use season_reports::Report;
 use std::env::{Env, FillError};
+use std::ops::ControlFlow;
 
 // The file number of standard output.
 pub(crate) const STDOUT: i32 = 1;
@@ -21,14 +22,11 @@ pub(crate) const STDERR: i32 = 2;
 // The report of the files that the arguments name, as far as they are added.
 fn report_of_files(rt: &HostRuntime, count: usize, window: &mut [u8]) -> Report {
     let mut report = season_reports::empty();
-    let mut i: usize = 1;
-    while i < count {
-        let season = files::with_argument(rt, report, i, window);
-        report = season.report;
-        if season.is_over {
-            return report;
+    for i in 1..count {
+        match files::with_argument(rt, report, i, window) {
+            ControlFlow::Continue(more) => report = more,
+            ControlFlow::Break(last) => return last,
         }
-        i += 1;
     }
     report
 }
@@ -36,23 +34,17 @@ fn report_of_files(rt: &HostRuntime, count: usize, window: &mut [u8]) -> Report 
 // Whether there is an argument of this number; the program's name is number 0.
 fn has_argument(rt: &HostRuntime, i: usize) -> bool {
     let mut first = [0u8; 1];
-    match rt.arg(i, &mut first) {
-        Ok(_) => true,
-        Err(FillError::TooLong) => true,
-        Err(FillError::NotPresent) => false,
-    }
+    !matches!(rt.arg(i, &mut first), Err(FillError::NotPresent))
 }
 
 // How many arguments there are, the program's name among them.
 fn argument_count(rt: &HostRuntime) -> usize {
-    let mut count: usize = 0;
-    while count < usize::MAX {
+    for count in 0..usize::MAX {
         if !has_argument(rt, count) {
             return count;
         }
-        count += 1;
     }
-    count
+    usize::MAX
 }
 
 fn main(rt: HostRuntime) {

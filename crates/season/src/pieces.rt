@@ -2,7 +2,7 @@
 // those before it, and what it is refused with, is then settled once, at its end, and does not hang on where a piece ends.
 ghost use Rattle.std.specs.Prelude.{◌≡◌, ◌≤◌, length};
 
-use crate::window::{Filling, brought, fill};
+use crate::window::{Filling, fill};
 use journal::Found;
 use season_reports::{Adding, Extremes, JournalReport, Report, Row};
 use std::fs::File;
@@ -41,24 +41,17 @@ pub(crate) struct Course {
 }
 
 // The keys of a report, with nothing counted.
-fn keys_of(report: Report) -> Report {
-    let used = report.used;
-    let mut rows = report.rows;
-    let mut i: usize = 0;
-    while i < 512 {
-        let row = rows[i];
-        let key = row.key;
-        let extremes = Extremes::Absent;
-        rows[i] = Row {
-            key,
+fn keys_of(mut report: Report) -> Report {
+    for row in report.rows.iter_mut() {
+        *row = Row {
+            key: row.key,
             usable: 0,
             stops: 0,
-            extremes,
+            extremes: Extremes::Absent,
             sum: 0,
         };
-        i += 1;
     }
-    Report { used, rows }
+    report
 }
 
 // Whether an answer is that a count would pass.
@@ -75,16 +68,6 @@ fn is_refused(answer: Adding) -> bool {
         Adding::Done => false,
         Adding::Refused(_) => true,
     }
-}
-
-// A number of bytes, or the size where that is less.
-fn within(used: usize, size: usize) -> usize
-    ensures { result ≤ size }
-{
-    if size < used {
-        return size;
-    }
-    used
 }
 
 // What was added of a piece.
@@ -123,19 +106,15 @@ fn stop_at(bytes: &[u8]) -> Ending {
 }
 
 // How the file goes on behind a piece, with these bytes left of it.
-fn ending_of(filling: Filling, left: &[u8]) -> Ending {
+fn ending_of(filling: Result<Filling, Error>, left: &[u8]) -> Ending {
     if left.len() >= LONGEST {
         return stop_at(left);
     }
     match filling {
-        Filling::Full => Ending::Open,
-        Filling::Failed(error) => Ending::Unread(error),
-        Filling::End => {
-            if left.len() == 0 {
-                return Ending::Whole;
-            }
-            stop_at(left)
-        }
+        Ok(Filling::Full) => Ending::Open,
+        Ok(Filling::End) if left.is_empty() => Ending::Whole,
+        Ok(Filling::End) => stop_at(left),
+        Err(error) => Ending::Unread(error),
     }
 }
 
@@ -145,22 +124,21 @@ fn read_piece(file: &mut File, course: Course, window: &mut [u8]) -> Course
     ensures held_in_bounds { result.held ≤ length window.new }
     ensures window_len_unchanged { length window.new ≡ length window.old }
 {
-    let filled = fill(file, window, course.held);
-    let filling = filled.filling;
-    let end = filled.held;
+    let mut end = course.held;
+    let filling = fill(file, window, &mut end);
     let before = course.report;
     let taken = take_piece(before, course.is_passed, &window[..end]);
     let report = taken.report;
     // always all of it: the records lie in the piece
-    let used = within(taken.used, end);
+    let used = taken.used.min(end);
     let ending = ending_of(filling, &window[used..end]);
-    let held = brought(window, used, end);
+    window.copy_within(used..end, 0);
     Course {
         report,
         is_full: taken.is_full,
         is_passed: taken.is_passed,
         at: std::num::wrapping_add_u64(course.at, used as u64),
-        held,
+        held: end - used,
         ending,
     }
 }
@@ -170,14 +148,10 @@ fn is_ended(course: Course) -> bool {
     if course.is_full {
         return true;
     }
-    let ending = course.ending;
-    if let Ending::Open = ending {
-        return false;
-    }
-    true
+    !matches!(course.ending, Ending::Open)
 }
 
-// The report of a file, read piece by piece. The turns are counted down from a number that no run uses up.
+// The report of a file, read piece by piece. There are more turns than any run uses up.
 pub(crate) fn read_file(file: &mut File, window: &mut [u8]) -> Course {
     let mut course = Course {
         report: season_reports::empty(),
@@ -187,9 +161,7 @@ pub(crate) fn read_file(file: &mut File, window: &mut [u8]) -> Course {
         held: 0,
         ending: Ending::Open,
     };
-    let mut turns = u64::MAX;
-    while turns > 0 {
-        turns -= 1;
+    for _ in 0..u64::MAX {
         course = read_piece(file, course, window);
         if is_ended(course) {
             return course;

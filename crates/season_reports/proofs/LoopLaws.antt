@@ -7,7 +7,8 @@ use native.Mathlib.Numerals.{add-one}
 use native.Mathlib.Omega.{arith}
 use lib.Dec.{leb, eqb}
 use lib.ListN.{length, take, drop, get_or, set, length-take, length-drop, take-append-drop}
-use lib.Seq.{take-suc, take-suc-set, get_or-take, get_or-drop, take_all, take-take, drop-drop}
+use Rattle.std.proofs.lemmas.List.{drop-take}
+use lib.Seq.{take_at, take-suc, take-suc-set, get_or-take, take_all, take-take, drop-drop}
 use borrow.Author.Tests.{eqb-true, eq-eqb, ne_eqb, eqb-false, leb-true, leb-false}
 use Rattle.frame.specs.Widths.{any_of}
 use Rattle.season_reports.specs.Rows.{blank_row}
@@ -72,20 +73,32 @@ module _ (xs : List ℕ) (i : ℕ) (h : i < length xs) where
 
 -- ---- parts of a report
 
-module _ (source : List Row) (from left : ℕ) where
-  abbrev pub part_from : List Row
-  part_from = drop from (take (from + left) source)
+-- what is copied from a report's rows are eighteen of those in use, or those that are left
+pub part-law : (source new rest : List Row) (used from n : ℕ) → from ≤ used → used ≤ length source → n ≡ min (used - from) 18
+    → new ≡ take (from + n - from) (drop from source) → take n (new ++ rest) ≡ take 18 (drop from (take used source))
+part-law source new rest used from n h l e q =
+    take_at new rest n size ∙ q ∙ ap (λ j. take j (drop from source)) same ∙ sym (go (leb (used - from) 18) refl)
+    ∙ ap (take 18) (sym (ap (λ u. drop from (take u source)) whole ∙ drop-take from (used - from) source))
+  where
+    same : from + n - from ≡ n
+    same = omega arith
 
-  pub part_length : from + left ≤ length source → length part_from ≡ left
-  part_length h = omega (arith, length-drop from (take (from + left) source), length-take (from + left) source)
+    whole : used ≡ from + (used - from)
+    whole = omega arith
 
-  pub part-next : (rows : List Row) (i : ℕ) → from + left ≤ length source → i < left → i < length rows → take i rows ≡ take i part_from
-      → take (i + 1) (set rows i (get_or source (from + i) blank_row)) ≡ take (i + 1) part_from
-  part-next rows i h l k e =
-      put_next rows i (get_or source (from + i) blank_row) k
-      ∙ ap₂ (λ a x. a ++ (x ∷ [])) e
-      (sym (get_or-drop from (take (from + left) source) i blank_row ∙ get_or-take (from + left) source (from + i) blank_row (omega arith)))
-      ∙ sym (take_next part_from i blank_row (omega (arith, part_length h)))
+    size : length new ≡ n
+    size = omega (arith, ap length q, length-take (from + n - from) (drop from source), length-drop from source)
+
+    go : (t : Bool) → leb (used - from) 18 ≡ t → take 18 (take (used - from) (drop from source)) ≡ take n (drop from source)
+    go true s =
+        let few : used - from ≤ 18 = leb-true (used - from) 18 s in
+        let all : used - from ≡ n = omega arith in
+        take_all 18 (take (used - from) (drop from source)) (omega (arith, length-take (used - from) (drop from source)))
+        ∙ ap (λ j. take j (drop from source)) all
+    go false s =
+        let many : 18 < used - from = leb-false (used - from) 18 s in
+        let all : 18 ≡ n = omega arith in
+        take-take 18 (used - from) (drop from source) (omega arith) ∙ ap (λ j. take j (drop from source)) all
 
 -- eighteen rows at a time, or those that are left
 pub part-turn : (t : Table) (rows : List Row) (from n : ℕ) → n ≡ min 18 (length rows - from)

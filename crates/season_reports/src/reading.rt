@@ -83,23 +83,17 @@ fn rows_of(frame: Frame, count: usize) -> Batch
     let header = frame.header;
     let mut rows = [blank_row(); 18];
     let mut found: usize = 0;
-    let mut i = 0;
-    while i < count {
-        let entry = record_corrections::correction_at(frame, i);
-        i += 1;
-        match entry {
-            CorrectionRead::Entry(e) => {
-                let system = frame::system_of(header.kind);
-                let key = Key {
-                    system,
-                    station: header.station,
-                    satellite: e.satellite,
-                };
-                rows[found] = entry_row(key, e);
-                found += 1;
-            }
-            CorrectionRead::Refused(_) => {}
-        }
+    for i in 0..count {
+        let CorrectionRead::Entry(e) = record_corrections::correction_at(frame, i) else {
+            continue;
+        };
+        let key = Key {
+            system: frame::system_of(header.kind),
+            station: header.station,
+            satellite: e.satellite,
+        };
+        rows[found] = entry_row(key, e);
+        found += 1;
     }
     Batch { count: found, rows }
 }
@@ -127,6 +121,7 @@ pub(crate) fn add_bytes(table: Table, bytes: &[u8]) -> Progress
 {
     let mut sum = table;
     let mut used: usize = 0;
+    // kept: each record tells its own size, so no range counts it.
     while used < bytes.len() {
         let recalled = journal::recall_either(&bytes[used..]);
         let answer = recalled.answer;

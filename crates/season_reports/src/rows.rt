@@ -7,9 +7,6 @@ ghost use Rattle.season_reports.specs.declared.Extremes.TheVariants.{Absent, Pre
 use crate::{Extremes, Key, Row};
 use frame::System;
 
-// The most that a count holds.
-const MOST: u32 = 4294967295;
-
 // What stands where there is no row.
 pub(crate) fn blank_row() -> Row
     ensures { result ≡ blank_row }
@@ -52,20 +49,14 @@ pub(crate) fn code_of(key: Key) -> u32
 fn lesser_of(a: i32, b: i32) -> i32
     ensures { result ≡ lesser a b }
 {
-    if b < a {
-        return b;
-    }
-    a
+    a.min(b)
 }
 
 // The greater of two numbers.
 fn greater_of(a: i32, b: i32) -> i32
     ensures { result ≡ greater a b }
 {
-    if a < b {
-        return b;
-    }
-    a
+    a.max(b)
 }
 
 // The least and the largest of two rows.
@@ -87,10 +78,7 @@ fn widest_of(a: Extremes, b: Extremes) -> Extremes
 pub(crate) fn is_over(a: Row, b: Row) -> bool
     ensures { result ≡ over_both a b }
 {
-    if b.usable > MOST - a.usable {
-        return true;
-    }
-    b.stops > MOST - a.stops
+    b.usable > u32::MAX - a.usable || b.stops > u32::MAX - a.stops
 }
 
 // Two rows of one key together. The sums of rows that are right have room: each is at most its count times 2^31.
@@ -136,23 +124,14 @@ fn times(count: u32, mm: i32) -> i64
 fn is_beyond(count: u32, sum: i64, least: i32, largest: i32) -> bool
     ensures { result ≡ wrong_ends count sum (Present least largest) }
 {
-    if count == 0 {
-        return true;
-    }
-    if sum < times(count, least) {
-        return true;
-    }
-    times(count, largest) < sum
+    count == 0 || sum < times(count, least) || times(count, largest) < sum
 }
 
 // Whether a count and a sum without least and largest are not both 0.
 fn is_left(count: u32, sum: i64) -> bool
     ensures { result ≡ wrong_ends count sum Absent }
 {
-    if count != 0 {
-        return true;
-    }
-    sum != 0
+    count != 0 || sum != 0
 }
 
 // Whether a row's sum can't be: refusal 5.

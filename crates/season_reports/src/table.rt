@@ -34,12 +34,10 @@ pub(crate) fn codes_of(report: Report) -> [u32; 512]
     let rows = report.rows;
     let used = report.used;
     let mut codes = [0u32; 512];
-    let mut i = 0;
-    while i < used {
+    for i in 0..used {
         let row = rows[i];
         let key = row.key;
         codes[i] = code_of(key);
-        i += 1;
     }
     codes
 }
@@ -50,14 +48,12 @@ fn place_of(codes: &[u32; 512], used: usize, code: u32) -> usize
     ensures value { result ≡ first_index (eqb code) (take used codes.now) }
     ensures upper_bound { result ≤ used }
 {
-    let mut i = 0;
-    while i < used {
+    for i in 0..used {
         if codes[i] == code {
             return i;
         }
-        i += 1;
     }
-    i
+    used
 }
 
 // Whether one of the first `used` codes stands there again.
@@ -65,12 +61,10 @@ pub(crate) fn is_twice(codes: &[u32; 512], used: usize) -> bool
     requires { (length codes.now ≡ 512) × (used ≤ 512) }
     ensures { result ≡ any_twice eqb (take used codes.now) }
 {
-    let mut i = 0;
-    while i < used {
+    for i in 0..used {
         if place_of(codes, i, codes[i]) < i {
             return true;
         }
-        i += 1;
     }
     false
 }
@@ -83,35 +77,13 @@ pub(crate) fn any_wrong(report: Report) -> bool
 {
     let rows = report.rows;
     let used = report.used;
-    let mut i = 0;
-    while i < used {
+    for i in 0..used {
         let row = rows[i];
         if is_wrong(row) {
             return true;
         }
-        i += 1;
     }
     false
-}
-
-// Either of two tests.
-fn either(a: bool, b: bool) -> bool
-    ensures { result ≡ a || b }
-{
-    if a {
-        return true;
-    }
-    b
-}
-
-// The larger of two numbers.
-fn larger(a: usize, b: usize) -> usize
-    ensures { result ≡ max a b }
-{
-    if a < b {
-        return b;
-    }
-    a
 }
 
 // The rows of a batch added one after the other. Once one finds no room, the table says so and takes no more.
@@ -130,8 +102,7 @@ pub(crate) fn gather(table: Table, batch: Batch) -> Table
     let mut over = table.over;
     let count = batch.count;
     let more = batch.rows;
-    let mut i = 0;
-    while i < count {
+    for i in 0..count {
         let row = more[i];
         let key = row.key;
         let code = code_of(key);
@@ -144,11 +115,10 @@ pub(crate) fn gather(table: Table, batch: Batch) -> Table
             };
         }
         let old = rows[at];
-        over = either(over, is_over(old, row));
+        over |= is_over(old, row);
         rows[at] = merged_row(old, row);
         codes[at] = code;
-        used = larger(used, at + 1);
-        i += 1;
+        used = used.max(at + 1);
     }
     Table {
         report: Report { used, rows },
@@ -162,18 +132,10 @@ fn part_of(report: Report, from: usize) -> Batch
     requires { (report.used ≤ 512) × (from ≤ report.used) }
     ensures { (result.count ≡ min 18 (report.used - from)) × (rows_of_batch result ≡ take 18 (drop from (rows_in report))) }
 {
-    let source = report.rows;
-    let left = report.used - from;
+    let count = (report.used - from).min(18);
     let mut rows = [blank_row(); 18];
-    let mut i = 0;
-    while i < 18 {
-        if i >= left {
-            return Batch { count: i, rows };
-        }
-        rows[i] = source[from + i];
-        i += 1;
-    }
-    Batch { count: 18, rows }
+    rows[..count].copy_from_slice(&report.rows[from..from + count]);
+    Batch { count, rows }
 }
 
 // The rows of a report added to a table.
@@ -185,6 +147,7 @@ pub(crate) fn add_rows(table: Table, report: Report) -> Table
     let used = report.used;
     let mut sum = table;
     let mut from: usize = 0;
+    // kept: a turn goes on by as many rows as its batch has, so a range with a step is no plainer.
     while from < used {
         let part = part_of(report, from);
         from += part.count;

@@ -5,7 +5,6 @@ ghost use Rattle.std.specs.Prelude.{◌≡◌, ◌≤◌, length};
 
 use frame::Frame;
 use journal::Found;
-use printing::Printed;
 
 // The file number of standard input.
 const STDIN: i32 = 0;
@@ -15,13 +14,6 @@ const STDOUT: i32 = 1;
 
 // The file number of standard error.
 const STDERR: i32 = 2;
-
-// How a record ended the step: the next may follow, or the run is over; and how many bytes the record has.
-#[derive(Clone, Copy)]
-enum Step {
-    Next(u64),
-    Over,
-}
 
 // How many bytes follow the first three of a record: 3N + 6, or 4N + 8 where it keeps the words. Where N is over 31, none are asked for.
 fn size_after(form: u8, n: u8) -> usize
@@ -54,7 +46,7 @@ fn read_record(bytes: &mut [u8]) -> usize
 // Prints a record's line, or says that it cannot. No frame that was recalled is refused, and there is room for the longest line.
 fn print_line(at: u64, frame: Frame) -> bool {
     let mut text = io::buffer();
-    let Printed::At(end) = listing::put_line(at, frame, &mut text) else {
+    let Ok(end) = listing::put_line(at, frame, &mut text) else {
         return true;
     };
     if end > text.len() {
@@ -81,36 +73,31 @@ fn say_stop(number: u8, at: u64) {
     };
 }
 
-// Shows the record at place `at` of the journal.
-fn show_record(at: u64) -> Step {
+// Shows the record at place `at` of the journal, and answers how many bytes it has; none where the run is over.
+fn show_record(at: u64) -> Option<u64> {
     let mut record = [0u8; 135];
     let n = read_record(&mut record);
     if n == 0 {
-        return Step::Over;
+        return None;
     }
     let recalled = journal::recall_either(&record[..n]);
-    let answer = recalled.answer;
-    match answer {
-        Found::Record(length) => {
-            if print_line(at, recalled.frame) {
-                return Step::Next(length as u64);
-            }
+    match recalled.answer {
+        Found::Record(length) => print_line(at, recalled.frame).then_some(length as u64),
+        Found::Refused(number) => {
+            say_stop(number, at);
+            None
         }
-        Found::Refused(number) => say_stop(number, at),
     }
-    Step::Over
 }
 
-// Shows all of standard input. The turns are counted down from a number that no run uses up.
+// Shows all of standard input. The turns are counted up to a number that no run uses up.
 fn show_all() {
     let mut at: u64 = 0;
-    let mut turns = u64::MAX;
-    while turns > 0 {
-        turns -= 1;
-        let Step::Next(length) = show_record(at) else {
+    for _ in 0..u64::MAX {
+        let Some(length) = show_record(at) else {
             return;
         };
-        at = std::num::wrapping_add_u64(at, length);
+        at = at.wrapping_add(length);
     }
 }
 

@@ -1,6 +1,6 @@
 // What making answers at the ends of the ranges and of the counts, and past them.
 use crate::vectors::{general, head};
-use frame::{Header, State};
+use frame::Header;
 use record_generals::{General, GeneralHead};
 use test_vectors::{header_with, print_outcome};
 
@@ -90,11 +90,8 @@ fn numbers() {
 // A header of a type and a Z count.
 fn header_at(kind: u8, z: u16) -> Header {
     Header {
-        kind,
-        station: 5,
         z,
-        sequence: 3,
-        state: State::Factor(100),
+        ..header_with(kind)
     }
 }
 

@@ -5,21 +5,15 @@ use test_vectors::{frame_of, print};
 
 // A frame of a type with N words, of which the first is `word`, where there is one, and the others are zeros.
 fn frame_with(kind: u32, n: u32, word: u32) -> Frame {
-    let mut first = word;
-    if n % 32 == 0 {
-        first = 0;
-    }
-    let data = [first];
+    let data = [if n % 32 == 0 { 0 } else { word }];
     frame_of(0x660005 + kind % 64 * 1024, 0x032300 + n % 32 * 8, &data)
 }
 
 // The counts for N 0 to 31.
 fn every_n(name: &[u8], kind: u32, word: u32) {
     print(name);
-    let mut n = 0;
-    while n < 32 {
+    for n in 0..32 {
         print_short(frame_with(kind, n, word));
-        n += 1;
     }
     print(b"\n");
 }
@@ -27,10 +21,8 @@ fn every_n(name: &[u8], kind: u32, word: u32) {
 // The counts for the systems 0 to 15.
 fn every_system() {
     print(b"41, N 2, systems 0 to 15:");
-    let mut system = 0;
-    while system < 16 {
-        print_short(frame_with(41, 2, system % 16 * 0x100000 + 0x010000));
-        system += 1;
+    for system in 0..16 {
+        print_short(frame_with(41, 2, system * 0x100000 + 0x010000));
     }
     print(b"\n");
 }

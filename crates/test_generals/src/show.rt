@@ -2,7 +2,7 @@
 use frame::Frame;
 use record_generals::{General, GeneralHead, GeneralNullRead, GeneralRead, HeadRead};
 use record_stages::Count;
-use test_vectors::{print, print_number, print_refusal, print_signed};
+use test_vectors::{print, print_each, print_number, print_refusal, print_signed};
 
 // Writes a head's numbers.
 fn print_numbers(head: GeneralHead) {
@@ -24,7 +24,7 @@ pub(crate) fn print_head(frame: Frame) {
 
 // Writes a PRC behind its name.
 pub(crate) fn print_prc(name: &[u8], prc: i16) {
-    print_signed(name, prc as i32);
+    print_signed(name, i32::from(prc));
 }
 
 // Writes one satellite's fields.
@@ -76,14 +76,8 @@ pub(crate) fn print_null(name: &[u8], frame: Frame) {
 // Writes the head of a frame, and every satellite.
 pub(crate) fn print_record(frame: Frame) {
     print_head(frame);
-    match record_generals::count_generals(frame) {
-        Count::Of(count) => {
-            let mut i = 0;
-            while i < count {
-                print_at(frame, i);
-                i += 1;
-            }
-        }
-        Count::Refused(number) => print_refusal(number),
-    }
+    print_each(
+        record_generals::count_generals(frame),
+        |i| print_at(frame, i),
+    );
 }

@@ -45,10 +45,8 @@ fn limit(state: State, code: u8) {
 // The limits of the codes 0 to 16 in a state.
 fn limits(name: &[u8], state: State) {
     print(name);
-    let mut code = 0;
-    while code < 17 {
+    for code in 0..17 {
         limit(state, code);
-        code += 1;
     }
     print(b"\n");
 }

@@ -145,67 +145,22 @@ fn numbered(i: u8, prc: i16) -> General {
     general(63 - n, n % 16, 5 * n, prc, 0)
 }
 
+// As many satellites as a frame holds, their PRC from -4000 on in steps of 500.
 fn most() -> [General; 22] {
-    [
-        numbered(0, -4000),
-        numbered(1, -3500),
-        numbered(2, -3000),
-        numbered(3, -2500),
-        numbered(4, -2000),
-        numbered(5, -1500),
-        numbered(6, -1000),
-        numbered(7, -500),
-        numbered(8, 0),
-        numbered(9, 500),
-        numbered(10, 1000),
-        numbered(11, 1500),
-        numbered(12, 2000),
-        numbered(13, 2500),
-        numbered(14, 3000),
-        numbered(15, 3500),
-        numbered(16, 4000),
-        numbered(17, 4500),
-        numbered(18, 5000),
-        numbered(19, 5500),
-        numbered(20, 6000),
-        numbered(21, 6500),
-    ]
+    std::array::from_fn(|i| numbered((i % 22) as u8, (i % 22) as i16 * 500 - 4000))
 }
+
+// The words of twenty-two satellites.
+const MOST_WORDS: [u32; 30] = [
+    0x1107E0, 0x018307, 0xC20B92, 0xA7A415, 0xA24786, 0x1FB1E7, 0x6829C1, 0x874A33, 0xD1272C,
+    0x3DE0C7, 0x0E47F0, 0x66F050, 0x0006D2, 0x5A0FA6, 0xB4641F, 0x46966E, 0x2EE678, 0x783E86,
+    0x5A824E, 0x263C8C, 0x5DC61E, 0x966D65, 0xE0A07D, 0x05C2AA, 0x8CA5A4, 0xB49C45, 0x86BEAB,
+    0xE568C8, 0xBB854A, 0xD2CB25,
+];
 
 // The most satellites of a frame.
 fn c41e() {
-    let data = [
-        0x1107E0u32,
-        0x018307,
-        0xC20B92,
-        0xA7A415,
-        0xA24786,
-        0x1FB1E7,
-        0x6829C1,
-        0x874A33,
-        0xD1272C,
-        0x3DE0C7,
-        0x0E47F0,
-        0x66F050,
-        0x0006D2,
-        0x5A0FA6,
-        0xB4641F,
-        0x46966E,
-        0x2EE678,
-        0x783E86,
-        0x5A824E,
-        0x263C8C,
-        0x5DC61E,
-        0x966D65,
-        0xE0A07D,
-        0x05C2AA,
-        0x8CA5A4,
-        0xB49C45,
-        0x86BEAB,
-        0xE568C8,
-        0xBB854A,
-        0xD2CB25,
-    ];
+    let data = MOST_WORDS;
     show(
         b"C41e",
         head(1, 1, 0, 0, 0),

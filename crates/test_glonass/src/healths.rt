@@ -22,11 +22,8 @@ fn entry(i: u8, health: Condition) -> SatelliteHealth {
 // Thirty-one satellites, their health bits 0 to 7 and again from 0; of the last they are 4.
 fn entries() -> [SatelliteHealth; 31] {
     let mut all = [entry(30, Condition::Data(1, 0)); 31];
-    let mut i: usize = 0;
-    while i < 30 {
-        let k = (i % 32) as u8;
-        all[i] = entry(k, Condition::Data(k % 8 / 4, k % 4));
-        i += 1;
+    for i in 0..30u8 {
+        all[usize::from(i)] = entry(i, Condition::Data(i % 8 / 4, i % 4));
     }
     all
 }

@@ -1,7 +1,8 @@
 // What making answers at the ends of the ranges and of the counts, and past them.
 use crate::corrections::entry;
-use frame::{Header, State};
-use record_corrections::{Correction, Issue};
+use frame::Header;
+use record_corrections::Correction;
+use test_vectors::corrections::with_iod;
 use test_vectors::{header_with, print_outcome};
 
 // Makes `count` times an entry into a frame of that type.
@@ -25,24 +26,12 @@ fn text(name: &[u8], kind: u8, text: &[u8]) {
     print_outcome(name, record_texts::make_text(header, text));
 }
 
-// An entry with an IOD.
-fn with_iod(iod: u8) -> Correction {
-    Correction {
-        scale: 0,
-        udre: 0,
-        satellite: 1,
-        prc: 0,
-        rrc: 0,
-        issue: Issue::Iod(iod),
-    }
-}
-
 // The ranges of the last eight bits, and the issue of the other system.
 fn ages() {
     list(b"31, tb 119: ", 31, entry(0, 0, 1, 0, 0, 0, 119), 1);
     list(b"31, tb 120: ", 31, entry(0, 0, 1, 0, 0, 0, 120), 1);
     list(b"31, change 2: ", 31, entry(0, 0, 1, 0, 0, 2, 0), 1);
-    list(b"31, an IOD: ", 31, with_iod(0), 1);
+    list(b"31, an IOD: ", 31, with_iod(0, 0, 1, 0, 0, 0), 1);
     list(b"1, change and tb: ", 1, entry(0, 0, 1, 0, 0, 0, 0), 1);
 }
 
@@ -64,11 +53,8 @@ fn nulls() {
     null(b"34, null of N 2: ", 34, 2);
     null(b"31, null of N 2: ", 31, 2);
     let late = Header {
-        kind: 34,
-        station: 5,
         z: 6000,
-        sequence: 3,
-        state: State::Factor(100),
+        ..header_with(34)
     };
     print_outcome(
         b"34, Z 6000, null of N 2: ",

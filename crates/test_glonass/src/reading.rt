@@ -5,23 +5,17 @@ use test_vectors::corrections::print_at;
 use test_vectors::nulls::print_null;
 use test_vectors::positions::print_position;
 use test_vectors::texts::print_text;
-use test_vectors::{frame_of, print, print_number, print_refusal};
+use test_vectors::{frame_of, print, print_count};
 
 // Writes the name of a case and a count.
-fn print_count(name: &[u8], count: Count) {
+fn named_count(name: &[u8], count: Count) {
     print(name);
-    match count {
-        Count::Of(n) => {
-            print_number(b"count ", n as u64);
-            print(b"\n");
-        }
-        Count::Refused(number) => print_refusal(number),
-    }
+    print_count(b"count ", count);
 }
 
 // Writes the name of a case and how many corrections the frame has.
 fn count(name: &[u8], frame: Frame) {
-    print_count(name, record_corrections::count_corrections(frame));
+    named_count(name, record_corrections::count_corrections(frame));
 }
 
 // Writes the name of a case and an entry.
@@ -94,7 +88,7 @@ fn others() {
         frame_of(0x668005, 0x032320, &lowest),
     );
     let empty = frame_of(0x668405, 0x032300, &[]);
-    print_count(b"33, N 0: ", record_healths::count_healths(empty));
+    named_count(b"33, N 0: ", record_healths::count_healths(empty));
 }
 
 // The last code of each system, and the first past it.

@@ -1,31 +1,13 @@
 // The journal's worked cases: what keeping and recalling answer, and the bytes, one line to a case.
 #![tactic(auto)]
 
-use frame::{Frame, Header, HealthCode, State};
+use frame::{Frame, Header};
 use journal::{Found, Kept};
-
-// The file number of standard output.
-const STDOUT: i32 = 1;
+use test_vectors::{header_with, print, print_bytes, print_number};
 
 // Writes a number with a space before it.
 fn show_number(n: u64) {
-    io::write_all(STDOUT, b" ");
-    io::print_decimal(STDOUT, n);
-}
-
-// Writes a byte in hexadecimal with a space before it.
-fn show_byte(byte: u8) {
-    io::write_all(STDOUT, b" ");
-    io::print_hex(STDOUT, byte as u64, 2);
-}
-
-// Writes bytes in hexadecimal, one after the other.
-fn show_bytes(bytes: &[u8]) {
-    let mut i = 0;
-    while i < bytes.len() {
-        show_byte(bytes[i]);
-        i += 1;
-    }
+    print_number(b" ", n);
 }
 
 // Writes type, station, Z count, sequence, N and health.
@@ -38,8 +20,8 @@ fn show_frame(frame: Frame) {
     show_number(frame.n as u64);
     let state = header.state;
     match frame::health_of(state) {
-        HealthCode::Code(code) => show_number(code as u64),
-        HealthCode::Refused(number) => show_number(number as u64),
+        Ok(code) => show_number(code as u64),
+        Err(refusal) => show_number(refusal.number() as u64),
     }
 }
 
@@ -47,17 +29,17 @@ fn show_frame(frame: Frame) {
 fn show_kept(frame: Frame, buffer: &mut [u8]) {
     match journal::keep(frame, buffer) {
         Kept::Done(length) => {
-            io::write_all(STDOUT, b"kept");
+            print(b"kept");
             show_number(length as u64);
         }
         Kept::Refused(number) => {
-            io::write_all(STDOUT, b"refused");
+            print(b"refused");
             show_number(number as u64);
         }
     }
-    io::write_all(STDOUT, b":");
-    show_bytes(buffer);
-    io::write_all(STDOUT, b"\n");
+    print(b":");
+    print_bytes(buffer);
+    print(b"\n");
 }
 
 // Recalls a record, and writes the answer and the frame.
@@ -67,27 +49,24 @@ fn show_recalled(bytes: &[u8]) {
     let frame = recalled.frame;
     match answer {
         Found::Record(length) => {
-            io::write_all(STDOUT, b"recalled");
+            print(b"recalled");
             show_number(length as u64);
-            io::write_all(STDOUT, b":");
+            print(b":");
             show_frame(frame);
         }
         Found::Refused(number) => {
-            io::write_all(STDOUT, b"refused");
+            print(b"refused");
             show_number(number as u64);
         }
     }
-    io::write_all(STDOUT, b"\n");
+    print(b"\n");
 }
 
 // The null frame of station 5, sequence 3, health 0.
 fn null_frame(z: u16) -> Frame {
     let header = Header {
-        kind: 6,
-        station: 5,
         z,
-        sequence: 3,
-        state: State::Factor(100),
+        ..header_with(6)
     };
     let words = [0u32; 31];
     frame::built(header, 0, words)
@@ -108,15 +87,7 @@ fn keeping() {
 // A whole record with N 31, and the same one byte short.
 fn longest() {
     let mut record = [0xA5u8; 102];
-    record[0] = 0x52;
-    record[1] = 0x32;
-    record[2] = 31;
-    record[3] = 0x66;
-    record[4] = 0x18;
-    record[5] = 0x05;
-    record[6] = 0x03;
-    record[7] = 0x23;
-    record[8] = 0xF8;
+    record[..9].copy_from_slice(b"\x52\x32\x1F\x66\x18\x05\x03\x23\xF8");
     show_recalled(&record);
     show_recalled(&record[..101]);
 }

@@ -6,9 +6,6 @@ mod mending;
 mod show;
 mod worked;
 
-// The file number of standard output.
-pub(crate) const STDOUT: i32 = 1;
-
 fn main() {
     worked::show_sound();
     worked::show_single_bits();

@@ -90,5 +90,5 @@ pub(crate) fn show_other_word() {
 // A lost record whose N byte is 52 and a right mark behind it (52 34 52 34 ..): the record at the N byte is found.
 pub(crate) fn show_mark_behind_mark() {
     let mut journal = mark_and_third();
-    show(b"L", &mut journal[..21]);
+    show(b"L", &mut journal);
 }

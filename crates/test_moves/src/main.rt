@@ -4,29 +4,11 @@
 use frame::{Carried, Frame};
 use journal::{Found, Kept};
 use journal_moves::{Moved, Stop, Way};
-
-// The file number of standard output.
-const STDOUT: i32 = 1;
+use test_vectors::{print, print_bytes, print_number};
 
 // Writes a number with a space before it.
 fn show_number(n: u64) {
-    io::write_all(STDOUT, b" ");
-    io::print_decimal(STDOUT, n);
-}
-
-// Writes a byte in hexadecimal with a space before it.
-fn show_byte(byte: u8) {
-    io::write_all(STDOUT, b" ");
-    io::print_hex(STDOUT, byte as u64, 2);
-}
-
-// Writes bytes in hexadecimal, one after the other.
-fn show_bytes(bytes: &[u8]) {
-    let mut i = 0;
-    while i < bytes.len() {
-        show_byte(bytes[i]);
-        i += 1;
-    }
+    print_number(b" ", n);
 }
 
 // Writes what a move answered, and the bytes.
@@ -38,9 +20,9 @@ fn show_moved(moved: Moved, bytes: &[u8]) {
         }
         Moved::Refused(number) => show_number(number as u64),
     }
-    io::write_all(STDOUT, b":");
-    show_bytes(bytes);
-    io::write_all(STDOUT, b"\n");
+    print(b":");
+    print_bytes(bytes);
+    print(b"\n");
 }
 
 // Writes the record of a frame's words, the record of its data that this is moved to, and the one that this is moved to again.
@@ -49,12 +31,12 @@ fn show_words(frame: Frame, words: &mut [u8], data: &mut [u8]) {
         Kept::Done(length) => show_number(length as u64),
         Kept::Refused(number) => show_number(number as u64),
     }
-    io::write_all(STDOUT, b":");
-    show_bytes(words);
-    io::write_all(STDOUT, b"\n  old");
+    print(b":");
+    print_bytes(words);
+    print(b"\n  old");
     let old = journal_moves::restore(words, data);
     show_moved(old, data);
-    io::write_all(STDOUT, b"  new");
+    print(b"  new");
     let new = journal_moves::renew(data, words);
     show_moved(new, words);
 }
@@ -63,13 +45,9 @@ fn show_words(frame: Frame, words: &mut [u8], data: &mut [u8]) {
 fn show_after(d29: u8, d30: u8, record: &[u8], words: &mut [u8], data: &mut [u8]) {
     let recalled = journal::recall(record);
     let frame = recalled.frame;
-    let header = frame.header;
-    let all = frame.words;
     let live = Frame {
-        header,
         carried: Carried { d29, d30 },
-        n: frame.n,
-        words: all,
+        ..frame
     };
     show_words(live, words, data);
 }
@@ -81,83 +59,56 @@ fn show_recalled(bytes: &[u8]) {
     let frame = recalled.frame;
     match answer {
         Found::Record(length) => {
-            io::write_all(STDOUT, b"read");
+            print(b"read");
             show_number(length as u64);
             show_number(frame.carried.d29 as u64);
             show_number(frame.carried.d30 as u64);
             show_number(frame.header.kind as u64);
         }
         Found::Refused(number) => {
-            io::write_all(STDOUT, b"refused");
+            print(b"refused");
             show_number(number as u64);
         }
     }
-    io::write_all(STDOUT, b"\n");
+    print(b"\n");
 }
 
 // Moves a journal, and writes how far it went, why it stopped, and the records.
 fn show_journal(way: Way, bytes: &[u8], buffer: &mut [u8]) {
     let piece = journal_moves::move_all(way, bytes, buffer);
     let stop = piece.stop;
-    io::write_all(STDOUT, b"moved");
+    print(b"moved");
     show_number(piece.read as u64);
     show_number(piece.written as u64);
     match stop {
         Stop::End => {
-            io::write_all(STDOUT, b" end:");
+            print(b" end:");
         }
         Stop::At(number) => {
             show_number(number as u64);
-            io::write_all(STDOUT, b":");
+            print(b":");
         }
     }
-    show_bytes(buffer);
-    io::write_all(STDOUT, b"\n");
+    print_bytes(buffer);
+    print(b"\n");
 }
 
-// A to E: kept after each pair, and moved.
-fn keeping() {
+// A to C: the null frame without a word, kept after three pairs, and moved.
+fn pairs() {
+    let record = b"\x52\x32\x00\x66\x18\x05\x03\x23\x00";
     let mut words = [0u8; 11];
     let mut data = [0u8; 9];
-    show_after(
-        0,
-        0,
-        b"\x52\x32\x00\x66\x18\x05\x03\x23\x00",
-        &mut words,
-        &mut data,
-    );
-    show_after(
-        1,
-        1,
-        b"\x52\x32\x00\x66\x18\x05\x03\x23\x00",
-        &mut words,
-        &mut data,
-    );
-    show_after(
-        0,
-        1,
-        b"\x52\x32\x00\x66\x18\x05\x03\x23\x00",
-        &mut words,
-        &mut data,
-    );
-    let mut words = [0u8; 15];
-    let mut data = [0u8; 12];
-    show_after(
-        0,
-        0,
-        b"\x52\x32\x01\x66\x18\x05\x03\x23\x08\xaa\xaa\xaa",
-        &mut words,
-        &mut data,
-    );
-    let mut words = [0u8; 19];
-    let mut data = [0u8; 15];
-    show_after(
-        1,
-        0,
-        b"\x52\x32\x02\x66\x04\x05\x03\x23\x10\x03\x03\xe8\xfb\x4d\xaa",
-        &mut words,
-        &mut data,
-    );
+    show_after(0, 0, record, &mut words, &mut data);
+    show_after(1, 1, record, &mut words, &mut data);
+    show_after(0, 1, record, &mut words, &mut data);
+}
+
+// D and E: frames of one word and of two, kept and moved.
+fn longer() {
+    let one = b"\x52\x32\x01\x66\x18\x05\x03\x23\x08\xaa\xaa\xaa";
+    show_after(0, 0, one, &mut [0u8; 15], &mut [0u8; 12]);
+    let two = b"\x52\x32\x02\x66\x04\x05\x03\x23\x10\x03\x03\xe8\xfb\x4d\xaa";
+    show_after(1, 0, two, &mut [0u8; 19], &mut [0u8; 15]);
 }
 
 // F: the refusals, in the order of their tests, and a byte more behind a record.
@@ -196,7 +147,8 @@ fn journals() {
 }
 
 fn main() {
-    keeping();
+    pairs();
+    longer();
     refusals();
     journals();
 }

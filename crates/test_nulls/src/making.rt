@@ -1,5 +1,5 @@
 // What making answers where more than one word is wanted.
-use frame::{Header, State};
+use frame::Header;
 use test_vectors::{header_with, print_outcome};
 
 // Makes a null frame of N words.
@@ -10,11 +10,9 @@ fn null(name: &[u8], header: Header, n: usize) {
 // A header of type 6 with that Z count and sequence.
 fn header_at(z: u16, sequence: u8) -> Header {
     Header {
-        kind: 6,
-        station: 5,
         z,
         sequence,
-        state: State::Factor(100),
+        ..header_with(6)
     }
 }
 

@@ -24,11 +24,10 @@ fn show_other(name: &[u8], word: u32) {
 // The last Z count, sequence and health.
 fn last_header() -> Header {
     Header {
-        kind: 6,
-        station: 5,
         z: 5999,
         sequence: 7,
         state: State::Down,
+        ..header_with(6)
     }
 }
 

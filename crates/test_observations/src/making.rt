@@ -1,7 +1,7 @@
 // What making answers at the ends of the ranges and of the counts, and past them.
 use crate::entries::{phase_of, range_of};
 use crate::vectors::head;
-use frame::{Header, State};
+use frame::Header;
 use record_observations::{Edition, Epoch, Mark, Observation};
 use test_vectors::{header_with, print_outcome};
 
@@ -14,8 +14,8 @@ fn one(name: &[u8], edition: Edition, kind: u8, e: Observation) {
     );
 }
 
-// The marks and the numbers of each edition and type.
-fn satellites() {
+// The marks of each edition and type, and the highest numbers beside them.
+fn marks() {
     one(
         b"18, edition GOST, half 1, quality 7, losses 31: ",
         Edition::Gost,
@@ -46,6 +46,10 @@ fn satellites() {
         19,
         range_of(Mark::More(1), 0, 0, 1, 15, 15, 0),
     );
+}
+
+// What is no number of the type.
+fn numbers() {
     one(
         b"19, a phase: ",
         Edition::Gost,
@@ -69,11 +73,8 @@ fn satellites() {
 // Makes satellites of zeros under a head.
 fn under(name: &[u8], z: u16, epoch: Epoch, count: usize) {
     let header = Header {
-        kind: 18,
-        station: 5,
         z,
-        sequence: 3,
-        state: State::Factor(100),
+        ..header_with(18)
     };
     let e = phase_of(Mark::Half(0), 0, 0, 1, 0, 0, 0);
     print_outcome(
@@ -100,6 +101,7 @@ fn heads() {
 
 // What making answers.
 pub(crate) fn print_answers() {
-    satellites();
+    marks();
+    numbers();
     heads();
 }

@@ -1,5 +1,5 @@
 // What reading answers: one frame's words under both types and editions, every other N, a time past its range.
-use crate::show::{print_at, print_count, print_head};
+use crate::show::{named_count, print_at, print_head};
 use frame::Frame;
 use record_observations::Edition;
 use test_vectors::{frame_of, print};
@@ -24,19 +24,19 @@ fn words() {
 
 // N is 3, 5, .. 31.
 fn counts() {
-    print_count(b"18, N 0: ", blank(18, 0));
-    print_count(b"18, N 1: ", blank(18, 1));
-    print_count(b"18, N 2: ", blank(18, 2));
-    print_count(b"18, N 30: ", blank(18, 30));
-    print_count(b"18, N 31: ", blank(18, 31));
-    print_count(b"20, N 3: ", blank(20, 3));
+    named_count(b"18, N 0: ", blank(18, 0));
+    named_count(b"18, N 1: ", blank(18, 1));
+    named_count(b"18, N 2: ", blank(18, 2));
+    named_count(b"18, N 30: ", blank(18, 30));
+    named_count(b"18, N 31: ", blank(18, 31));
+    named_count(b"20, N 3: ", blank(20, 3));
 }
 
 // A time of 600000: the count does not look at it, 9 comes before it.
 fn late() {
     let data = [0x0927C0u32, 0x010000, 0];
     let frame = frame_of(0x664805, 0x032318, &data);
-    print_count(b"18, time 600000, count: ", frame);
+    named_count(b"18, time 600000, count: ", frame);
     print(b"head: ");
     print_head(frame);
     print(b"satellite 0: ");

@@ -3,8 +3,7 @@ use frame::Frame;
 use record_observations::{
     Edition, Epoch, EpochRead, Mark, Measured, Observation, ObservationRead,
 };
-use record_stages::Count;
-use test_vectors::{print, print_number, print_refusal, print_signed};
+use test_vectors::{print, print_count, print_each, print_number, print_refusal, print_signed};
 
 // Writes the head of a frame.
 fn print_epoch(epoch: Epoch) {
@@ -66,16 +65,10 @@ pub(crate) fn print_at(edition: Edition, frame: Frame, index: usize) {
     }
 }
 
-// Writes the count of a frame.
-pub(crate) fn print_count(name: &[u8], frame: Frame) {
+// Writes the name of a case and the count of a frame.
+pub(crate) fn named_count(name: &[u8], frame: Frame) {
     print(name);
-    match record_observations::count_observations(frame) {
-        Count::Of(count) => {
-            print_number(b"", count as u64);
-            print(b"\n");
-        }
-        Count::Refused(number) => print_refusal(number),
-    }
+    print_count(b"", record_observations::count_observations(frame));
 }
 
 // Writes satellite number `index` of a frame in both editions.
@@ -89,14 +82,8 @@ fn print_both(frame: Frame, index: usize) {
 // Writes the head of a frame, and every satellite in both editions.
 pub(crate) fn print_record(frame: Frame) {
     print_head(frame);
-    match record_observations::count_observations(frame) {
-        Count::Of(count) => {
-            let mut i = 0;
-            while i < count {
-                print_both(frame, i);
-                i += 1;
-            }
-        }
-        Count::Refused(number) => print_refusal(number),
-    }
+    print_each(
+        record_observations::count_observations(frame),
+        |i| print_both(frame, i),
+    );
 }

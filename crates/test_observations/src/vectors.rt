@@ -134,60 +134,21 @@ fn numbered(edition: Edition, i: u8) -> Observation {
     )
 }
 
+// As many satellites as a frame holds.
 fn fifteen(edition: Edition) -> [Observation; 15] {
-    [
-        numbered(edition, 0),
-        numbered(edition, 1),
-        numbered(edition, 2),
-        numbered(edition, 3),
-        numbered(edition, 4),
-        numbered(edition, 5),
-        numbered(edition, 6),
-        numbered(edition, 7),
-        numbered(edition, 8),
-        numbered(edition, 9),
-        numbered(edition, 10),
-        numbered(edition, 11),
-        numbered(edition, 12),
-        numbered(edition, 13),
-        numbered(edition, 14),
-    ]
+    std::array::from_fn(|i| numbered(edition, (i % 15) as u8))
 }
 
+// The words of fifteen satellites.
+const FIFTEEN_WORDS: [u32; 31] = [
+    0xA1E240, 0x010F00, 0x000000, 0xC21E3B, 0x9ACA07, 0x032D77, 0x35940E, 0xC43CB2, 0xD05E15,
+    0x054BEE, 0x6B281C, 0xC65A2A, 0x05F223, 0x076965, 0xA0BC2A, 0xC878A1, 0x3B8631, 0x0987DC,
+    0xD65038, 0xCA9618, 0x711A3F, 0x0BA554, 0x0BE446, 0xCCB48F, 0xA6AE4D, 0x0DC3CB, 0x417854,
+    0xCED206, 0xDC425B, 0x0FE142, 0x770C62,
+];
+
 fn o19c() {
-    let data = [
-        0xA1E240u32,
-        0x010F00,
-        0x000000,
-        0xC21E3B,
-        0x9ACA07,
-        0x032D77,
-        0x35940E,
-        0xC43CB2,
-        0xD05E15,
-        0x054BEE,
-        0x6B281C,
-        0xC65A2A,
-        0x05F223,
-        0x076965,
-        0xA0BC2A,
-        0xC878A1,
-        0x3B8631,
-        0x0987DC,
-        0xD65038,
-        0xCA9618,
-        0x711A3F,
-        0x0BA554,
-        0x0BE446,
-        0xCCB48F,
-        0xA6AE4D,
-        0x0DC3CB,
-        0x417854,
-        0xCED206,
-        0xDC425B,
-        0x0FE142,
-        0x770C62,
-    ];
+    let data = FIFTEEN_WORDS;
     show(
         b"O19c",
         head(2, 2, 123456),

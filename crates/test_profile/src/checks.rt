@@ -1,8 +1,9 @@
 // What the checker answers.
-use crate::entries::{entry, zeros_for};
+use crate::entries::zeros_for;
 use frame::Frame;
 use profile::Profile;
 use record_corrections::Correction;
+use test_vectors::corrections::with_iod;
 use test_vectors::{frame_of, header_with, print, print_refusal};
 
 // Writes the name of a case, and whether the frame is in the profile.
@@ -17,22 +18,14 @@ fn check(name: &[u8], frame: Frame) {
 // Checks a frame of that type with four corrections, or with the first of them.
 fn list(name: &[u8], kind: u8, four: [Correction; 4], count: usize) {
     let mut all = [four[0]; 18];
-    all[1] = four[1];
-    all[2] = four[2];
-    all[3] = four[3];
+    all[..4].copy_from_slice(&four);
     let made = record_corrections::make_corrections(header_with(kind), all, count);
     check(name, made.frame);
 }
 
 // Checks a frame of that type for these satellites, or for the first of them.
 fn satellites(name: &[u8], kind: u8, numbers: [u8; 4], count: usize) {
-    let four = [
-        zeros_for(numbers[0]),
-        zeros_for(numbers[1]),
-        zeros_for(numbers[2]),
-        zeros_for(numbers[3]),
-    ];
-    list(name, kind, four, count);
+    list(name, kind, numbers.map(zeros_for), count);
 }
 
 // Type 9, and the types that are not of the profile.
@@ -41,7 +34,7 @@ pub(crate) fn print_corrections() {
     satellites(b"9, satellites 1 2 1: ", 9, [1, 2, 1, 4], 3);
     satellites(b"9, satellites 1 2 3 4: ", 9, [1, 2, 3, 4], 4);
     satellites(b"9, satellites 1 1 1 1: ", 9, [1, 1, 1, 1], 4);
-    let stop = entry(0, 0, 1, -32768, 0, 0);
+    let stop = with_iod(0, 0, 1, -32768, 0, 0);
     list(b"9, a stop entry: ", 9, [stop; 4], 1);
     let zeros = [0x0103E8u32, 0xFB0100];
     check(b"9, fill of zeros: ", frame_of(0x662405, 0x032310, &zeros));

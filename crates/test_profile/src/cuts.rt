@@ -1,25 +1,16 @@
 // What the sender cuts, and what it refuses.
 use crate::entries::{worked, zeros_for};
-use frame::{Frame, Header, State};
+use frame::{Frame, Header};
 use profile::{Cut, Cutting};
 use record_corrections::Correction;
-use test_vectors::{print, print_frame, print_number, print_refusal};
+use test_vectors::{header_with, print, print_frame, print_number, print_refusal};
 
 // The header of a type, a Z count and a sequence: station 5, health 0.
 fn header_of(kind: u8, z: u16, sequence: u8) -> Header {
     Header {
-        kind,
-        station: 5,
         z,
         sequence,
-        state: State::Factor(100),
-    }
-}
-
-// Writes frame number `i`, where there are as many.
-fn print_at(i: usize, number: usize, frame: Frame) {
-    if i < number {
-        print_frame(frame);
+        ..header_with(kind)
     }
 }
 
@@ -27,12 +18,9 @@ fn print_at(i: usize, number: usize, frame: Frame) {
 fn print_frames(frames: [Frame; 6], number: usize) {
     print_number(b"frames ", number as u64);
     print(b"\n");
-    print_at(0, number, frames[0]);
-    print_at(1, number, frames[1]);
-    print_at(2, number, frames[2]);
-    print_at(3, number, frames[3]);
-    print_at(4, number, frames[4]);
-    print_at(5, number, frames[5]);
+    for frame in frames.iter().take(number) {
+        print_frame(*frame);
+    }
 }
 
 // Writes the name of a list, and its frames or the refusal's number.

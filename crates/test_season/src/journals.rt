@@ -8,91 +8,48 @@ const SPLIT: usize = 45;
 
 const SIZE: usize = 168;
 
-// Writes a record into the journal from `at` on, and answers where it ends.
-fn put(record: &[u8], at: usize, journal: &mut [u8; SIZE]) -> usize {
-    let mut end = at;
-    let mut i: usize = 0;
-    while i < record.len() {
-        if end < SIZE {
-            journal[end] = record[i];
-            end += 1;
-        }
-        i += 1;
-    }
-    end
-}
-
 // The first two frames, of types 1 and 9.
-fn put_first(at: usize, journal: &mut [u8; SIZE]) -> usize {
-    let mut end = at;
-    end = put(
+fn put_first(journal: &mut [u8; SIZE]) {
+    journal[..21].copy_from_slice(
         b"\x52\x32\x04\x66\x04\x05\x03\x23\x20\x03\x03\xE8\xFB\x01\x87\x80\x01\x00\x01\xAA\xAA",
-        end,
-        journal,
     );
-    put(
+    journal[21..SPLIT].copy_from_slice(
         b"\x52\x32\x05\x66\x24\x05\x03\x23\x28\x03\x80\x00\x00\x01\x00\x00\x05\x80\x01\x03\xFF\xFF\x00\x02",
-        end,
-        journal,
-    )
+    );
 }
 
 // Four frames of types 31 and 34; in one of three entries a time can't be read, and one is null.
-fn put_glonass(at: usize, journal: &mut [u8; SIZE]) -> usize {
-    let mut end = at;
-    end = put(
+fn put_glonass(journal: &mut [u8; SIZE]) {
+    journal[SPLIT..60].copy_from_slice(
         b"\x52\x32\x02\x66\x7C\x05\x03\x23\x10\x83\x7F\xFF\x00\x07\xAA",
-        end,
-        journal,
     );
-    end = put(
-        b"\x52\x32\x01\x66\x88\x05\x03\x23\x08\xAA\xAA\xAA",
-        end,
-        journal,
-    );
-    end = put(
+    journal[60..72].copy_from_slice(b"\x52\x32\x01\x66\x88\x05\x03\x23\x08\xAA\xAA\xAA");
+    journal[72..87].copy_from_slice(
         b"\x52\x32\x02\x66\x88\x06\x03\x23\x10\x03\x00\x00\x00\xF7\xAA",
-        end,
-        journal,
     );
-    put(
+    journal[87..108].copy_from_slice(
         b"\x52\x32\x04\x66\x7C\x07\x03\x23\x20\x03\x03\xE8\xFB\x4D\x01\x00\x01\xFF\x78\xAA\xAA",
-        end,
-        journal,
-    )
+    );
 }
 
 // Four of which the last alone is counted: N 3, Z 6000, a text, and a frame of type 1.
-fn put_last(at: usize, journal: &mut [u8; SIZE]) -> usize {
-    let mut end = at;
-    end = put(
+fn put_last(journal: &mut [u8; SIZE]) {
+    journal[108..126].copy_from_slice(
         b"\x52\x32\x03\x66\x04\x05\x03\x23\x18\x00\x00\x00\x00\x00\x00\x00\x00\x00",
-        end,
-        journal,
     );
-    end = put(
+    journal[126..141].copy_from_slice(
         b"\x52\x32\x02\x66\x04\x05\xBB\x83\x10\x03\x03\xE8\xFB\x4D\xAA",
-        end,
-        journal,
     );
-    end = put(
-        b"\x52\x32\x01\x66\x40\x05\x03\x23\x08\x41\x00\x00",
-        end,
-        journal,
-    );
-    put(
-        b"\x52\x32\x02\x66\x04\x05\x03\x23\x10\x87\x80\x01\x01\x01\xAA",
-        end,
-        journal,
-    )
+    journal[141..153].copy_from_slice(b"\x52\x32\x01\x66\x40\x05\x03\x23\x08\x41\x00\x00");
+    journal[153..].copy_from_slice(b"\x52\x32\x02\x66\x04\x05\x03\x23\x10\x87\x80\x01\x01\x01\xAA");
 }
 
 // The ten records, in the form that keeps the data.
 fn journal() -> [u8; SIZE] {
     let mut bytes = [0u8; SIZE];
-    let first = put_first(0, &mut bytes);
-    let glonass = put_glonass(first, &mut bytes);
-    put_last(glonass, &mut bytes);
+    put_first(&mut bytes);
+    put_glonass(&mut bytes);
+    put_last(&mut bytes);
     bytes
 }
 

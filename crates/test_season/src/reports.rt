@@ -58,10 +58,8 @@ pub(crate) fn of_two(used: usize, first: Row, second: Row) -> Report {
 pub(crate) fn of_all(used: usize, first: Row) -> Report {
     let blank = season_reports::empty();
     let mut rows = blank.rows;
-    let mut i: usize = 0;
-    while i < 512 {
-        rows[i] = stop_of((i / 32) as u16, (1 + i % 32) as u8);
-        i += 1;
+    for (i, row) in rows.iter_mut().enumerate() {
+        *row = stop_of((i / 32) as u16, (1 + i % 32) as u8);
     }
     rows[0] = first;
     Report { used, rows }

@@ -12,7 +12,7 @@ fn print_sum(sum: i64) {
     if sum < 0 {
         print(b"-");
     }
-    io::print_decimal(STDOUT, printing::magnitude(sum));
+    io::print_decimal(STDOUT, sum.unsigned_abs());
 }
 
 // Writes the number of a system.
@@ -51,45 +51,33 @@ fn print_row(row: Row) {
 
 // Writes the rows of a report.
 pub(crate) fn print_report(report: Report) {
-    let rows = report.rows;
-    let used = report.used;
-    let mut i: usize = 0;
-    while i < 512 {
-        if i < used {
-            let row = rows[i];
-            print_row(row);
+    for row in report.rows.iter().take(report.used) {
+        print_row(*row);
+    }
+}
+
+// Writes a refusal, or the sum.
+fn print_answer<F: FnOnce(Report)>(added: Added, print_sum: F)
+    requires { F.IsAlwaysCallable print_sum }
+{
+    match added.answer {
+        Adding::Done => print_sum(added.report),
+        Adding::Refused(number) => {
+            print_number(b"refusal ", number as u64);
+            print(b"\n");
         }
-        i += 1;
     }
 }
 
 // Writes a refusal, or the rows of the sum.
 pub(crate) fn print_added(added: Added) {
-    let answer = added.answer;
-    match answer {
-        Adding::Done => {
-            let report = added.report;
-            print_report(report);
-        }
-        Adding::Refused(number) => {
-            print_number(b"refusal ", number as u64);
-            print(b"\n");
-        }
-    }
+    print_answer(added, print_report);
 }
 
 // Writes a refusal, or how many rows the sum has.
 pub(crate) fn print_size(added: Added) {
-    let answer = added.answer;
-    match answer {
-        Adding::Done => {
-            let report = added.report;
-            print_number(b"", report.used as u64);
-            print(b" rows\n");
-        }
-        Adding::Refused(number) => {
-            print_number(b"refusal ", number as u64);
-            print(b"\n");
-        }
-    }
+    print_answer(added, |report| {
+        print_number(b"", report.used as u64);
+        print(b" rows\n");
+    });
 }

@@ -1,7 +1,7 @@
 // A frame's record: its fields are summed in the order sent, and made into a frame again.
 use crate::generals::generals_again;
 use crate::observed::observed;
-use crate::sum::{Sum, with_byte, with_bytes, with_number};
+use crate::sum::Sum;
 use frame::{Frame, Layout};
 use record_corrections::{Correction, CorrectionRead, Issue};
 use record_healths::{Condition, HealthRead, SatelliteHealth};
@@ -23,7 +23,7 @@ pub(crate) fn refused(sum: Sum, number: u8) -> Again {
         frame: frame::no_frame(),
     };
     Again {
-        sum: with_byte(sum, number),
+        sum: sum.byte(number),
         made,
     }
 }
@@ -31,45 +31,44 @@ pub(crate) fn refused(sum: Sum, number: u8) -> Again {
 // A sum, with what the last eight bits of a correction say.
 fn with_issue(sum: Sum, issue: Issue) -> Sum {
     match issue {
-        Issue::Iod(iod) => with_byte(sum, iod),
-        Issue::Age(change, tb) => with_byte(with_byte(sum, change), tb),
+        Issue::Iod(iod) => sum.byte(iod),
+        Issue::Age(change, tb) => sum.byte(change).byte(tb),
     }
 }
 
 // A sum, with the fields of a correction.
 fn with_correction(sum: Sum, e: Correction) -> Sum {
-    let named = with_byte(with_byte(with_byte(sum, e.scale), e.udre), e.satellite);
-    let prc = with_number(named, record_fields::code16(e.prc));
-    let rrc = with_number(prc, record_fields::code8(e.rrc));
-    let issue = e.issue;
-    with_issue(rrc, issue)
+    let named = sum.byte(e.scale).byte(e.udre).byte(e.satellite);
+    let values = named
+        .number(record_fields::code16(e.prc))
+        .number(record_fields::code8(e.rrc));
+    with_issue(values, e.issue)
 }
 
 // A sum, with what the three health bits say.
 fn with_condition(sum: Sum, health: Condition) -> Sum {
     match health {
-        Condition::Code(code) => with_byte(sum, code),
-        Condition::Data(data, reserved) => with_byte(with_byte(sum, data), reserved),
+        Condition::Code(code) => sum.byte(code),
+        Condition::Data(data, reserved) => sum.byte(data).byte(reserved),
     }
 }
 
 // A sum, with the fields of a satellite's health.
 fn with_health(sum: Sum, e: SatelliteHealth) -> Sum {
-    let link = with_byte(with_byte(with_byte(sum, e.reserved), e.satellite), e.link);
-    let health = e.health;
-    let condition = with_condition(link, health);
-    let enable = with_byte(with_byte(condition, e.cn0), e.enable);
-    let time = with_byte(with_byte(with_byte(enable, e.new_data), e.loss), e.time);
-    with_byte(time, e.spare)
+    let link = sum.byte(e.reserved).byte(e.satellite).byte(e.link);
+    let enable = with_condition(link, e.health).byte(e.cn0).byte(e.enable);
+    enable
+        .byte(e.new_data)
+        .byte(e.loss)
+        .byte(e.time)
+        .byte(e.spare)
 }
 
 // A sum, with the three numbers of a position.
 fn with_position(sum: Sum, place: Position) -> Sum {
-    let y = with_number(
-        with_number(sum, record_fields::code32(place.x)),
-        record_fields::code32(place.y),
-    );
-    with_number(y, record_fields::code32(place.z))
+    sum.number(place.x.cast_unsigned())
+        .number(place.y.cast_unsigned())
+        .number(place.z.cast_unsigned())
 }
 
 // A correction of zeros, for the places past the count.
@@ -88,21 +87,14 @@ fn zeros() -> Correction {
 fn corrections(frame: Frame, count: usize, before: Sum) -> Again {
     let mut entries = [zeros(); 18];
     let mut sum = before;
-    let mut i: usize = 0;
-    while i < 18 {
-        if i >= count {
-            break;
-        }
+    for (i, place) in entries.iter_mut().take(count).enumerate() {
         match record_corrections::correction_at(frame, i) {
             CorrectionRead::Entry(entry) => {
-                entries[i] = entry;
+                *place = entry;
                 sum = with_correction(sum, entry);
             }
-            CorrectionRead::Refused(number) => {
-                return refused(sum, number);
-            }
+            CorrectionRead::Refused(number) => return refused(sum, number),
         }
-        i += 1;
     }
     let made = record_corrections::make_corrections(frame.header, entries, count);
     Again { sum, made }
@@ -129,16 +121,10 @@ fn health_or_zeros(frame: Frame, index: usize) -> SatelliteHealth {
 
 // The first `count` entries, summed and made into a frame.
 fn healths(frame: Frame, count: usize, before: Sum) -> Again {
-    let mut entries = [health_or_zeros(frame, 0); 31];
+    let entries: [SatelliteHealth; 31] = std::array::from_fn(|i| health_or_zeros(frame, i));
     let mut sum = before;
-    let mut i: usize = 0;
-    while i < 31 {
-        let entry = health_or_zeros(frame, i);
-        entries[i] = entry;
-        if i < count {
-            sum = with_health(sum, entry);
-        }
-        i += 1;
+    for entry in entries.iter().take(count) {
+        sum = with_health(sum, *entry);
     }
     let made = record_healths::make_healths(frame.header, entries, count);
     Again { sum, made }
@@ -148,17 +134,14 @@ fn healths(frame: Frame, count: usize, before: Sum) -> Again {
 fn text(frame: Frame, sum: Sum) -> Again {
     let mut buffer = [0u8; 90];
     match record_texts::read_text(frame, &mut buffer) {
-        Count::Of(count) => {
+        Count::Of(count) => match buffer.get(..count) {
+            Some(text) => Again {
+                sum: sum.bytes(text),
+                made: record_texts::make_text(frame.header, text),
+            },
             // never so: no frame has more characters
-            if 90 < count {
-                return refused(sum, 13);
-            }
-            let made = record_texts::make_text(frame.header, &buffer[..count]);
-            Again {
-                sum: with_bytes(sum, &buffer[..count]),
-                made,
-            }
-        }
+            None => refused(sum, 13),
+        },
         Count::Refused(number) => refused(sum, number),
     }
 }
@@ -178,7 +161,7 @@ fn position(frame: Frame, sum: Sum) -> Again {
 fn null(frame: Frame, sum: Sum) -> Again {
     match record_nulls::read_null(frame) {
         NullRead::Null(n) => Again {
-            sum: with_number(sum, (n % 32) as u32),
+            sum: sum.number((n % 32) as u32),
             made: record_nulls::make_null(frame.header, n),
         },
         NullRead::Refused(number) => refused(sum, number),

@@ -1,7 +1,6 @@
 // What a health entry's time and a Z count stand for, at the ends of their ranges and past them.
-use crate::STDOUT;
-use crate::tally::print_number;
 use record_values::{SinceHour, Time};
+use test_vectors::{print, print_number};
 
 // Writes a time code and its minutes, or the refusal's number.
 fn print_minutes(code: u8) {
@@ -10,7 +9,7 @@ fn print_minutes(code: u8) {
         Time::Minutes(minutes) => print_number(b" minutes ", minutes as u64),
         Time::Refused(number) => print_number(b" refused ", number as u64),
     }
-    io::write_all(STDOUT, b"\n");
+    print(b"\n");
 }
 
 // Writes a Z count and its tenths of a second, or the refusal's number.
@@ -20,7 +19,7 @@ fn print_tenths(z: u16) {
         SinceHour::Tenths(tenths) => print_number(b" tenths ", tenths as u64),
         SinceHour::Refused(number) => print_number(b" refused ", number as u64),
     }
-    io::write_all(STDOUT, b"\n");
+    print(b"\n");
 }
 
 // Writes both at the first and the last number of each answer.

@@ -1,15 +1,16 @@
 // A frame of types 41 and 42: its record, a list behind a head or null, is summed and made into a frame again.
 use crate::again::{Again, refused};
-use crate::sum::{Sum, with_byte, with_number};
+use crate::sum::Sum;
 use frame::Frame;
 use record_generals::{General, GeneralHead, GeneralNullRead, GeneralRead, HeadRead};
 use record_stages::Count;
 
 // A sum, with the fields of a satellite.
 fn with_general(sum: Sum, e: General) -> Sum {
-    let named = with_byte(with_byte(with_byte(sum, e.satellite), e.udre), e.iod);
-    let prc = with_number(named, record_fields::code16(e.prc));
-    with_number(prc, e.delay as u32)
+    let named = sum.byte(e.satellite).byte(e.udre).byte(e.iod);
+    named
+        .number(record_fields::code16(e.prc))
+        .number(u32::from(e.delay))
 }
 
 // A satellite of zeros, for the places past the count.
@@ -27,21 +28,14 @@ fn zeros() -> General {
 fn satellites(frame: Frame, head: GeneralHead, count: usize, before: Sum) -> Again {
     let mut entries = [zeros(); 22];
     let mut sum = before;
-    let mut i: usize = 0;
-    while i < 22 {
-        if i >= count {
-            break;
-        }
+    for (i, place) in entries.iter_mut().take(count).enumerate() {
         match record_generals::general_at(frame, i) {
             GeneralRead::Entry(entry) => {
-                entries[i] = entry;
+                *place = entry;
                 sum = with_general(sum, entry);
             }
-            GeneralRead::Refused(number) => {
-                return refused(sum, number);
-            }
+            GeneralRead::Refused(number) => return refused(sum, number),
         }
-        i += 1;
     }
     let made = record_generals::make_generals(frame.header, head, entries, count);
     Again { sum, made }
@@ -49,9 +43,11 @@ fn satellites(frame: Frame, head: GeneralHead, count: usize, before: Sum) -> Aga
 
 // A sum, with the five numbers of a head.
 fn with_head(sum: Sum, head: GeneralHead) -> Sum {
-    let signal = with_byte(with_byte(sum, head.system), head.signal);
-    let period = with_byte(with_byte(signal, head.ephemeris), head.period);
-    with_byte(period, head.ionosphere)
+    let signal = sum.byte(head.system).byte(head.signal);
+    signal
+        .byte(head.ephemeris)
+        .byte(head.period)
+        .byte(head.ionosphere)
 }
 
 // The head and the satellites, summed and made into a frame.
@@ -69,7 +65,7 @@ fn list(frame: Frame, sum: Sum) -> Again {
 fn null(frame: Frame, sum: Sum) -> Again {
     match record_generals::read_general_null(frame) {
         GeneralNullRead::Null(n, system) => Again {
-            sum: with_byte(with_number(sum, (n % 32) as u32), system),
+            sum: sum.number((n % 32) as u32).byte(system),
             made: record_generals::make_general_null(frame.header, n, system),
         },
         GeneralNullRead::Refused(number) => refused(sum, number),
@@ -78,12 +74,8 @@ fn null(frame: Frame, sum: Sum) -> Again {
 
 // Null where the type is 42 and N is 1, else a list.
 pub(crate) fn generals_again(frame: Frame, sum: Sum) -> Again {
-    let header = frame.header;
-    if header.kind != 42 {
-        return list(frame, sum);
+    match (frame.header.kind, frame.n) {
+        (42, 1) => null(frame, sum),
+        _ => list(frame, sum),
     }
-    if frame.n != 1 {
-        return list(frame, sum);
-    }
-    null(frame, sum)
 }

@@ -17,23 +17,10 @@ use std::alloc::Global;
 use std::env::{Env, FillError};
 use std::fs::File;
 use std::io::{Error, ErrorKind, Read};
-
-// The file number of standard output.
-pub(crate) const STDOUT: i32 = 1;
+use test_vectors::print;
 
 // The file number of standard error.
 const STDERR: i32 = 2;
-
-// Where the next piece ends: `size` bytes after `at`, or at the end of the bytes.
-fn piece_end(at: usize, size: usize, bytes: &[u8]) -> usize
-    requires { at ≤ length bytes.now }
-    ensures { (at ≤ result) × (result ≤ length bytes.now) }
-{
-    if bytes.len() - at < size {
-        return bytes.len();
-    }
-    at + size
-}
 
 // A listing under way: bytes of the last piece used, bytes of text written in all.
 #[derive(Clone, Copy)]
@@ -73,8 +60,9 @@ fn list_pieces(bytes: &[u8], size: usize, text: &mut [u8]) -> usize
     let mut state = listing::new();
     let mut at: usize = 0;
     let mut written: usize = 0;
+    // kept: no index is counted here, the listing says how many bytes of a piece it used
     while at < bytes.len() {
-        let end = piece_end(at, size, bytes);
+        let end = at + size.min(bytes.len() - at);
         let lined = put_piece(state, &bytes[at..end], written, text);
         let used = lined.used;
         written = lined.written;
@@ -94,10 +82,10 @@ fn list_twice(bytes: &[u8]) {
     let mut parts = io::large_buffer();
     let n = list_pieces(bytes, 4096, &mut whole);
     let m = list_pieces(bytes, 7, &mut parts);
-    io::write_all(STDOUT, &whole[..n]);
+    print(&whole[..n]);
     if !check::same(&whole[..n], &parts[..m]) {
-        io::write_all(STDOUT, b"in pieces:\n");
-        io::write_all(STDOUT, &parts[..m]);
+        print(b"in pieces:\n");
+        print(&parts[..m]);
     }
 }
 
@@ -106,6 +94,7 @@ fn read_full(mut file: File, bytes: &mut [u8]) -> usize
     ensures { IsPrefixLen result bytes.new }
 {
     let mut done: usize = 0;
+    // kept: no index is counted here, each read says how many bytes came
     while done < bytes.len() {
         match file.read(&mut bytes[done..]) {
             Ok(0) => return done,
@@ -152,8 +141,8 @@ fn say_failure(alloc: Global, name: &[u8], error: Error) {
 
 // Lists the file of a name, which is written first.
 fn try_name(rt: &HostRuntime, name: &[u8]) {
-    io::write_all(STDOUT, name);
-    io::write_all(STDOUT, b"\n");
+    print(name);
+    print(b"\n");
     match open_read(rt, name) {
         Ok(file) => list_file(file),
         Err(error) => say_failure(rt.alloc(), name, error),
@@ -172,12 +161,10 @@ fn try_file(rt: &HostRuntime, i: usize) -> bool {
 }
 
 fn main(rt: HostRuntime) {
-    let mut i: usize = 1;
-    while i < usize::MAX {
+    for i in 1..usize::MAX {
         if !try_file(&rt, i) {
             break;
         }
-        i += 1;
     }
     ends::print_ends();
 }

@@ -1,6 +1,6 @@
 // A frame of types 18 and 19: its record is summed as an edition reads it, and made into a frame again.
 use crate::again::{Again, refused};
-use crate::sum::{Sum, with_byte, with_number};
+use crate::sum::Sum;
 use frame::Frame;
 use record_observations::{
     Edition, Epoch, EpochRead, Mark, Measured, Observation, ObservationRead,
@@ -10,31 +10,27 @@ use record_stages::Count;
 // A sum, with what the first bit says: which mark it is, and its bit.
 fn with_mark(sum: Sum, mark: Mark) -> Sum {
     match mark {
-        Mark::Half(bit) => with_byte(with_byte(sum, 0), bit),
-        Mark::Reserved(bit) => with_byte(with_byte(sum, 1), bit),
-        Mark::More(bit) => with_byte(with_byte(sum, 2), bit),
+        Mark::Half(bit) => sum.byte(0).byte(bit),
+        Mark::Reserved(bit) => sum.byte(1).byte(bit),
+        Mark::More(bit) => sum.byte(2).byte(bit),
     }
 }
 
 // A sum, with what was measured.
 fn with_measured(sum: Sum, measured: Measured) -> Sum {
     match measured {
-        Measured::Phase(losses, phase) => with_number(
-            with_byte(sum, losses),
-            record_fields::code32(phase),
-        ),
-        Measured::Range(multipath, range) => with_number(with_byte(sum, multipath), range),
+        Measured::Phase(losses, phase) => sum.byte(losses).number(phase.cast_unsigned()),
+        Measured::Range(multipath, range) => sum.byte(multipath).number(range),
     }
 }
 
 // A sum, with the fields of an observation.
 fn with_observation(sum: Sum, e: Observation) -> Sum {
-    let mark = e.mark;
-    let first = with_mark(sum, mark);
-    let named = with_byte(with_byte(with_byte(first, e.code), e.system), e.satellite);
-    let quality = with_byte(named, e.quality);
-    let measured = e.measured;
-    with_measured(quality, measured)
+    let named = with_mark(sum, e.mark)
+        .byte(e.code)
+        .byte(e.system)
+        .byte(e.satellite);
+    with_measured(named.byte(e.quality), e.measured)
 }
 
 // An observation of zeros, for the places past the count.
@@ -53,21 +49,14 @@ fn zeros() -> Observation {
 fn satellites(edition: Edition, frame: Frame, epoch: Epoch, count: usize, before: Sum) -> Again {
     let mut entries = [zeros(); 15];
     let mut sum = before;
-    let mut i: usize = 0;
-    while i < 15 {
-        if i >= count {
-            break;
-        }
+    for (i, place) in entries.iter_mut().take(count).enumerate() {
         match record_observations::observation_at(edition, frame, i) {
             ObservationRead::Entry(entry) => {
-                entries[i] = entry;
+                *place = entry;
                 sum = with_observation(sum, entry);
             }
-            ObservationRead::Refused(number) => {
-                return refused(sum, number);
-            }
+            ObservationRead::Refused(number) => return refused(sum, number),
         }
-        i += 1;
     }
     let made = record_observations::make_observations(edition, frame.header, epoch, entries, count);
     Again { sum, made }
@@ -75,10 +64,9 @@ fn satellites(edition: Edition, frame: Frame, epoch: Epoch, count: usize, before
 
 // A sum, with the three numbers of a head.
 fn with_epoch(sum: Sum, epoch: Epoch) -> Sum {
-    with_number(
-        with_byte(with_byte(sum, epoch.frequency), epoch.smoothing),
-        epoch.time,
-    )
+    sum.byte(epoch.frequency)
+        .byte(epoch.smoothing)
+        .number(epoch.time)
 }
 
 // The edition by which a frame is read here: GOST for an even sequence, BD for an odd one.
@@ -91,8 +79,7 @@ fn edition_of(sequence: u8) -> Edition {
 
 // The record in one edition.
 fn record(frame: Frame, epoch: Epoch, count: usize, sum: Sum) -> Again {
-    let header = frame.header;
-    let edition = edition_of(header.sequence);
+    let edition = edition_of(frame.header.sequence);
     satellites(edition, frame, epoch, count, with_epoch(sum, epoch))
 }
 

@@ -5,35 +5,31 @@ pub(crate) struct Sum {
     pub(crate) sums: u64,
 }
 
-// No numbers yet.
-pub(crate) fn zero() -> Sum {
-    Sum {
-        numbers: 0,
-        sums: 0,
+impl Sum {
+    // No numbers yet.
+    pub(crate) fn zero() -> Sum {
+        Sum {
+            numbers: 0,
+            sums: 0,
+        }
     }
-}
 
-// A sum, with one number more.
-pub(crate) fn with_number(sum: Sum, number: u32) -> Sum {
-    let numbers = std::num::wrapping_add_u64(sum.numbers, number as u64);
-    Sum {
-        numbers,
-        sums: std::num::wrapping_add_u64(sum.sums, numbers),
+    // With one number more.
+    pub(crate) fn number(self, number: u32) -> Sum {
+        let numbers = self.numbers.wrapping_add(u64::from(number));
+        Sum {
+            numbers,
+            sums: self.sums.wrapping_add(numbers),
+        }
     }
-}
 
-// A sum, with one byte more.
-pub(crate) fn with_byte(sum: Sum, byte: u8) -> Sum {
-    with_number(sum, byte as u32)
-}
-
-// A sum, with more bytes.
-pub(crate) fn with_bytes(sum: Sum, more: &[u8]) -> Sum {
-    let mut all = sum;
-    let mut i: usize = 0;
-    while i < more.len() {
-        all = with_byte(all, more[i]);
-        i += 1;
+    // With one byte more.
+    pub(crate) fn byte(self, byte: u8) -> Sum {
+        self.number(u32::from(byte))
     }
-    all
+
+    // With more bytes.
+    pub(crate) fn bytes(self, more: &[u8]) -> Sum {
+        more.iter().fold(self, |sum, byte| sum.byte(*byte))
+    }
 }

@@ -1,12 +1,12 @@
 // What becomes of the frames of a stream: each is kept and recalled, its record's fields are summed and made into a frame
 // again, and it is written.
-use crate::STDOUT;
 use crate::again::made_again;
-use crate::sum::{Sum, with_bytes, zero};
+use crate::sum::Sum;
 use frame::{Carried, Frame};
 use journal::Found;
 use reader::Reader;
 use record_stages::Making;
+use test_vectors::{print, print_number};
 use writer::Written;
 
 // Frames counted, the sums of the bytes kept and written and of the fields read, and the bits carried on.
@@ -30,7 +30,7 @@ struct Run {
 
 // One more, where it is so.
 fn counted(count: u64, is_so: bool) -> u64 {
-    std::num::wrapping_add_u64(count, is_so as u64)
+    count.wrapping_add(u64::from(is_so))
 }
 
 // A frame's journal record, with zeros after it; zeros alone if it is refused.
@@ -49,10 +49,8 @@ fn same_frame(a: Frame, b: Frame) -> bool {
 
 // Whether a frame's journal record gives the frame.
 fn is_kept(frame: Frame) -> bool {
-    let bytes = kept_bytes(frame);
-    let recalled = journal::recall(&bytes);
-    let answer = recalled.answer;
-    match answer {
+    let recalled = journal::recall(&kept_bytes(frame));
+    match recalled.answer {
         Found::Record(_) => same_frame(frame, recalled.frame),
         Found::Refused(_) => false,
     }
@@ -60,18 +58,10 @@ fn is_kept(frame: Frame) -> bool {
 
 // A tally, with a frame's journal record.
 fn with_kept(tally: Tally, frame: Frame) -> Tally {
-    let kept = kept_bytes(frame);
-    let bytes = with_bytes(tally.bytes, &kept);
-    let fields = tally.fields;
-    let carried = tally.carried;
     Tally {
-        records: tally.records,
-        remade: tally.remade,
         kept: counted(tally.kept, is_kept(frame)),
-        written: tally.written,
-        bytes,
-        fields,
-        carried,
+        bytes: tally.bytes.bytes(&kept_bytes(frame)),
+        ..tally
     }
 }
 
@@ -86,35 +76,25 @@ fn is_made(answer: Making) -> bool {
 // A tally, with a frame's record: where it can't be read, the refusal's number is among the fields.
 fn with_record(tally: Tally, frame: Frame) -> Tally {
     let again = made_again(frame, tally.fields);
-    let fields = again.sum;
     let made = again.made;
     let is_read = is_made(made.answer);
-    let bytes = tally.bytes;
-    let carried = tally.carried;
     Tally {
         records: counted(tally.records, is_read),
         remade: counted(tally.remade, is_read && same_frame(frame, made.frame)),
-        kept: tally.kept,
-        written: tally.written,
-        bytes,
-        fields,
-        carried,
+        fields: again.sum,
+        ..tally
     }
 }
 
 // A tally, with a frame written after the bits carried on.
 fn with_written(tally: Tally, frame: Frame) -> Tally {
     let mut buffer = [0u8; 165];
-    let fields = tally.fields;
     match writer::write(frame, tally.carried, &mut buffer) {
         Written::Done { bytes: _, carried } => Tally {
-            records: tally.records,
-            remade: tally.remade,
-            kept: tally.kept,
             written: counted(tally.written, true),
-            bytes: with_bytes(tally.bytes, &buffer),
-            fields,
+            bytes: tally.bytes.bytes(&buffer),
             carried,
+            ..tally
         },
         Written::Refused(_) => tally,
     }
@@ -124,8 +104,7 @@ fn with_written(tally: Tally, frame: Frame) -> Tally {
 fn emptied(waiting: Reader, before: Tally) -> Run {
     let mut reader = waiting;
     let mut tally = before;
-    let mut k: usize = 0;
-    while k < 16 {
+    for _ in 0..16 {
         if !reader.candidate.waits {
             break;
         }
@@ -133,7 +112,6 @@ fn emptied(waiting: Reader, before: Tally) -> Run {
         let frame = taken.frame;
         reader = taken.reader;
         tally = with_written(with_record(with_kept(tally, frame), frame), frame);
-        k += 1;
     }
     Run { reader, tally }
 }
@@ -145,8 +123,8 @@ fn nothing() -> Tally {
         remade: 0,
         kept: 0,
         written: 0,
-        bytes: zero(),
-        fields: zero(),
+        bytes: Sum::zero(),
+        fields: Sum::zero(),
         carried: Carried { d29: 0, d30: 0 },
     }
 }
@@ -155,23 +133,15 @@ fn nothing() -> Tally {
 fn tally_of(bytes: &[u8]) -> Tally {
     let mut reader = reader::new();
     let mut tally = nothing();
-    let mut at: usize = 0;
-    while at < bytes.len() {
-        let fed = reader::feed(reader, bytes[at]);
+    for byte in bytes {
+        let fed = reader::feed(reader, *byte);
         let run = emptied(fed.reader, tally);
         reader = run.reader;
         tally = run.tally;
-        at += 1;
     }
     let ended = reader::end(reader);
     let last = emptied(ended.reader, tally);
     last.tally
-}
-
-// Writes a label and a number.
-pub(crate) fn print_number(label: &[u8], number: u64) {
-    io::write_all(STDOUT, label);
-    io::print_decimal(STDOUT, number);
 }
 
 // Writes a label and both numbers of a sum.
@@ -189,5 +159,5 @@ pub(crate) fn print_tally(bytes: &[u8]) {
     print_number(b" written ", tally.written);
     print_sum(b" sum ", tally.bytes);
     print_sum(b" fields ", tally.fields);
-    io::write_all(STDOUT, b"\n");
+    print(b"\n");
 }

@@ -1,8 +1,7 @@
 // Corrections in print, with PRC and RRC in whole units.
-use crate::{print, print_number, print_refusal, print_signed};
+use crate::{print, print_each, print_number, print_refusal, print_signed};
 use frame::Frame;
 use record_corrections::{Correction, CorrectionRead, Issue};
-use record_stages::Count;
 use record_values::{Distance, Rate};
 
 // Writes the refusal's number where a value would stand.
@@ -38,17 +37,29 @@ fn print_rate(scale: u8, rrc: i8) {
 // Writes PRC and RRC and what they stand for: stop for both, where either says that the satellite is not to be used.
 fn print_values(scale: u8, prc: i16, rrc: i8) {
     let stopped = record_values::stops(prc, rrc);
-    print_signed(b", PRC ", prc as i32);
+    print_signed(b", PRC ", i32::from(prc));
     if stopped {
         print(b" (stop)");
     } else {
         print_distance(scale, prc);
     }
-    print_signed(b", RRC ", rrc as i32);
+    print_signed(b", RRC ", i32::from(rrc));
     if stopped {
         print(b" (stop)");
     } else {
         print_rate(scale, rrc);
+    }
+}
+
+// A correction with an IOD, its fields in the order of the line.
+pub fn with_iod(scale: u8, udre: u8, satellite: u8, prc: i16, rrc: i8, iod: u8) -> Correction {
+    Correction {
+        scale,
+        udre,
+        satellite,
+        prc,
+        rrc,
+        issue: Issue::Iod(iod),
     }
 }
 
@@ -84,14 +95,8 @@ pub fn print_at(frame: Frame, index: usize) {
 
 // Writes every entry of a frame.
 pub fn print_entries(frame: Frame) {
-    match record_corrections::count_corrections(frame) {
-        Count::Of(count) => {
-            let mut i = 0;
-            while i < count {
-                print_at(frame, i);
-                i += 1;
-            }
-        }
-        Count::Refused(number) => print_refusal(number),
-    }
+    print_each(
+        record_corrections::count_corrections(frame),
+        |i| print_at(frame, i),
+    );
 }

@@ -1,8 +1,7 @@
 // Satellite health in print.
-use crate::{print, print_number, print_refusal};
+use crate::{print, print_each, print_number, print_refusal};
 use frame::Frame;
 use record_healths::{Condition, HealthRead, SatelliteHealth};
-use record_stages::Count;
 
 // Writes what the three health bits say.
 fn print_condition(health: Condition) {
@@ -41,14 +40,5 @@ fn print_at(frame: Frame, index: usize) {
 
 // Writes every entry of a frame.
 pub fn print_entries(frame: Frame) {
-    match record_healths::count_healths(frame) {
-        Count::Of(count) => {
-            let mut i = 0;
-            while i < count {
-                print_at(frame, i);
-                i += 1;
-            }
-        }
-        Count::Refused(number) => print_refusal(number),
-    }
+    print_each(record_healths::count_healths(frame), |i| print_at(frame, i));
 }

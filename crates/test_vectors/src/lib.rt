@@ -7,8 +7,8 @@ pub mod nulls;
 pub mod positions;
 pub mod texts;
 
-use frame::{Frame, Header, HeaderWords, State};
-use record_stages::{Made, Making};
+use frame::{Frame, Header, State};
+use record_stages::{Count, Made, Making};
 
 // The file number of standard output.
 const STDOUT: i32 = 1;
@@ -27,12 +27,8 @@ pub fn header_with(kind: u8) -> Header {
 // The frame of two header words and the data words.
 pub fn frame_of(first: u32, second: u32, data: &[u32]) -> Frame {
     let mut words = [0u32; 31];
-    let mut i = 0;
-    while i < 31 {
-        if i < data.len() {
-            words[i] = data[i];
-        }
-        i += 1;
+    for (word, sent) in words.iter_mut().zip(data) {
+        *word = *sent;
     }
     let header = frame::header_of(first, second);
     let n = frame::n_of(second);
@@ -53,12 +49,10 @@ pub fn print_number(name: &[u8], number: u64) {
 // Writes a signed number behind its name.
 pub fn print_signed(name: &[u8], number: i32) {
     print(name);
-    let code = record_fields::code32(number);
     if number < 0 {
-        print_number(b"-", std::num::wrapping_sub_u32(0, code) as u64);
-        return;
+        print(b"-");
     }
-    io::print_decimal(STDOUT, code as u64);
+    io::print_decimal(STDOUT, u64::from(number.unsigned_abs()));
 }
 
 // Writes a refusal's number.
@@ -67,30 +61,51 @@ pub fn print_refusal(number: u8) {
     print(b"\n");
 }
 
-// A hexadecimal digit of a word in print.
-fn digit(word: u32, weight: u32) -> u8 {
-    if weight == 0 {
-        return b'0';
+// Writes a count behind its name, or the refusal's number.
+pub fn print_count(name: &[u8], count: Count) {
+    match count {
+        Count::Of(count) => {
+            print_number(name, count as u64);
+            print(b"\n");
+        }
+        Count::Refused(number) => print_refusal(number),
     }
-    let n = (word / weight % 16) as u8;
-    if n < 10 {
-        return b'0' + n;
+}
+
+// Writes each of so many entries by its index, or the refusal's number.
+pub fn print_each<F: Fn(usize)>(count: Count, print_at: F)
+    requires { F.IsAlwaysCallable print_at }
+{
+    match count {
+        Count::Of(count) => {
+            for i in 0..count {
+                print_at(i);
+            }
+        }
+        Count::Refused(number) => print_refusal(number),
     }
-    b'A' + n % 16 - 10
+}
+
+// Writes a number in hexadecimal in upper case, with zeros in front up to `width` digits.
+pub fn print_hex(number: u64, width: usize) {
+    let mut text = [0u8; 16];
+    let n = io::hex(number, width, &mut text);
+    text.make_ascii_uppercase();
+    print(&text[..n]);
+}
+
+// Writes bytes in hexadecimal in lower case, each with a space before it.
+pub fn print_bytes(bytes: &[u8]) {
+    for byte in bytes {
+        print(b" ");
+        io::print_hex(STDOUT, u64::from(*byte), 2);
+    }
 }
 
 // Writes the 24 bits of a word with a space before them.
 fn print_word(word: u32) {
-    let text = [
-        b' ',
-        digit(word, 0x100000),
-        digit(word, 0x10000),
-        digit(word, 0x1000),
-        digit(word, 0x100),
-        digit(word, 0x10),
-        digit(word, 1),
-    ];
-    print(&text);
+    print(b" ");
+    print_hex(u64::from(word % 0x1000000), 6);
 }
 
 // Writes the first `n` of the data words.
@@ -99,12 +114,8 @@ fn print_data(words: [u32; 31], n: usize) {
     if n == 0 {
         print(b" none");
     }
-    let mut i = 0;
-    while i < 31 {
-        if i < n {
-            print_word(words[i]);
-        }
-        i += 1;
+    for word in words.iter().take(n) {
+        print_word(*word);
     }
     print(b"\n");
 }
@@ -113,13 +124,13 @@ fn print_data(words: [u32; 31], n: usize) {
 pub fn print_frame(frame: Frame) {
     let header = frame.header;
     match frame::header_words(header, frame.n) {
-        HeaderWords::Words(first, second) => {
+        Ok((first, second)) => {
             print(b"header words");
             print_word(first);
             print_word(second);
             print(b"\n");
         }
-        HeaderWords::Refused(number) => print_refusal(number),
+        Err(refusal) => print_refusal(refusal.number()),
     }
     let words = frame.words;
     print_data(words, frame.n);

@@ -6,12 +6,8 @@ use record_stages::Count;
 // Writes the codes of the first `count` characters.
 fn print_codes(buffer: [u8; 90], count: usize) {
     print(b"codes");
-    let mut i = 0;
-    while i < 90 {
-        if i < count {
-            print_code(i, buffer[i]);
-        }
-        i += 1;
+    for (i, code) in buffer.iter().take(count).enumerate() {
+        print_code(i, *code);
     }
     print(b"\n");
 }

@@ -1,19 +1,7 @@
 // Prints worked bytes with the six line bits that they carry, and worked windows with their remainders, to be compared with the tables of vectors.
 #![tactic(auto)]
 
-use line::Six;
-
-// The file number of standard output.
-const STDOUT: i32 = 1;
-
-// The lowest four bits in print.
-fn digit(n: u32) -> u8 {
-    let low = (n % 16) as u8;
-    if low < 10 {
-        return b'0' + low;
-    }
-    b'A' + low - 10
-}
+use test_vectors::{print, print_hex};
 
 // The lowest bit in print.
 fn bit(n: u32) -> u8 {
@@ -32,15 +20,14 @@ fn print_six(six: u32) {
         bit(six),
         b'\n',
     ];
-    io::write_all(STDOUT, &text);
+    print(&text);
 }
 
 // A byte and the bits that it carries, the first sent first, or that it is refused.
 fn show_byte(byte: u8) {
-    let text = [digit(byte as u32 / 16), digit(byte as u32)];
-    io::write_all(STDOUT, &text);
-    let Six::Bits(six) = line::six_of(byte) else {
-        io::write_all(STDOUT, b" refused\n");
+    print_hex(u64::from(byte), 2);
+    let Ok(six) = line::six_of(byte) else {
+        print(b" refused\n");
         return;
     };
     print_six(six);
@@ -48,17 +35,7 @@ fn show_byte(byte: u8) {
 
 // A window and its remainder, D25 first.
 fn show_window(window: u32) {
-    let text = [
-        digit(window / 268435456),
-        digit(window / 16777216),
-        digit(window / 1048576),
-        digit(window / 65536),
-        digit(window / 4096),
-        digit(window / 256),
-        digit(window / 16),
-        digit(window),
-    ];
-    io::write_all(STDOUT, &text);
+    print_hex(u64::from(window), 8);
     print_six(word::remainder(window));
 }
 

@@ -1,37 +1,23 @@
 // Writes worked frames and prints the bytes of each stream, lead byte first, to be compared with the table of vectors.
 #![tactic(auto)]
 
-use frame::{Carried, Frame, Header, State};
+use frame::{Carried, Frame};
+use test_vectors::{header_with, print, print_hex};
 use writer::{Opened, Written};
 
-// The file number of standard output.
-const STDOUT: i32 = 1;
-
-// A digit of a byte in print.
-fn digit(n: u8) -> u8 {
-    if n < 10 {
-        return b'0' + n;
-    }
-    b'A' + n % 16 - 10
-}
-
 // A byte, two digits and what ends it.
-fn print_byte(byte: u8, end: u8) {
-    let text = [digit(byte / 16), digit(byte % 16), end];
-    io::write_all(STDOUT, &text);
+fn print_byte(byte: u8, end: &[u8]) {
+    print_hex(u64::from(byte), 2);
+    print(end);
 }
 
 // A line of bytes.
 fn print_line(bytes: &[u8]) {
-    let mut i = 0;
-    while i < bytes.len() {
-        let byte = bytes[i];
-        i += 1;
-        if i < bytes.len() {
-            print_byte(byte, b' ');
-        } else {
-            print_byte(byte, b'\n');
+    if let Some((last, others)) = bytes.split_last() {
+        for byte in others {
+            print_byte(*byte, b" ");
         }
+        print_byte(*last, b"\n");
     }
 }
 
@@ -51,22 +37,11 @@ fn print_stream(frame: Frame, carried: Carried, buffer: &mut [u8]) {
     }
 }
 
-// The stream of one frame of station 5, Z count 100, sequence 3, health 0, after two equal carried bits.
+// The stream of one frame of a type after two equal carried bits.
 fn show(kind: u8, n: usize, data: [u32; 7], bit: u8) {
     let mut words = [0u32; 31];
-    let mut i = 0;
-    while i < 7 {
-        words[i] = data[i];
-        i += 1;
-    }
-    let header = Header {
-        kind,
-        station: 5,
-        z: 100,
-        sequence: 3,
-        state: State::Factor(100),
-    };
-    let frame = frame::built(header, n, words);
+    words[..7].copy_from_slice(&data);
+    let frame = frame::built(header_with(kind), n, words);
     let carried = Carried { d29: bit, d30: bit };
     let mut buffer = [0u8; 64];
     print_stream(frame, carried, &mut buffer);

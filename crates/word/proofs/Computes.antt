@@ -17,8 +17,9 @@ use Rattle.bits.proofs.Numbers.{odd-ones, bits-xor, bits-mod, bits-split, length
 use Rattle.bits.proofs.Linear.{columns, sum, spanned, odd-mask}
 use Rattle.word.specs.Word.{nth, d29*, d30*, rows, turned_by, parity, data_of, received, computed, remainder_of, sent}
 use Rattle.word.specs.Answer.{sent_at, word_of}
-use Rattle.word.specs.declared.Sent.TheVariants.{Word, Refused}
 use Rattle.word.proofs.Sending.{data-number}
+use Rattle.std.specs.Prelude.{Ok, Err}
+use Rattle.answer.specs.declared.Refusal.{Refusal}
 
 -- ---- the six equations
 
@@ -142,10 +143,10 @@ unfolding parity
 parity-lt a b ds = number_lt (parity a b ds)
 
 -- within its widths no word is refused
-pub word-answers : (c d : ℕ) → c < 4 → d < 2 ^ 24 → word_of c d ≡ Word (number (sent_at c d))
+pub word-answers : (c d : ℕ) → c < 4 → d < 2 ^ 24 → word_of c d ≡ Ok (number (sent_at c d))
 word-answers c d hc hd = simp (lt-leb 4 c hc, lt-leb (2 ^ 24) d hd)
 
-pub never-refused : (c d n : ℕ) → c < 4 → d < 2 ^ 24 → word_of c d ≡ Refused n → ⊥
+pub never-refused : (c d : ℕ) (n : Refusal) → c < 4 → d < 2 ^ 24 → word_of c d ≡ Err n → ⊥
 never-refused c d n hc hd e =
     let answered = word-answers c d hc hd in
     let never : ◌≡◌ {A = ℕ} 0 1 = cc in

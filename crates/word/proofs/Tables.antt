@@ -2,7 +2,7 @@
 use mathlib.Core.Path.{◌≡◌, refl, sym, ap, ap₂, ◌∙◌}
 use mathlib.Core.Bool.{Bool, true, false, ◌&&◌, and-eq-true_iff}
 use mathlib.Core.List.{List, [], ◌∷◌, ◌++◌}
-use Prim.Native.Nat.{ℕ, zero, suc, ◌+◌, ◌*◌, ◌/◌, ◌%◌, ◌^◌, ◌≤◌, ◌<◌}
+use Prim.Native.Nat.{ℕ, zero, suc, ◌+◌, ◌*◌, ◌/◌, ◌%◌, ◌^◌, ◌<◌}
 use native.Mathlib.Nat.{zero-add, suc-add, le_of_suc-le-suc, not-suc-le-zero}
 use native.Mathlib.Omega.{arith}
 use lib.Dec.{lit<, eqb}
@@ -67,25 +67,6 @@ entry t h v =
 
     short : v % 64 < length xs
     short = omega (arith, eqb-true (length xs) 64 held.0)
-
--- ---- an arm of a table's match, and the last one
-
--- the entry at the arm's number is that at the number asked for
-pub at : (xs : List ℕ) {v k : ℕ} → v ≡ k → get_or xs k 0 ≡ get_or xs v 0
-at xs e = sym (ap (λ i. get_or xs i 0) e)
-
--- v is none of the first n numbers
-abbrev pub NoneOf : ℕ → ℕ → Type 0
-NoneOf zero v = Unit {0}
-NoneOf (suc n) v = NoneOf n v × (v ≡ n → ⊥)
-
-none-under : (n v : ℕ) → NoneOf n v → n ≤ v
-none-under zero v h = omega arith
-none-under (suc n) v h = omega (arith, none-under n v h.0, h.1)
-
--- of 64 numbers the last is left
-pub left : (x : ℕ) → NoneOf 63 (x % 64) → x % 64 ≡ 63
-left x h = omega (arith, none-under 63 (x % 64) h)
 
 -- ---- THE SUM
 

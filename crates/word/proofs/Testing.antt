@@ -14,10 +14,9 @@ use Rattle.bits.proofs.Xor.{length-xors, odd-xors}
 use Rattle.bits.proofs.Numbers.{odd-ones, bits-number, number_lt}
 use Rattle.word.specs.Word.{remainder_of, received, computed, parity, passes}
 use Rattle.word.specs.Answer.{tested_by, says_tested}
-use Rattle.word.specs.declared.Tested.{Tested}
-use Rattle.word.specs.declared.Tested.TheVariants.{Passed, Failed}
 use Rattle.word.proofs.Linearity.{remainder-xor, passes-zero}
 use Rattle.word.proofs.Distance.{odd-remainder}
+use Rattle.std.specs.Prelude.{Result, Ok, Err}
 
 pub six-long : (w : List Bool) → length (remainder_of w) ≡ 6
 unfolding remainder_of received computed parity
@@ -30,19 +29,19 @@ below : (r : ℕ) (w : List Bool) → r ≡ number (remainder_of w) → r < 2 ^ 
 below r w e = let n = rw (six-long w) at (number_lt (remainder_of w)) in omega (arith, n)
 
 -- by the two answers
-by-test : (w : List Bool) (P : Tested → Type 0) → (passes w ≡ true → P Passed) → (passes w ≡ false → P (Failed (number (remainder_of w)))) → P (tested_by w)
+by-test : (w : List Bool) (P : Result (Unit {0}) ℕ → Type 0) → (passes w ≡ true → P (Ok tt)) → (passes w ≡ false → P (Err (number (remainder_of w)))) → P (tested_by w)
 by-test w P f g = go (passes w) refl
   where
-    go : (t : Bool) → passes w ≡ t → P (cond t Passed (Failed (number (remainder_of w))))
+    go : (t : Bool) → passes w ≡ t → P (cond t (Ok tt) (Err (number (remainder_of w))))
     go true e = f e
     go false e = g e
 
 -- the remainder decides
-pub zero-passes : (r : ℕ) (w : List Bool) → r ≡ number (remainder_of w) → r ≡ 0 → Passed ≡ tested_by w
+pub zero-passes : (r : ℕ) (w : List Bool) → r ≡ number (remainder_of w) → r ≡ 0 → (Ok tt) ≡ tested_by w
 unfolding passes
 zero-passes r w e z = simp (eq-eqb (number (remainder_of w)) 0 (sym e ∙ z))
 
-pub other-fails : (r : ℕ) (w : List Bool) → r ≡ number (remainder_of w) → (r ≡ 0 → ⊥) → Failed r ≡ tested_by w
+pub other-fails : (r : ℕ) (w : List Bool) → r ≡ number (remainder_of w) → (r ≡ 0 → ⊥) → Err r ≡ tested_by w
 unfolding passes
 other-fails r w e z = simp (ne_eqb (number (remainder_of w)) 0 (λ n. z (e ∙ n)), e)
 
@@ -51,8 +50,8 @@ pub tested-says : (w : List Bool) → says_tested (tested_by w) ≡ remainder_of
 tested-says w = by-test w (λ t. says_tested t ≡ remainder_of w) (λ p. sym ((passes-zero w).0 p)) (λ p. remainder-number w)
 
 -- PASSED exactly where the word passes ..
-pub tested-passed : (w : List Bool) → tested_by w ≡ Passed → passes w ≡ true
-tested-passed w = by-test w (λ t. t ≡ Passed → passes w ≡ true) (λ p e. p) (λ p e. absurd (let z : ◌≡◌ {A = ℕ} 0 1 = cc in omega arith))
+pub tested-passed : (w : List Bool) → tested_by w ≡ (Ok tt) → passes w ≡ true
+tested-passed w = by-test w (λ t. t ≡ (Ok tt) → passes w ≡ true) (λ p e. p) (λ p e. absurd (let z : ◌≡◌ {A = ℕ} 0 1 = cc in omega arith))
 
 -- .. and else failed with the remainder, which is never 0
 pub record FailedWith (w : List Bool) (r : ℕ) : Type 0 where
@@ -60,12 +59,12 @@ pub record FailedWith (w : List Bool) (r : ℕ) : Type 0 where
   pub is : r ≡ number (remainder_of w)
   pub some : r ≡ 0 → ⊥
 
-pub tested-failed : (w : List Bool) (r : ℕ) → tested_by w ≡ Failed r → FailedWith w r
+pub tested-failed : (w : List Bool) (r : ℕ) → tested_by w ≡ Err r → FailedWith w r
 unfolding passes
-tested-failed w r = by-test w (λ t. t ≡ Failed r → FailedWith w r) (λ p e. absurd (let z : ◌≡◌ {A = ℕ} 0 1 = cc in omega arith))
+tested-failed w r = by-test w (λ t. t ≡ Err r → FailedWith w r) (λ p e. absurd (let z : ◌≡◌ {A = ℕ} 0 1 = cc in omega arith))
     (λ p e. record { fails = p; is = with_it e; some = λ z. eqb-false (number (remainder_of w)) 0 p (sym (with_it e) ∙ z) })
   where
-    with_it : Failed (number (remainder_of w)) ≡ Failed r → r ≡ number (remainder_of w)
+    with_it : ◌≡◌ {A = Result (Unit {0}) ℕ} (Err (number (remainder_of w))) (Err r) → r ≡ number (remainder_of w)
     with_it e = cc
 
 -- ITS ONES, counted modulo two

@@ -1,10 +1,7 @@
 // The thirty-bit word: its test, its remainder, its data bits, and the word to send.
 #![tactic(auto)]
 
-mod first;
-mod fourth;
-mod second;
-mod third;
+mod entries;
 
 ghost use Rattle.std.specs.Prelude.{◌≡◌, false, [], ◌+◌, ◌%◌};
 ghost use Rattle.std.specs.Int.Bits.{bit_and};
@@ -13,24 +10,8 @@ ghost use Rattle.bits.specs.Bits.{bits, number};
 ghost use Rattle.word.specs.Word.{d29*, d30*, parity, data_of, turned_by};
 ghost use Rattle.word.specs.Answer.{tested_by, remainder_at, word_of};
 
-use crate::first::first;
-use crate::fourth::fourth;
-use crate::second::second;
-use crate::third::third;
-
-// A word passes, or fails with its remainder: received parity xor computed parity, D25 highest, never 0.
-#[derive(Clone, Copy)]
-pub enum Tested {
-    Passed,
-    Failed(u32),
-}
-
-// The thirty bits to send, D1 highest; or the refusal's number.
-#[derive(Clone, Copy)]
-pub enum Sent {
-    Word(u32),
-    Refused(u8),
-}
+use crate::entries::{FIRST, FOURTH, SECOND, THIRD, entry};
+use answer::Refusal;
 
 // The data bits in the equation of each parity bit, d1 highest.
 const D25: u32 = 0b111011_000111_110011_010010;
@@ -49,7 +30,7 @@ const D30: u32 = 0b001011_011110_101000_100111;
 fn odd_of(data: u32, mask: u32, carried: u32) -> u32
     ensures { result ≡ (ones (bit_and «data» mask) + carried % 2) % 2 }
 {
-    (u32::count_ones(data & mask) + carried % 2) % 2
+    ((data & mask).count_ones() + carried % 2) % 2
 }
 
 // THE SIX EQUATIONS: D25 to D30, D25 highest, of the 24 lowest bits of `data` after the two lowest of `carried`, D29* and D30*.
@@ -58,6 +39,7 @@ fn parity_of(carried: u32, data: u32) -> u32
 {
     let d29 = carried / 2;
     let d30 = carried;
+    // kept: a line for each equation of the rules; a fold over masks and bits would hide which bit stands where
     let p25 = odd_of(data, D25, d29);
     let p26 = odd_of(data, D26, d30);
     let p27 = odd_of(data, D27, d29);
@@ -85,7 +67,8 @@ pub fn data_of(window: u32) -> u32
 fn data_part(data: u32) -> u32
     ensures { result ≡ number (parity false false (bits 24 «data»)) }
 {
-    first(data / 262144) ^ (second(data / 4096) ^ (third(data / 64) ^ fourth(data)))
+    entry(&FIRST, data / 262144)
+        ^ (entry(&SECOND, data / 4096) ^ (entry(&THIRD, data / 64) ^ entry(&FOURTH, data)))
 }
 
 // What the two lowest bits of `carried`, D29* and D30*, give alone.
@@ -103,25 +86,21 @@ pub fn remainder(window: u32) -> u32
 }
 
 // THE WORD TEST: passed where the remainder is zero, else failed with it.
-pub fn test(window: u32) -> Tested
+pub fn test(window: u32) -> Result<(), u32>
     ensures { result ≡ tested_by (bits 32 window) }
 {
-    let r = remainder(window);
-    if r == 0 {
-        return Tested::Passed;
+    match remainder(window) {
+        0 => Ok(()),
+        r => Err(r),
     }
-    Tested::Failed(r)
 }
 
 // D1 to D30 for the data after the carried bits D29* D30*.
-pub fn word_of(carried: u32, data: u32) -> Sent
+pub fn word_of(carried: u32, data: u32) -> Result<u32, Refusal>
     ensures { result ≡ word_of carried «data» }
 {
-    if carried >= 4 {
-        return Sent::Refused(5);
+    if carried >= 4 || data >= 16777216 {
+        return Err(Refusal::Width);
     }
-    if data >= 16777216 {
-        return Sent::Refused(5);
-    }
-    Sent::Word(turned_by(carried, data) * 64 + parity_of(carried, data))
+    Ok(turned_by(carried, data) * 64 + parity_of(carried, data))
 }

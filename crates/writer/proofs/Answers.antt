@@ -2,20 +2,19 @@
 use mathlib.Core.Path.{◌≡◌, refl, sym, ap, ap₂, subst, ◌∙◌}
 use mathlib.Core.Bool.{Bool, true, false}
 use mathlib.Core.List.{List, ◌∷◌}
-use Prim.Native.Nat.{ℕ, ◌+◌, ◌*◌, ◌/◌, ◌%◌, ◌≤◌, ◌<◌}
+use Prim.Native.Nat.{ℕ, ◌+◌, ◌*◌, ◌/◌, ◌%◌, ◌≤◌}
 use native.Mathlib.Omega.{arith}
-use lib.ListN.{length, take, get_or}
+use lib.ListN.{length, take}
 use lib.Seq.{sets}
 use borrow.Author.Tests.{ltb-false}
 use Rattle.answer.specs.Order.{NoneApplies}
-use Rattle.answer.proofs.OrderLaws.{first-at, order-answers, order-refuses, order-told}
+use Rattle.answer.proofs.OrderLaws.{order-answers, order-told}
 use Rattle.bits.specs.Bits.{number}
 use Rattle.frame.specs.Header.{first_word, second_word}
 use Rattle.frame.specs.Frames.{words_of, Below}
 use Rattle.frame.specs.Widths.{outside}
 use Rattle.frame.specs.Answer.{header_words}
 use Rattle.frame.specs.declared.Frame.{Frame}
-use Rattle.frame.specs.declared.HeaderWords.TheVariants as header
 use Rattle.frame.proofs.HeaderLaws.{words-answered}
 use Rattle.frame.proofs.FrameLaws.{header-within, n_within, below-words, length-words}
 use Rattle.writer.specs.Sending.{sent_bits, bits_after, carried_on, bytes_for, line_length, sent_after, bytes_after, pair_after}
@@ -24,19 +23,13 @@ use Rattle.frame.specs.declared.Carried.{Carried}
 use Rattle.writer.specs.declared.Written.TheVariants.{Done, Refused}
 use Rattle.writer.proofs.Bytes.{length-bytes, sets_over}
 use Rattle.writer.proofs.Carrying.{pair-29, pair-30, carried-pair}
+use Rattle.std.specs.Prelude.{Ok, Err}
+use Rattle.answer.specs.declared.Refusal.{Refusal}
 
 refused-apart : {n k : ℕ} {c : Carried} → Refused n ≡ Done k c → ⊥
 refused-apart e = let never : ◌≡◌ {A = ℕ} 0 1 = cc in omega arith
 
 module _ (f : Frame) (c : Carried) (l : List ℕ) where
-  -- a refusal is its number alone, and the buffer is as it was
-  pub write-refuses : (i : ℕ) → i < 5 → NoneApplies (take i (write_checks f c l)) → (get_or (write_checks f c l) i (false, 0)).0 ≡ true
-      → (Refused (get_or (write_checks f c l) i (false, 0)).1 ≡ written_by f c l) × (l ≡ written_to f c l)
-  write-refuses i inside none e =
-      let first = first-at (write_checks f c l) i inside none e in
-      let n = (get_or (write_checks f c l) i (false, 0)).1 in
-      (sym (order-refuses Refused _ (write_checks f c l) n first), sym (order-refuses (λ k. l) _ (write_checks f c l) n first))
-
   pub write-answers : NoneApplies (write_checks f c l)
       → (Done (line_length f) (carried_on (bits_after c f)) ≡ written_by f c l) × (over (bytes_for (line_length f) (bits_after c f)) l ≡ written_to f c l)
   write-answers none = (sym (order-answers Refused _ (write_checks f c l) none), sym (order-answers (λ k. l) _ (write_checks f c l) none))
@@ -47,19 +40,22 @@ module _ (f : Frame) (c : Carried) (l : List ℕ) where
 -- ---- from the words that the code puts
 
 module _ (f : Frame) (o : outside f ≡ false) where
-  pub header-answered : header_words f.header f.n ≡ header.Words (number (first_word f.header)) (number (second_word f.header f.n))
+  pub header-answered : header_words f.header f.n ≡ Ok (number (first_word f.header), number (second_word f.header f.n))
   header-answered = words-answered f.header f.n (header-within f o) (n_within f o)
 
   -- the words that the code puts are the frame's
-  pub words-told : (first second : ℕ) → header.Words first second ≡ header_words f.header f.n → first ∷ second ∷ take f.n f.words ≡ words_of f
+  pub words-told : (first second : ℕ) → Ok (first, second) ≡ header_words f.header f.n → first ∷ second ∷ take f.n f.words ≡ words_of f
   unfolding words_of
-  words-told first second e = cc header-answered
+  words-told first second e = ap (λ w. w.0 ∷ w.1 ∷ take f.n f.words) same
+    where
+      same : ◌≡◌ {A = ℕ × ℕ} (first, second) (number (first_word f.header), number (second_word f.header f.n))
+      same = cc (e, header-answered)
 
-  pub told_below : (first second : ℕ) → header.Words first second ≡ header_words f.header f.n → Below (first ∷ second ∷ take f.n f.words)
+  pub told_below : (first second : ℕ) → Ok (first, second) ≡ header_words f.header f.n → Below (first ∷ second ∷ take f.n f.words)
   told_below first second e = subst Below (sym (words-told first second e)) (below-words f o)
 
 -- a header whose words are refused is that of a frame outside its widths
-pub header_refused : (f : Frame) (k : ℕ) → header.Refused k ≡ header_words f.header f.n → outside f ≡ true
+pub header_refused : (f : Frame) (k : Refusal) → Err k ≡ header_words f.header f.n → outside f ≡ true
 header_refused f k e = go (outside f) refl
   where
     go : (t : Bool) → outside f ≡ t → t ≡ true
@@ -75,7 +71,7 @@ bits-after c f p q = ap₂ (λ a b. sent_bits a b f) (pair-29 c.d29 c.d30 p q) (
 
 -- the code's answer: no check applied, and the words were put
 pub write_done : (f : Frame) (c : Carried) (l : List ℕ) → NoneApplies (write_checks f c l) → length f.words ≡ 31
-    → (first second : ℕ) → header.Words first second ≡ header_words f.header f.n → {k : ℕ} {l' : List ℕ}
+    → (first second : ℕ) → Ok (first, second) ≡ header_words f.header f.n → {k : ℕ} {l' : List ℕ}
     → (k ≡ pair_after (c.d29 * 2 + c.d30) (first ∷ second ∷ take f.n f.words))
     × (l' ≡ sets l 0 (bytes_after (c.d29 * 2 + c.d30) (first ∷ second ∷ take f.n f.words)))
     → (Done (line_length f) (record { d29 = k / 2; d30 = k % 2 }) ≡ written_by f c l) × (l' ≡ written_to f c l)

@@ -2,11 +2,12 @@
 use mathlib.Core.Path.{◌≡◌, refl, sym, ap, ◌∙◌}
 use mathlib.Core.Bool.{Bool}
 use mathlib.Core.List.{List, [], ◌∷◌, ◌++◌, append_assoc}
-use Prim.Native.Nat.{ℕ, zero, suc, ◌+◌, ◌*◌, ◌/◌, ◌^◌, ◌≤◌}
+use Prim.Native.Nat.{ℕ, zero, suc, ◌+◌, ◌-◌, ◌*◌, ◌/◌, ◌^◌, ◌≤◌}
 use native.Mathlib.Nat.{zero-add, suc-add, div-one}
 use native.Mathlib.Omega.{arith}
-use lib.ListN.{length, take, drop, set, length-append, length-drop, take-append-drop}
+use lib.ListN.{length, take, drop, length-append, length-drop, take-append-drop}
 use lib.Seq.{sets, sets-eq, take_at, drop_at, drop-drop, length-take-le, take-append-le, drop-append-le}
+use borrow.Rule.Slice.PartMut.{put_mid}
 use Rattle.bits.specs.Bits.{bits}
 use Rattle.bits.proofs.Numbers.{length-bits, bits-split}
 use Rattle.line.specs.Line.{line_bits, byte_of}
@@ -64,24 +65,23 @@ word_bytes w =
 
 -- ---- bytes in a buffer
 
--- a word's five bytes, stored one after the other
-pub put_five_lem : (l : List ℕ) (i w : ℕ) {a b c d e : ℕ}
-    → a ≡ byte_of (bits 6 (w / 16777216)) → b ≡ byte_of (bits 6 (w / 262144)) → c ≡ byte_of (bits 6 (w / 4096))
-    → d ≡ byte_of (bits 6 (w / 64)) → e ≡ byte_of (bits 6 w)
-    → set (set (set (set (set l i a) (i + 1) b) (i + 2) c) (i + 3) d) (i + 4) e ≡ sets l i (bytes_for 5 (bits 30 w))
-put_five_lem l i w p q r s t = rw (p, q, r, s, t, one, two, three, four) (sym (ap (sets l i) (word_bytes w)))
+-- a word's five bytes, copied to their place
+pub put_five_lem : (l : List ℕ) (i w : ℕ) {bs : List ℕ} → i + 5 ≤ length l
+    → bs ≡ byte_of (bits 6 (w / 16777216)) ∷ byte_of (bits 6 (w / 262144)) ∷ byte_of (bits 6 (w / 4096)) ∷ byte_of (bits 6 (w / 64)) ∷ byte_of (bits 6 w) ∷ []
+    → put_mid i (i + 5 - i) l bs ≡ sets l i (bytes_for 5 (bits 30 w))
+put_five_lem l i w {bs} h e =
+    ap (put_mid i (i + 5 - i) l) (e ∙ sym (word_bytes w))
+    ∙ ap (λ r. take i l ++ (five ++ r)) (drop-drop (i + 5 - i) i l ∙ ap (λ j. drop j l) past)
+    ∙ sym (sets-eq five l i room ∙ append_assoc (take i l) five (drop (i + length five) l))
   where
-    one : i + 1 ≡ suc i
-    one = omega arith
+    five : List ℕ
+    five = bytes_for 5 (bits 30 w)
 
-    two : i + 2 ≡ suc (suc i)
-    two = omega arith
+    past : i + (i + 5 - i) ≡ i + length (bytes_for 5 (bits 30 w))
+    past = omega (arith, length-bytes 5 (bits 30 w))
 
-    three : i + 3 ≡ suc (suc (suc i))
-    three = omega arith
-
-    four : i + 4 ≡ suc (suc (suc (suc i)))
-    four = omega arith
+    room : i + length (bytes_for 5 (bits 30 w)) ≤ length l
+    room = omega (arith, length-bytes 5 (bits 30 w))
 
 -- stores from the front on
 pub sets_over : (bytes l : List ℕ) → length bytes ≤ length l → sets l 0 bytes ≡ over bytes l

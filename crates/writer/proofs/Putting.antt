@@ -1,11 +1,11 @@
 -- Words put into a buffer one after the other, five bytes each: one word, the loop over many, and a frame's. Assumes nothing.
-use mathlib.Core.Path.{◌≡◌, refl, sym, ap, ap₂, ◌∙◌}
+use mathlib.Core.Path.{◌≡◌, sym, ap, ap₂, ◌∙◌}
 use mathlib.Core.List.{List, [], ◌∷◌}
 use Prim.Native.Nat.{ℕ, ◌+◌, ◌*◌, ◌≤◌, ◌<◌}
 use native.Mathlib.Numerals.{add-one}
 use native.Mathlib.Omega.{arith}
-use lib.ListN.{length, take, drop, get_or, length-take, drop_of_length-le}
-use lib.Seq.{sets, length-sets, drop-cons, get_or-take}
+use lib.ListN.{length, drop, get_or, drop_of_length-le}
+use lib.Seq.{sets, drop-cons}
 use Rattle.bits.proofs.Stores.{sets-append}
 use Rattle.word.specs.Answer.{sent_at}
 use Rattle.writer.specs.Sending.{bytes_for, bytes_after, pair_after}
@@ -20,35 +20,19 @@ put_next l at c w ws =
     ∙ sets-append (bytes_for 5 (sent_at c w)) (bytes_after (pair_after c (w ∷ [])) ws) l at
     ∙ ap₂ (λ bs n. sets (sets l at bs) (at + n) (bytes_after (pair_after c (w ∷ [])) ws)) (sym (bytes_one c w)) (length-bytes 5 (sent_at c w))
 
--- ---- the loop over the first n words
+-- ---- the loop over words
 
 -- i words are put: what is left, put from here, gives what all of them give from the start
-pub record PutSoFar (words : List ℕ) (n at carried : ℕ) (l₀ l : List ℕ) (c i : ℕ) : Type 0 where
-  pub inside : i ≤ n
+pub record PutSoFar (words : List ℕ) (at carried : ℕ) (l₀ l : List ℕ) (c i : ℕ) : Type 0 where
   pub two-bits : c < 4
-  pub same : length l ≡ length l₀
-  pub pairs : pair_after carried (take n words) ≡ pair_after c (drop i (take n words))
-  pub bytes : sets l₀ at (bytes_after carried (take n words)) ≡ sets l (at + 5 * i) (bytes_after c (drop i (take n words)))
+  pub pairs : pair_after carried words ≡ pair_after c (drop i words)
+  pub bytes : sets l₀ at (bytes_after carried words) ≡ sets l (at + 5 * i) (bytes_after c (drop i words))
 
-pub put-none : (words : List ℕ) (n at c : ℕ) (l : List ℕ) → c < 4 → PutSoFar words n at c l l c 0
-put-none words n at c l h = record {
-  inside = omega arith;
-  two-bits = h;
-  same = refl;
-  pairs = refl;
-  bytes = ap (λ k. sets l k (bytes_after c (take n words))) place;
-}
-  where
-    place : at ≡ at + 5 * 0
-    place = omega arith
-
-pub put-turn : (words : List ℕ) (n at carried : ℕ) (l₀ l : List ℕ) (c i : ℕ) → PutSoFar words n at carried l₀ l c i → i < n → n ≤ length words
+pub put-turn : (words : List ℕ) (at carried : ℕ) (l₀ l : List ℕ) (c i : ℕ) → PutSoFar words at carried l₀ l c i → i < length words
     → {l' : List ℕ} {c' : ℕ} → c' ≡ pair_after c (get_or words i 0 ∷ []) → l' ≡ sets l (at + 5 * i) (bytes_after c (get_or words i 0 ∷ []))
-    → PutSoFar words n at carried l₀ l' c' (i + 1)
-put-turn words n at carried l₀ l c i s h few {l'} {c'} e f = record {
-  inside = omega arith;
+    → PutSoFar words at carried l₀ l' c' (i + 1)
+put-turn words at carried l₀ l c i s h {l'} {c'} e f = record {
   two-bits = rw e (pair_lt c (get_or words i 0 ∷ []) s.two-bits);
-  same = ap length f ∙ length-sets l (at + 5 * i) (bytes_after c (get_or words i 0 ∷ [])) ∙ s.same;
   pairs = s.pairs ∙ ap (pair_after c) left ∙ ap (λ k. pair_after k later) (sym e);
   bytes =
       s.bytes
@@ -59,24 +43,21 @@ put-turn words n at carried l₀ l c i s h few {l'} {c'} e f = record {
 }
   where
     later : List ℕ
-    later = drop (i + 1) (take n words)
+    later = drop (i + 1) words
 
-    left : drop i (take n words) ≡ get_or words i 0 ∷ later
-    left =
-        drop-cons (take n words) i 0 (omega (arith, length-take n words))
-        ∙ ap₂ (λ w k. w ∷ drop k (take n words)) (get_or-take n words i 0 h) (sym (add-one i))
+    left : drop i words ≡ get_or words i 0 ∷ later
+    left = drop-cons words i 0 h ∙ ap (λ k. get_or words i 0 ∷ drop k words) (sym (add-one i))
 
     place : at + 5 * i + 5 ≡ at + 5 * (i + 1)
     place = omega arith
 
-pub put_all : (words : List ℕ) (n at carried : ℕ) (l₀ l : List ℕ) (c i : ℕ) → PutSoFar words n at carried l₀ l c i → n ≤ i
-    → (c ≡ pair_after carried (take n words)) × (l ≡ sets l₀ at (bytes_after carried (take n words)))
+pub put_all : (words : List ℕ) (at carried : ℕ) (l₀ l : List ℕ) (c i : ℕ) → PutSoFar words at carried l₀ l c i → length words ≤ i
+    → (c ≡ pair_after carried words) × (l ≡ sets l₀ at (bytes_after carried words))
 unfolding bytes_for
-put_all words n at carried l₀ l c i s h =
-    (sym (rw none at s.pairs), sym (rw none at s.bytes))
+put_all words at carried l₀ l c i s h = (sym (rw none at s.pairs), sym (rw none at s.bytes))
   where
-    none : drop i (take n words) ≡ []
-    none = drop_of_length-le (take n words) {i = i} (omega (arith, length-take n words))
+    none : drop i words ≡ []
+    none = drop_of_length-le words {i = i} h
 
 -- ---- a frame: word 1, word 2, the data words
 

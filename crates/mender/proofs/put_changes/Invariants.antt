@@ -1,5 +1,5 @@
 -- `put_changes` meets its contract: by a loop that puts a byte back and writes its change where it has one. Assumes nothing.
-use Rattle.std.proofs.Common.{◌≡◌, ◌+◌, ◌-◌, ◌*◌, ◌≤◌, ◌++◌, length, take, drop}
+use Rattle.std.proofs.Common.{◌≡◌, ◌+◌, ◌*◌, ◌≤◌, ◌++◌, length, take, drop}
 use lib.Seq.{sets}
 use Rattle.mender.specs.Report.{changes_from, change_lines}
 use Rattle.mender.proofs.ChangeLaws.{from}
@@ -12,9 +12,5 @@ invariant-loop-i l =
     × (sets l.initial.output 0 (change_lines (changes_from l.at l.initial.bytes l.whole)) ≡ sets l.output l.next (change_lines (from l.at l.initial.bytes l.whole l.i)))
     × (length (change_lines (changes_from l.at l.initial.bytes l.whole)) ≡ l.next + length (change_lines (from l.at l.initial.bytes l.whole l.i)))
     × (l.next + 29 * length (from l.at l.initial.bytes l.whole l.i) ≤ 29 * length (changes_from l.at l.initial.bytes l.whole))
-    × (l.i ≤ length l.whole)
     × (length l.bytes ≡ length l.initial.bytes)
     × (length l.output ≡ length l.initial.output)
-
-abbrev pub decreases-loop-i : goal.decreases-loop-i
-decreases-loop-i l = length l.whole - l.i

@@ -8,13 +8,13 @@ returns-in_default c = is-sound _ (sym c.test.ensures ∙ c.in_default.is)
 
 pub returns-then-remainder-eq0 : goal.returns-then-remainder-eq0
 returns-then-remainder-eq0 c =
-    is-broken _ _ (sym c.test.ensures ∙ c.in-Failed.is) c.if-remainder-eq0.true
+    is-broken _ _ (sym c.test.ensures ∙ c.in-Err.is) c.if-remainder-eq0.true
 
 pub bit_of-requires : goal.bit_of-requires
 bit_of-requires c =
-    let e = sym c.test.ensures ∙ c.in-Failed.is in
+    let e = sym c.test.ensures ∙ c.in-Err.is in
     (below _ _ e, odd-six _ _ e c.if-remainder-eq0.false)
 
 pub returns : goal.returns
 returns c =
-    is-mended _ _ (sym c.test.ensures ∙ c.in-Failed.is) c.if-remainder-eq0.false c.bit_of.ensures
+    is-mended _ _ (sym c.test.ensures ∙ c.in-Err.is) c.if-remainder-eq0.false c.bit_of.ensures

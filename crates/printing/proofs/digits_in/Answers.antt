@@ -1,34 +1,8 @@
--- `digits_in` meets its contract: by a loop that counts a digit for each division by ten. Assumes nothing.
-use mathlib.Core.Path.{sym, ap, ◌∙◌}
-use Prim.Native.Nat.{◌+◌, ◌-◌}
-use native.Mathlib.Omega.{arith}
-use Rattle.printing.proofs.DigitLaws.{count-last, count-on, count-end}
+-- `digits_in` meets its contract: one more than the order of magnitude. Assumes nothing.
+use Rattle.printing.proofs.DigitLaws.{digits-counted}
 use Rattle.printing.proofs.digits_in.Goals as goal
-
-pub loop-before-init : goal.loop-before-init
-loop-before-init c = (omega arith, omega arith)
-
-pub returns-then-left-lt10 : goal.returns-then-left-lt10
-returns-then-left-lt10 c =
-    let v = c.loop-before in
-    let one = count-last (20 - v.before) v.left (omega arith) c.if-left-lt10.true in
-    sym (v.invariant.1 ∙ ap (λ d. v.before + d) one)
-
-pub loop-before-preserved : goal.loop-before-preserved
-loop-before-preserved c =
-    let v = c.loop-before in
-    (omega arith, v.invariant.1 ∙ count-on v.before v.left (omega arith) c.if-left-lt10.false)
 
 pub returns : goal.returns
 returns c =
-    let v = c.loop-before in
-    sym (v.invariant.1 ∙ count-end v.before v.left (omega arith))
-
-pub overflow_add-result : goal.overflow_add-result
-overflow_add-result c = omega arith
-
-pub overflow_add-before : goal.overflow_add-before
-overflow_add-before c = omega arith
-
-pub loop-before-smaller : goal.loop-before-smaller
-loop-before-smaller c = omega arith
+    let k = c.ilog10 in
+    digits-counted c.args.n k.result c.max.result c.max.ensures k.ensures.power_le k.ensures.next_power_gt k.ensures.bound

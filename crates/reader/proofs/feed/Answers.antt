@@ -25,14 +25,14 @@ step-stepped-requires c =
     let r = c.args.reader in
     let f = free r c.readiness-ready.result c.readiness-ready.ensures c.in_default.is in
     let a = to-accepted r.candidate f.fine in
-    let n = (six-bits c.args.byte _ (sym c.six_of-line.ensures ∙ c.in-Bits.is)).1 in
+    let n = (six-bits c.args.byte _ (sym c.six_of-line.ensures ∙ c.in-Ok.is)).1 in
     (len, a.top, a.low, room-free r.candidate a f.none, a.few, omega (arith, n, six-lt c.args.byte))
 
 pub returns : goal.returns
 returns c =
     let a = c.args in
     let r = a.reader in
-    let d = six-bits a.byte _ (sym c.six_of-line.ensures ∙ c.in-Bits.is) in
+    let d = six-bits a.byte _ (sym c.six_of-line.ensures ∙ c.in-Ok.is) in
     let cells = c.step-stepped.ensures.1 ∙ ap (step_cells r.cells r.candidate) d.1 in
     let next = c.step-stepped.ensures.0 ∙ ap (step_to r.cells r.candidate) d.1 in
     fed-done r a.byte c.readiness-ready.result c.readiness-ready.ensures c.in_default.is d.0 c.step-stepped.new.cells cells c.step-stepped.result next

@@ -4,7 +4,6 @@ use borrow.Author.Tests.{not-true, not-false}
 use Rattle.stream.specs.Standing.{n_at}
 use Rattle.stream.proofs.Words.{n-lt}
 use Rattle.reader.specs.Reading.{bits_of, candidate_bits, past}
-use Rattle.reader.specs.Taking.{there_in}
 use Rattle.reader.specs.declared.Reader.{Reader}
 use Rattle.reader.proofs.Accepted.{Accepted, to-accepted}
 use Rattle.reader.proofs.Buffer.{length-held}
@@ -21,23 +20,22 @@ returns-then-not-c c =
     take-flag c.args.reader (sym c.past.ensures ∙ c.if-past.false) (not-true _ c.if-not-c.true)
     c.untaken-then-not-c.result c.untaken-then-not-c.ensures
 
-pub standing-there-requires : goal.standing-there-requires
-standing-there-requires c =
+pub standing-requires : goal.standing-requires
+standing-requires c =
     let len : length c.args.reader.cells ≡ 40 = search rules in
     let r : Reader = c.args.reader in
     let fine : past r ≡ false = sym c.past.ensures ∙ c.if-past.false in
     let counts : Accepted r.candidate = to-accepted r.candidate fine in
     (len, counts.top, counts.low)
 
-pub returns-then-not-there : goal.returns-then-not-there
+pub returns-in_default : goal.returns-in_default
 unfolding candidate_bits
-returns-then-not-there c =
+returns-in_default c =
     let r : Reader = c.args.reader in
     let fine : past r ≡ false = sym c.past.ensures ∙ c.if-past.false in
     let flag : r.candidate.waits ≡ true = not-false r.candidate.waits c.if-not-c.false in
-    let here : c.standing-there.result ≡ there_in (bits_of r) = c.standing-there.ensures in
-    take-nothing r fine flag c.standing-there.result here (not-true _ c.if-not-there.true)
-    c.untaken-then-not-there.result c.untaken-then-not-there.ensures
+    take-nothing r fine flag c.in_default.ensures
+    c.untaken-in_default.result c.untaken-in_default.ensures
 
 pub overflow_add-frame : goal.overflow_add-frame
 unfolding candidate_bits
@@ -45,8 +43,7 @@ overflow_add-frame c =
     let r : Reader = c.args.reader in
     let fine : past r ≡ false = sym c.past.ensures ∙ c.if-past.false in
     let flag : r.candidate.waits ≡ true = not-false r.candidate.waits c.if-not-c.false in
-    let here : c.standing-there.result ≡ there_in (bits_of r) = c.standing-there.ensures in
-    let count : c.standing-there.result.frame.n ≡ n_at (bits_of r) = n-there r fine flag c.standing-there.result here (not-false _ c.if-not-there.false) in
+    let count : c.in-Some.frame.n ≡ n_at (bits_of r) = n-there r fine flag c.in-Some.frame c.in-Some.ensures in
     omega (arith, count, n-lt (bits_of r))
 
 pub overflow_mul-frame : goal.overflow_mul-frame
@@ -55,8 +52,7 @@ overflow_mul-frame c =
     let r : Reader = c.args.reader in
     let fine : past r ≡ false = sym c.past.ensures ∙ c.if-past.false in
     let flag : r.candidate.waits ≡ true = not-false r.candidate.waits c.if-not-c.false in
-    let here : c.standing-there.result ≡ there_in (bits_of r) = c.standing-there.ensures in
-    let count : c.standing-there.result.frame.n ≡ n_at (bits_of r) = n-there r fine flag c.standing-there.result here (not-false _ c.if-not-there.false) in
+    let count : c.in-Some.frame.n ≡ n_at (bits_of r) = n-there r fine flag c.in-Some.frame c.in-Some.ensures in
     omega (arith, count, n-lt (bits_of r))
 
 pub overflow_sub-c : goal.overflow_sub-c
@@ -65,11 +61,10 @@ overflow_sub-c c =
     let r : Reader = c.args.reader in
     let fine : past r ≡ false = sym c.past.ensures ∙ c.if-past.false in
     let flag : r.candidate.waits ≡ true = not-false r.candidate.waits c.if-not-c.false in
-    let here : c.standing-there.result ≡ there_in (bits_of r) = c.standing-there.ensures in
     let counts : Accepted r.candidate = to-accepted r.candidate fine in
     let len : length r.cells ≡ 40 = search rules in
     let long : length (bits_of r) ≡ r.candidate.held = length-held r.cells r.candidate.end r.candidate.held len counts.top counts.low in
-    come-there r fine flag c.standing-there.result here (not-false _ c.if-not-there.false) long
+    come-there r fine flag c.in-Some.frame c.in-Some.ensures long
 
 pub hunt-halt-requires : goal.hunt-halt-requires
 hunt-halt-requires c =
@@ -94,6 +89,5 @@ returns c =
     let r : Reader = c.args.reader in
     let fine : past r ≡ false = sym c.past.ensures ∙ c.if-past.false in
     let flag : r.candidate.waits ≡ true = not-false r.candidate.waits c.if-not-c.false in
-    let here : c.standing-there.result ≡ there_in (bits_of r) = c.standing-there.ensures in
-    take_done r fine flag c.standing-there.result here (not-false _ c.if-not-there.false)
+    take_done r fine flag c.in-Some.frame c.in-Some.ensures
     c.hunt-halt.result c.hunt-halt.ensures.0 c.moved-last.result c.moved-last.ensures

@@ -1,50 +1,20 @@
--- `rows_of` meets its contract: what is left are the rows of the entries that are not passed. Assumes nothing.
-use mathlib.Core.Path.{◌≡◌, sym, ap, ◌∙◌}
+-- `rows_of` meets its contract: a row an entry, one after the other. Assumes nothing.
+use mathlib.Core.Path.{sym, ap, ◌∙◌}
 use mathlib.Core.List.{map}
-use native.Mathlib.Omega.{arith}
-use lib.ListN.{length, take, length-take}
+use lib.ListN.{take}
 use borrow.Author.Rules.{rules}
-use Rattle.record_fields.specs.Tables.{put_rows}
-use Rattle.record_fields.proofs.TableLaws.{rows_next, rows_end}
+use Rattle.std.proofs.lemmas.Iterator.{YieldsList-from_slice, YieldsList-from_take}
+use Rattle.std.proofs.lemmas.Iterator.Consumers.{fold_from_yields_List}
+use Rattle.record_fields.specs.Tables.{put_row, put_rows}
+use Rattle.record_fields.proofs.TableLaws.{rows-folded}
 use Rattle.record_corrections.specs.Corrections.{widths, least, most, numbers}
 use Rattle.record_corrections.proofs.rows_of.Goals as goal
 
-pub loop-i-init : goal.loop-i-init
-loop-i-init c =
-    let a = c.args in
-    (omega arith, ap (put_rows widths least (most a.system) (map (numbers a.system) (take a.count a.entries))) (sym c.no_rows-rows.ensures))
-
-pub returns-then-i-count : goal.returns-then-i-count
-returns-then-i-count c =
-    let l = c.loop-i in
-    let a = c.args in
-    sym (l.invariant.1 ∙ rows_end (numbers a.system) widths least (most a.system) a.entries a.count l.i l.rows
-    (omega (arith, length-take a.count a.entries)))
-
-pub loop-i-preserved : goal.loop-i-preserved
-loop-i-preserved c =
-    let l = c.loop-i in
-    let a = c.args in
-    let full : length a.entries ≡ 18 = search rules in (
-      omega arith,
-      l.invariant.1
-          ∙ rows_next (numbers a.system) widths least (most a.system) a.entries a.count l.i _ l.rows c.put_entry-rows.result
-          (omega arith) (omega arith) c.put_entry-rows.ensures,
-    )
-
 pub returns : goal.returns
 returns c =
-    let l = c.loop-i in
     let a = c.args in
-    let full : length a.entries ≡ 18 = search rules in
-    sym (l.invariant.1 ∙ rows_end (numbers a.system) widths least (most a.system) a.entries a.count l.i l.rows
-    (omega (arith, length-take a.count a.entries)))
-
-pub bounds-entries-i : goal.bounds-entries-i
-bounds-entries-i c = omega arith
-
-pub overflow_add-i : goal.overflow_add-i
-overflow_add-i c = omega arith
-
-pub loop-i-smaller : goal.loop-i-smaller
-loop-i-smaller c = omega arith
+    let ns = numbers a.system in
+    fold_from_yields_List _ (λ q x. put_row widths least (most a.system) (ns x) q) c.no_rows.result c.fold.result c.fold.ensures.ran
+    (YieldsList-from_take a.count (YieldsList-from_slice a.entries cc) cc) (λ q x b f k. search rules)
+    ∙ sym (rows-folded ns widths least (most a.system) (take a.count a.entries) c.no_rows.result)
+    ∙ ap (put_rows widths least (most a.system) (map ns (take a.count a.entries))) c.no_rows.ensures

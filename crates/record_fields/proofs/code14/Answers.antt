@@ -12,16 +12,16 @@ use Rattle.bits.proofs.SignedLaws.{below-width, above-width, in-width}
 use Rattle.record_fields.proofs.NarrowLaws.{within-code, without-code}
 use Rattle.record_fields.proofs.SignedCode.{widened, wide_is, up}
 use Rattle.record_fields.proofs.code14.Goals as goal
+use Rattle.record_fields.proofs.code14.Goals.{then-z-ltminus8192-via-then-z-ltminus8192, then-z-ltminus8192-via-else-z-ltminus8192+then-z-gt8191}
 
 pub returns-then-z-ltminus8192 : goal.returns-then-z-ltminus8192
 returns-then-z-ltminus8192 c =
-    let is : to_z w16 (of_z w16 c.args.z) ≡ c.args.z = to_z-of_z w16 c.args.z c.ranges.z in
-    sym (without-code 13 c.args.z (below-width 13 8191 refl c.args.z (ap (λ (x : ℤ). lt_z x (negsuc 8191)) (sym is) ∙ c.if-z-ltminus8192.true)))
-
-pub returns-then-z-gt8191 : goal.returns-then-z-gt8191
-returns-then-z-gt8191 c =
-    let is : to_z w16 (of_z w16 c.args.z) ≡ c.args.z = to_z-of_z w16 c.args.z c.ranges.z in
-    sym (without-code 13 c.args.z (above-width 13 8191 refl c.args.z (ap (λ (x : ℤ). lt_z (pos 8191) x) (sym is) ∙ c.if-z-gt8191.true)))
+    let z = c.args.z in
+    let is : to_z w16 (of_z w16 z) ≡ z = to_z-of_z w16 z c.ranges.z in
+    sym (without-code 13 z (elim c.then-z-ltminus8192.branch [
+      | then-z-ltminus8192-via-then-z-ltminus8192 w ↦ below-width 13 8191 refl z (ap (λ (x : ℤ). lt_z x (negsuc 8191)) (sym is) ∙ w.if-z-ltminus8192.true)
+      | then-z-ltminus8192-via-else-z-ltminus8192+then-z-gt8191 w ↦ above-width 13 8191 refl z (ap (λ (x : ℤ). lt_z (pos 8191) x) (sym is) ∙ w.if-z-gt8191.true)
+    ]))
 
 pub overflow_cast-z : goal.overflow_cast-z
 overflow_cast-z c = widened w16 c.args.z c.ranges.z (up w16 _ c.ranges.z (omega arith))

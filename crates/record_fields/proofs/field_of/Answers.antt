@@ -6,27 +6,19 @@ use Rattle.bits.specs.Rows.{data_bits}
 use Rattle.bits.proofs.FieldLaws.{fits-field}
 use Rattle.record_fields.proofs.PackCode.{field_in_lem, field-wide, field_past, field-none, field-law, field_below}
 use Rattle.record_fields.proofs.field_of.Goals as goal
+use Rattle.record_fields.proofs.field_of.Goals.{then-width-gt32-via-then-width-gt32, then-width-gt32-via-else-width-gt32+then-width-eq0}
+use Rattle.record_fields.proofs.field_of.Goals.{then-width-gt32-via-else-width-gt32+else-width-eq0+then-offset-width}
 
 pub returns-then-width-gt32 : goal.returns-then-width-gt32
-returns-then-width-gt32 c = (
-  sym (field-wide c.args.words.now c.args.offset c.args.width c.if-width-gt32.true),
-  pow_pos
-      c.args.width,
-)
-
-pub returns-then-width-eq0 : goal.returns-then-width-eq0
-returns-then-width-eq0 c = (
-  sym (field-none c.args.words.now c.args.offset c.args.width c.if-width-eq0.true),
-  pow_pos
-      c.args.width,
-)
-
-pub returns-then-offset-width : goal.returns-then-offset-width
-returns-then-offset-width c = (
-  sym (field_past c.args.words.now c.args.offset c.args.width
-      (omega arith) (omega arith)),
-  pow_pos c.args.width,
-)
+returns-then-width-gt32 c =
+    let a = c.args in (
+      elim c.then-width-gt32.branch [
+        | then-width-gt32-via-then-width-gt32 w ↦ sym (field-wide a.words.now a.offset a.width w.if-width-gt32.true)
+        | then-width-gt32-via-else-width-gt32+then-width-eq0 w ↦ sym (field-none a.words.now a.offset a.width w.if-width-eq0.true)
+        | then-width-gt32-via-else-width-gt32+else-width-eq0+then-offset-width w ↦ sym (field_past a.words.now a.offset a.width (omega arith) (omega arith))
+      ],
+      pow_pos a.width,
+    )
 
 pub overflow_cast-result : goal.overflow_cast-result
 overflow_cast-result c =

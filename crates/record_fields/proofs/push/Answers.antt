@@ -18,7 +18,7 @@ pub overflow_add-full-2 : goal.overflow_add-full-2
 overflow_add-full-2 c =
     let a = c.args in
     record {
-      fits = push-fits a.packer.rest c.wide.result a.width c.pow.result c.pow-2.result (omega arith)
+      fits = push-fits a.packer.rest c.from.result a.width c.pow.result c.pow-2.result (omega arith)
           c.pow.ensures.0 c.pow-2.ensures.0;
     }
 
@@ -28,7 +28,7 @@ flush-requires-2 c = flush-held c.flush.result _ c.flush.ensures (omega arith)
 pub returns : goal.returns
 returns c =
     let a = c.args in
-    push-law a.packer a.width a.value c.wide.result c.pow.result c.pow-2.result
+    push-law a.packer a.width a.value c.from.result c.pow.result c.pow-2.result
     c.flush.result c.flush-2.result
-    (omega arith) c.pow.ensures.0 c.pow-2.ensures.0 c.wide.ensures c.flush.ensures
+    (omega arith) c.pow.ensures.0 c.pow-2.ensures.0 c.from.ensures c.flush.ensures
     c.flush-2.ensures

@@ -19,11 +19,10 @@ use Rattle.record_fields.proofs.TableLaws.{push-codes}
 use Rattle.record_stages.specs.declared.Made.{Made}
 use Rattle.record_stages.specs.Stages.{other_layout, wrong_size, made_order, made_by, refused_made, done_made}
 use Rattle.record_stages.proofs.ListLaws.{rows-after}
-use Rattle.record_stages.proofs.StageLaws.{told-wrong, told-right}
 use Rattle.record_generals.specs.Generals.{other_system, widths, coding, least, most, numbers, out_of_range, fill}
 use Rattle.record_generals.specs.GeneralNulls.{system_bits, system_rows, other_than_null, make_general_null}
 use Rattle.record_generals.proofs.LayoutLaws.{narrow, system-long, system-held}
-use Rattle.record_generals.proofs.StagedLaws.{told-unknown, told-known, refused-here, passed_here}
+use Rattle.record_generals.proofs.StagedLaws.{refused-here, passed_here}
 use Rattle.record_generals.proofs.make_general_null.Goals as goal
 
 -- the frame, and the checks from each on
@@ -73,7 +72,7 @@ returns-in_default c =
 pub returns-then-header-ne42 : goal.returns-then-header-ne42
 unfolding make_general_null
 returns-then-header-ne42 c =
-    let inside : header_outside c.args.header ≡ false = told-within _ (sym c.in-Within.is ∙ c.header_widths.ensures) in
+    let inside : header_outside c.args.header ≡ false = told-within _ (sym c.in-Ok.is ∙ c.header_widths.ensures) in
     let a = c.args in
     let h = a.header in
     c.refused-then-header-ne42.ensures
@@ -83,7 +82,7 @@ returns-then-header-ne42 c =
 pub returns-in_default-clock_of : goal.returns-in_default-clock_of
 unfolding make_general_null
 returns-in_default-clock_of c =
-    let inside : header_outside c.args.header ≡ false = told-within _ (sym c.in-Within.is ∙ c.header_widths.ensures) in
+    let inside : header_outside c.args.header ≡ false = told-within _ (sym c.in-Ok.is ∙ c.header_widths.ensures) in
     let kind-is : c.args.header.kind ≡ 42 = c.if-header-ne42.false in
     let a = c.args in
     let h = a.header in
@@ -93,12 +92,12 @@ returns-in_default-clock_of c =
     ∙ passed_here refused_made (done h a.system) (other_than_null h.kind) 6 (from7 h a.n a.system) (kind-null h.kind kind-is)
     ∙ passed_here refused_made (done h a.system) (header_outside h) 5 (from6 h a.n a.system) inside
 
-pub returns-in_default-known_of : goal.returns-in_default-known_of
+pub returns-then-other_system : goal.returns-then-other_system
 unfolding make_general_null
-returns-in_default-known_of c =
-    let inside : header_outside c.args.header ≡ false = told-within _ (sym c.in-Within.is ∙ c.header_widths.ensures) in
+returns-then-other_system c =
+    let inside : header_outside c.args.header ≡ false = told-within _ (sym c.in-Ok.is ∙ c.header_widths.ensures) in
     let kind-is : c.args.header.kind ≡ 42 = c.if-header-ne42.false in
-    let hour : late c.args.header.z ≡ false = told-hour _ (sym c.in-Hour.is ∙ c.clock_of.ensures) in
+    let hour : late c.args.header.z ≡ false = told-hour _ (sym c.in-Ok-clock_of.is ∙ c.clock_of.ensures) in
     let decides : (m : Made) → let a = c.args in
     m ≡ in_order (from23 a.n a.system) refused_made (done a.header a.system) → m ≡ make_general_null a.header a.n a.system = λ m e. let a = c.args in
     let h = a.header in
@@ -107,17 +106,17 @@ returns-in_default-known_of c =
     ∙ passed_here refused_made (done h a.system) (header_outside h) 5 (from6 h a.n a.system) inside in
     let a = c.args in
     decides _
-    (c.refused-in_default-known_of.ensures
+    (c.refused-then-other_system.ensures
     ∙ refused-here refused_made (done a.header a.system) (other_system a.system) 23 (from12 a.n)
-    (told-unknown _ (sym c.in_default-known_of.is ∙ c.known_of.ensures)))
+    (sym c.other_system.ensures ∙ c.if-other_system.true))
 
-pub returns-in_default-size_of : goal.returns-in_default-size_of
+pub returns-then-n-ne1 : goal.returns-then-n-ne1
 unfolding make_general_null
-returns-in_default-size_of c =
-    let known : other_system c.args.system ≡ false = told-known _ (sym c.in-Listed.is ∙ c.known_of.ensures) in
-    let inside : header_outside c.args.header ≡ false = told-within _ (sym c.in-Within.is ∙ c.header_widths.ensures) in
+returns-then-n-ne1 c =
+    let known : other_system c.args.system ≡ false = sym c.other_system.ensures ∙ c.if-other_system.false in
+    let inside : header_outside c.args.header ≡ false = told-within _ (sym c.in-Ok.is ∙ c.header_widths.ensures) in
     let kind-is : c.args.header.kind ≡ 42 = c.if-header-ne42.false in
-    let hour : late c.args.header.z ≡ false = told-hour _ (sym c.in-Hour.is ∙ c.clock_of.ensures) in
+    let hour : late c.args.header.z ≡ false = told-hour _ (sym c.in-Ok-clock_of.is ∙ c.clock_of.ensures) in
     let decides : (m : Made) → let a = c.args in
     m ≡ in_order (from23 a.n a.system) refused_made (done a.header a.system) → m ≡ make_general_null a.header a.n a.system = λ m e. let a = c.args in
     let h = a.header in
@@ -126,18 +125,18 @@ returns-in_default-size_of c =
     ∙ passed_here refused_made (done h a.system) (header_outside h) 5 (from6 h a.n a.system) inside in
     let a = c.args in
     decides _
-    (c.refused-in_default-size_of.ensures
+    (c.refused-then-n-ne1.ensures
     ∙ refused-here refused_made (done a.header a.system) (wrong_size 1 a.n) 12 []
-    (told-wrong _ (sym c.in_default-size_of.is ∙ c.size_of.ensures))
+    (ap not (ne_eqb a.n 1 c.if-n-ne1.true))
     ∙ passed_here refused_made (done a.header a.system) (other_system a.system) 23 (from12 a.n) known)
 
 pub returns : goal.returns
 unfolding make_general_null
 returns c =
-    let inside : header_outside c.args.header ≡ false = told-within _ (sym c.in-Within.is ∙ c.header_widths.ensures) in
+    let inside : header_outside c.args.header ≡ false = told-within _ (sym c.in-Ok.is ∙ c.header_widths.ensures) in
     let kind-is : c.args.header.kind ≡ 42 = c.if-header-ne42.false in
-    let hour : late c.args.header.z ≡ false = told-hour _ (sym c.in-Hour.is ∙ c.clock_of.ensures) in
-    let known : other_system c.args.system ≡ false = told-known _ (sym c.in-Listed.is ∙ c.known_of.ensures) in
+    let hour : late c.args.header.z ≡ false = told-hour _ (sym c.in-Ok-clock_of.is ∙ c.clock_of.ensures) in
+    let known : other_system c.args.system ≡ false = sym c.other_system.ensures ∙ c.if-other_system.false in
     let decides : (m : Made) → let a = c.args in
     m ≡ in_order (from23 a.n a.system) refused_made (done a.header a.system) → m ≡ make_general_null a.header a.n a.system = λ m e. let a = c.args in
     let h = a.header in
@@ -149,5 +148,5 @@ returns c =
     (made a.header a.system c.system_rows.result c.make_frame.result c.make_frame.ensures c.system_rows.ensures
     inside kind-is hour
     ∙ passed_here refused_made (done a.header a.system) (wrong_size 1 a.n) 12 []
-    (told-right _ (sym c.in-Right.is ∙ c.size_of.ensures))
+    (ap not (eq-eqb a.n 1 c.if-n-ne1.false))
     ∙ passed_here refused_made (done a.header a.system) (other_system a.system) 23 (from12 a.n) known)

@@ -8,8 +8,6 @@ use Rattle.answer.specs.Order.{Check}
 use Rattle.frame.specs.Answer.{header_widths, clock_of}
 use Rattle.frame.specs.Widths.{any_of}
 use Rattle.frame.specs.declared.Header.{Header}
-use Rattle.frame.specs.declared.Widths.TheVariants.{Within}
-use Rattle.frame.specs.declared.Clock.TheVariants.{Hour}
 use Rattle.frame.specs.declared.Layout.TheVariants as layout
 use Rattle.record_fields.specs.declared.Rows.{Rows}
 use Rattle.record_fields.specs.Coding.{frame_after}
@@ -25,8 +23,9 @@ use Rattle.record_generals.specs.declared.GeneralHead.{GeneralHead}
 use Rattle.record_generals.specs.Generals.{other_system, head_out, head_bits, head_rows, delay_width, widths, coding, least, most, numbers}
 use Rattle.record_generals.specs.Generals.{out_of_range, fill, most_generals, make_generals}
 use Rattle.record_generals.proofs.LayoutLaws.{delay-small, narrow, few, head-held}
-use Rattle.record_generals.proofs.StagedLaws.{told-unknown, told-known, refused-here, passed_here}
+use Rattle.record_generals.proofs.StagedLaws.{refused-here, passed_here}
 use Rattle.record_generals.proofs.make_generals.Goals as goal
+use Rattle.answer.specs.Table.{granted}
 
 -- the checks of 12 and 10, those from 23 on, and the frame, by the width of the delay
 abbrev twelve : ℕ → GeneralHead → List General → ℕ → List Check
@@ -41,7 +40,7 @@ done d h a gs c = done_made (frame_after (head_bits a) fill (coding d) h (take c
 -- what is made of the rows, past the stages up to 23
 made : (h : Header) (a : GeneralHead) (gs : List General) (c : ℕ) (r : Rows) (m : Made) → let d = delay_width a.ionosphere in
     m ≡ made_by layout.General (most_generals d) fill h c r → r ≡ put_rows (widths d) least (most d) (map numbers (take c gs)) (head_rows a)
-    → Within ≡ header_widths h → Same ≡ asked_of layout.General h.kind → Hour ≡ clock_of h.z → other_system a.system ≡ false
+    → granted ≡ header_widths h → Same ≡ asked_of layout.General h.kind → granted ≡ clock_of h.z → other_system a.system ≡ false
     → m ≡ make_generals h a gs c
 unfolding make_generals put_row no_rows
 made h a gs c r m em er within same hour known =
@@ -63,7 +62,7 @@ returns-in_default c =
 pub returns-in_default-asked_of : goal.returns-in_default-asked_of
 unfolding make_generals
 returns-in_default-asked_of c =
-    let within : Within ≡ header_widths c.args.header = sym c.in-Within.is ∙ c.header_widths.ensures in
+    let within : granted ≡ header_widths c.args.header = sym c.in-Ok.is ∙ c.header_widths.ensures in
     let asked : List Check = let a = c.args in own (delay_width a.head.ionosphere) a.head a.entries a.count in
     let answer : Made = let a = c.args in done (delay_width a.head.ionosphere) a.header a.head a.entries a.count in
     c.refused-in_default-asked_of.ensures
@@ -73,7 +72,7 @@ returns-in_default-asked_of c =
 pub returns-in_default-clock_of : goal.returns-in_default-clock_of
 unfolding make_generals
 returns-in_default-clock_of c =
-    let within : Within ≡ header_widths c.args.header = sym c.in-Within.is ∙ c.header_widths.ensures in
+    let within : granted ≡ header_widths c.args.header = sym c.in-Ok.is ∙ c.header_widths.ensures in
     let same : Same ≡ asked_of layout.General c.args.header.kind = sym c.in-Same.is ∙ c.asked_of.ensures in
     let asked : List Check = let a = c.args in own (delay_width a.head.ionosphere) a.head a.entries a.count in
     let answer : Made = let a = c.args in done (delay_width a.head.ionosphere) a.header a.head a.entries a.count in
@@ -81,25 +80,25 @@ returns-in_default-clock_of c =
     ∙ make7 layout.General c.args.header asked refused_made answer within same
     (sym c.in_default-clock_of.is ∙ c.clock_of.ensures)
 
-pub returns-in_default-known_of : goal.returns-in_default-known_of
+pub returns-then-other_system : goal.returns-then-other_system
 unfolding make_generals
-returns-in_default-known_of c =
-    let within : Within ≡ header_widths c.args.header = sym c.in-Within.is ∙ c.header_widths.ensures in
+returns-then-other_system c =
+    let within : granted ≡ header_widths c.args.header = sym c.in-Ok.is ∙ c.header_widths.ensures in
     let same : Same ≡ asked_of layout.General c.args.header.kind = sym c.in-Same.is ∙ c.asked_of.ensures in
-    let hour : Hour ≡ clock_of c.args.header.z = sym c.in-Hour.is ∙ c.clock_of.ensures in
+    let hour : granted ≡ clock_of c.args.header.z = sym c.in-Ok-clock_of.is ∙ c.clock_of.ensures in
     let asked : List Check = let a = c.args in own (delay_width a.head.ionosphere) a.head a.entries a.count in
     let answer : Made = let a = c.args in done (delay_width a.head.ionosphere) a.header a.head a.entries a.count in
     let a = c.args in
-    c.refused-in_default-known_of.ensures
+    c.refused-then-other_system.ensures
     ∙ refused-here refused_made answer (other_system a.head.system) 23 (twelve (delay_width a.head.ionosphere) a.head a.entries a.count)
-    (told-unknown _ (sym c.in_default-known_of.is ∙ c.known_of.ensures))
+    (sym c.other_system.ensures ∙ c.if-other_system.true)
     ∙ make-on layout.General a.header asked refused_made answer within same hour
 
 pub returns : goal.returns
 returns c =
-    let within : Within ≡ header_widths c.args.header = sym c.in-Within.is ∙ c.header_widths.ensures in
+    let within : granted ≡ header_widths c.args.header = sym c.in-Ok.is ∙ c.header_widths.ensures in
     let same : Same ≡ asked_of layout.General c.args.header.kind = sym c.in-Same.is ∙ c.asked_of.ensures in
-    let hour : Hour ≡ clock_of c.args.header.z = sym c.in-Hour.is ∙ c.clock_of.ensures in
+    let hour : granted ≡ clock_of c.args.header.z = sym c.in-Ok-clock_of.is ∙ c.clock_of.ensures in
     let a = c.args in
     let r = c.rows_of-rows.result in
     made a.header a.head a.entries a.count r c.make_frame.result
@@ -108,4 +107,4 @@ returns c =
     (c.rows_of-rows.ensures
     ∙ ap (λ d. put_rows (widths d) least (most d) (map numbers (take a.count a.entries)) (head_rows a.head)) c.delay_width-delay.ensures.0)
     within same hour
-    (told-known _ (sym c.in-Listed.is ∙ c.known_of.ensures))
+    (sym c.other_system.ensures ∙ c.if-other_system.false)

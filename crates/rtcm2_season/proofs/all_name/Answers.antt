@@ -41,9 +41,3 @@ overflow_add-i c = omega arith
 
 pub numbers_at-requires : goal.numbers_at-requires
 numbers_at-requires c = omega arith
-
-pub overflow_add-i-in-loop-i : goal.overflow_add-i-in-loop-i
-overflow_add-i-in-loop-i c = omega arith
-
-pub loop-i-smaller : goal.loop-i-smaller
-loop-i-smaller c = omega arith

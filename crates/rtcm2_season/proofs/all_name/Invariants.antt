@@ -8,6 +8,3 @@ use Rattle.rtcm2_season.proofs.all_name.Given as goal
 -- what is left to look at says it of all
 abbrev pub invariant-loop-i : goal.invariant-loop-i
 invariant-loop-i l = (all_name l.used (drop 4 l.bytes) ≡ all_name (l.used - l.i) (drop (4 + l.i * 29) l.bytes)) × (l.i ≤ l.used)
-
-abbrev pub decreases-loop-i : goal.decreases-loop-i
-decreases-loop-i l = l.used - l.i

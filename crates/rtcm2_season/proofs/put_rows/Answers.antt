@@ -43,11 +43,5 @@ overflow_add-i c = omega arith
 pub put_row_at-requires : goal.put_row_at-requires
 put_row_at-requires c = omega arith
 
-pub overflow_add-i-in-loop-i : goal.overflow_add-i-in-loop-i
-overflow_add-i-in-loop-i c = omega arith
-
-pub loop-i-smaller : goal.loop-i-smaller
-loop-i-smaller c = omega arith
-
 pub shape_of-bytes : goal.shape_of-bytes
 shape_of-bytes c = omega arith

@@ -45,9 +45,3 @@ offset_bounds-rows-i c = omega arith
 
 pub bounds-rows-i : goal.bounds-rows-i
 bounds-rows-i c = omega arith
-
-pub overflow_add-i-in-loop-i : goal.overflow_add-i-in-loop-i
-overflow_add-i-in-loop-i c = omega arith
-
-pub loop-i-smaller : goal.loop-i-smaller
-loop-i-smaller c = omega arith

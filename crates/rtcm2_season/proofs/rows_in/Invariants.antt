@@ -11,6 +11,3 @@ use Rattle.rtcm2_season.proofs.rows_in.Given as goal
 abbrev pub invariant-loop-i : goal.invariant-loop-i
 invariant-loop-i l =
     (take l.i l.rows ≡ entries_from report_row l.i (drop 4 l.bytes)) × ((drop l.i l.rows ≡ replicate (512 - l.i) blank_row) × ((l.i ≤ l.used) × (length l.rows ≡ 512)))
-
-abbrev pub decreases-loop-i : goal.decreases-loop-i
-decreases-loop-i l = l.used - l.i

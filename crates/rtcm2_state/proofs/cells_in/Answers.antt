@@ -11,36 +11,16 @@ use Rattle.rtcm2_state.proofs.cells_in.Goals as goal
 
 pub loop-i-init : goal.loop-i-init
 unfolding numbers_in
-loop-i-init c = (refl, (omega arith, omega arith))
+loop-i-init c = refl
 
 pub loop-i-preserved : goal.loop-i-preserved
 loop-i-preserved c =
     let bytes = c.args.bytes.now in
     let number : c.number_at.result ≡ number_in (take 4 (drop (4 * c.loop-i.i) (drop start_size bytes))) =
-    c.number_at.ensures ∙ ap (λ r. number_in (take 4 r)) (ap (λ j. drop j bytes) c.loop-i.invariant.1.1 ∙ sym (drop-drop (4 * c.loop-i.i) start_size bytes)) in (
-      ap₂ (λ ns n. set ns c.loop-i.i n) c.loop-i.invariant.0 number ∙ number-filled 40 c.loop-i.i (drop start_size bytes) (omega arith),
-      (omega arith, omega arith),
-    )
+    c.number_at.ensures ∙ ap (λ r. number_in (take 4 r)) (sym (drop-drop (4 * c.loop-i.i) start_size bytes)) in
+    ap₂ (λ ns n. set ns c.loop-i.i n) c.loop-i.invariant number ∙ number-filled 40 c.loop-i.i (drop start_size bytes) (omega arith)
 
 pub returns : goal.returns
 returns c =
     let all : c.loop-i.i ≡ 40 = omega arith in
-    c.loop-i.invariant.0 ∙ numbers-all 40 c.loop-i.i (drop start_size c.args.bytes.now) all
-
-pub number_at-requires : goal.number_at-requires
-number_at-requires c = omega arith
-
-pub offset_bounds-cells-i : goal.offset_bounds-cells-i
-offset_bounds-cells-i c = omega arith
-
-pub bounds-cells-i : goal.bounds-cells-i
-bounds-cells-i c = omega arith
-
-pub overflow_add-next : goal.overflow_add-next
-overflow_add-next c = omega arith
-
-pub overflow_add-i : goal.overflow_add-i
-overflow_add-i c = omega arith
-
-pub loop-i-smaller : goal.loop-i-smaller
-loop-i-smaller c = omega arith
+    c.loop-i.invariant ∙ numbers-all 40 c.loop-i.i (drop start_size c.args.bytes.now) all

@@ -1,16 +1,10 @@
--- `word_of` meets its contract: the two refusals, then the data and their parity. Assumes nothing.
+-- `word_of` meets its contract: the data turned over, then their parity. Assumes nothing.
 use native.Mathlib.Omega.{arith}
-use borrow.Author.Tests.{le-leb, lt-leb}
+use borrow.Author.Tests.{lt-leb}
 use Rattle.bits.specs.Bits.{bits}
 use Rattle.word.specs.Word.{d29*, d30*}
 use Rattle.word.proofs.Computes.{turned_lt, parity-lt, sent-law}
 use Rattle.word.proofs.word_of.Goals as goal
-
-pub returns-then-carried-ge4 : goal.returns-then-carried-ge4
-returns-then-carried-ge4 c = simp (le-leb _ _ c.if-carried-ge4.true)
-
-pub returns-then-data-ge16777216 : goal.returns-then-data-ge16777216
-returns-then-data-ge16777216 c = simp (lt-leb _ _ c.if-carried-ge4.false, le-leb _ _ c.if-data-ge16777216.true)
 
 pub overflow_mul-result : goal.overflow_mul-result
 overflow_mul-result c =

@@ -1,10 +1,6 @@
 -- `put_words` meets its contract. The loop's invariant: what is left, put from here, gives what all words give from the start. Assumes nothing.
-use Prim.Native.Nat.{◌-◌}
 use Rattle.writer.proofs.Putting.{PutSoFar}
 use Rattle.writer.proofs.put_words.Given as goal
 
 abbrev pub invariant-loop-i : goal.invariant-loop-i
-invariant-loop-i l = PutSoFar l.words l.n l.at l.carried l.initial.buffer l.buffer l.pair l.i
-
-abbrev pub decreases-loop-i : goal.decreases-loop-i
-decreases-loop-i l = l.n - l.i
+invariant-loop-i l = PutSoFar l.words l.at l.carried l.initial.buffer l.buffer l.pair l.i

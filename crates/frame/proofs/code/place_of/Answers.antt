@@ -1,26 +1,19 @@
--- `place_of` meets its contract: by a loop that has passed other factors only. Assumes nothing.
-use mathlib.Core.Path.{sym, ◌∙◌}
-use Prim.Native.Nat.{◌≤◌}
+-- `place_of` meets its contract: `position` is the definition's recursion. Assumes nothing.
+use mathlib.Core.Path.{◌≡◌, ◌∙◌}
 use native.Mathlib.Omega.{arith}
-use lib.ListN.{length}
-use Rattle.frame.specs.Header.{factors}
-use Rattle.frame.proofs.StateLaws.{place-hit, place-miss, place_end, length-factors}
+use lib.Dec.{eqb}
+use borrow.Author.Tests.{tests}
+use Rattle.std.proofs.Common.{rules}
+use Rattle.std.proofs.lemmas.Iterator.{YieldsList-from_slice}
+use Rattle.std.proofs.lemmas.Iterator.Search.{position_from_yields_List}
+use Rattle.frame.specs.Header.{factors, place_in}
+use Rattle.frame.proofs.StateLaws.{place-found, place-le}
 use Rattle.frame.proofs.code.place_of.Goals as goal
 
-pub loop-i-init : goal.loop-i-init
-loop-i-init c = (omega arith, omega arith)
-
-pub returns-then-factor-i : goal.returns-then-factor-i
-unfolding factors
-returns-then-factor-i c =
-    sym (c.loop-i.invariant.1 ∙ place-hit c.args.factor c.loop-i.i factors (omega arith) c.if-factor-i.true)
-
-pub loop-i-preserved : goal.loop-i-preserved
-unfolding factors
-loop-i-preserved c =
-    (omega arith, c.loop-i.invariant.1 ∙ place-miss c.args.factor c.loop-i.i factors (omega arith) c.if-factor-i.false)
-
 pub returns : goal.returns
+unfolding factors
 returns c =
-    let h : length factors ≤ c.loop-i.i = omega (arith, length-factors) in
-    omega (arith, place_end c.args.factor c.loop-i.i factors h)
+    let x = c.args.factor in
+    let found = position_from_yields_List (eqb x) _ _ _ c.position-place.ensures.ran (YieldsList-from_slice factors cc) (λ y b q k. search (rules, tests)) in
+    let is : c.unwrap_or.result ≡ place_in x factors = c.unwrap_or.ensures ∙ place-found x factors _ found in
+    record { value = is; bound = omega (arith, is, place-le x factors) }

@@ -1,27 +1,15 @@
--- `any_from` meets its contract: by a loop that has passed no such word. Assumes nothing.
+-- `any_from` meets its contract: `any` is the definition's recursion. Assumes nothing.
 use mathlib.Core.Path.{sym, ◌∙◌}
-use Prim.Native.Nat.{◌≤◌, ◌<◌}
-use native.Mathlib.Omega.{arith}
 use lib.Dec.{leb}
-use lib.ListN.{length}
-use borrow.Author.Tests.{le-leb, lt-leb}
-use Rattle.frame.proofs.WidthLaws.{any-hit, any-miss, any-end}
+use borrow.Author.Tests.{tests}
+use Rattle.std.proofs.Common.{rules}
+use Rattle.std.proofs.lemmas.Iterator.{YieldsList-from_slice}
+use Rattle.std.proofs.lemmas.Iterator.Search.{any_from_yields_List}
+use Rattle.frame.proofs.WidthLaws.{any_listed}
 use Rattle.frame.proofs.outside.any_from.Goals as goal
-
-pub returns-then-words-i : goal.returns-then-words-i
-returns-then-words-i c =
-    let a = c.args in
-    let h : c.loop-i.i < length a.words.now = omega arith in
-    sym (c.loop-i.invariant ∙ any-hit (leb a.least) c.loop-i.i a.words.now h (le-leb _ _ c.if-words-i.true))
-
-pub loop-i-preserved : goal.loop-i-preserved
-loop-i-preserved c =
-    let a = c.args in
-    let h : c.loop-i.i < length a.words.now = omega arith in
-    c.loop-i.invariant ∙ any-miss (leb a.least) c.loop-i.i a.words.now h (lt-leb _ _ c.if-words-i.false)
 
 pub returns : goal.returns
 returns c =
-    let a = c.args in
-    let h : length a.words.now ≤ c.loop-i.i = omega arith in
-    sym (c.loop-i.invariant ∙ any-end (leb a.least) c.loop-i.i a.words.now h)
+    let ws = c.args.words.now in
+    any_from_yields_List (leb c.args.least) _ _ _ c.any.ensures.ran (YieldsList-from_slice ws cc) (λ x b q k. search (rules, tests))
+    ∙ sym (any_listed (leb c.args.least) ws)

@@ -1,53 +1,10 @@
--- `word_at` meets its contract: by a loop over the bytes, each of which comes below those read. Assumes nothing.
-use mathlib.Core.Path.{◌≡◌, sym, ap, ◌∙◌}
-use Prim.Native.Nat.{◌+◌, ◌*◌}
+-- `word_at` meets its contract: bytes behind zeros are the word that they write. Assumes nothing.
+use mathlib.Core.Path.{◌∙◌}
 use native.Mathlib.Omega.{arith}
-use lib.ListN.{take, drop, get_or}
-use Rattle.journal.specs.Bytes.{word_in}
-use Rattle.journal.proofs.ByteLaws.{word_none}
-use Rattle.journal.proofs.TurnLaws.{word_more, word_small}
+use Rattle.journal.proofs.TurnLaws.{read-word}
 use Rattle.journal.proofs.form.word_at.Goals as goal
-
-pub loop-i-init : goal.loop-i-init
-loop-i-init c = (omega arith, sym word_none)
-
-pub overflow_mul-word : goal.overflow_mul-word
-overflow_mul-word c =
-    omega (arith, word_small c.loop-i.i (drop c.args.at c.args.bytes.now) (omega arith))
-
-pub overflow_cast-word : goal.overflow_cast-word
-overflow_cast-word c =
-    omega (arith, c.type_inv.bytes (c.args.at + c.loop-i.i))
-
-pub overflow_add-word-in-loop-i : goal.overflow_add-word-in-loop-i
-overflow_add-word-in-loop-i c =
-    omega (
-      arith,
-      c.type_inv.bytes (c.args.at + c.loop-i.i),
-      word_small c.loop-i.i (drop c.args.at c.args.bytes.now) (omega arith),
-    )
-
-pub loop-i-preserved : goal.loop-i-preserved
-loop-i-preserved c =
-    let a = c.args in (
-      omega arith,
-      ap (λ w. w * 256 + get_or a.bytes.now (a.at + c.loop-i.i) 0) c.loop-i.invariant.1
-          ∙ word_more a.bytes.now a.at c.loop-i.i (omega arith) (omega (arith, c.type_inv.bytes (a.at + c.loop-i.i))),
-    )
 
 pub returns : goal.returns
 returns c =
-    let all : c.loop-i.i ≡ c.args.size = omega arith in
-    c.loop-i.invariant.1 ∙ ap (λ k. word_in (take k (drop c.args.at c.args.bytes.now))) all
-
-pub overflow_add-word : goal.overflow_add-word
-overflow_add-word c = omega arith
-
-pub bounds-bytes-at : goal.bounds-bytes-at
-bounds-bytes-at c = omega arith
-
-pub overflow_add-i : goal.overflow_add-i
-overflow_add-i c = omega arith
-
-pub loop-i-smaller : goal.loop-i-smaller
-loop-i-smaller c = omega arith
+    let a = c.args in
+    c.from_be_bytes.ensures ∙ read-word a.size a.bytes.now a.at c.requires.0 c.requires.1 (λ j. omega (arith, c.type_inv.bytes j)) c.copy_from_slice.ensures.after

@@ -17,7 +17,7 @@ put_pair-requires c =
 pub returns : goal.returns
 returns c =
     let f = c.args.frame in
-    let code = health-code f.header.state c.requires.0 _ (sym c.health_of.ensures ∙ c.in-Code.is) in
+    let code = health-code f.header.state c.requires.0 _ (sym c.health_of.ensures ∙ c.in-Ok.is) in
     let numbers : ℕ → List ℕ = λ x. c.args.at ∷ f.header.kind ∷ f.header.station ∷ f.header.z ∷ f.header.sequence ∷ f.n ∷ x ∷ [] in
     let next = c.put_numbers-next.ensures.value.0 ∙ ap (λ x. c.args.place + length (spaced (numbers x))) code in
     let stored = c.put_numbers-next.ensures.buffer_after ∙ ap (λ x. sets c.args.buffer.now c.args.place (spaced (numbers x))) code in

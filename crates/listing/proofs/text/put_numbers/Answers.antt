@@ -9,57 +9,44 @@ use Rattle.listing.specs.Text.{space, spaced}
 use Rattle.listing.proofs.TextLaws.{store-spaced, length-spaced}
 use Rattle.listing.proofs.text.put_numbers.Goals as goal
 
-pub loop-i-init : goal.loop-i-init
-loop-i-init c = (refl, refl, omega arith, omega arith, refl)
+pub loop-number-init : goal.loop-number-init
+loop-number-init c = (refl, refl, omega arith, refl)
 
 -- there is room for every number
 pub returns-in_default : goal.returns-in_default
 returns-in_default c =
-    let n = get_or c.args.numbers.now c.loop-i.i 0 in
-    absurd (not-refused (decimal n) c.loop-i.next c.loop-i.buffer 20 (decimal-le n) (omega arith) _ _ (c.put_number.ensures.value, c.put_number.ensures.buffer_after) _ c.in_default.is)
+    let n = get_or c.args.numbers.now c.loop-number.number-index 0 in
+    absurd (not-refused (decimal n) c.loop-number.next c.loop-number.buffer 20 (decimal-le n) (omega arith) _ _ (c.put_number.ensures.value, c.put_number.ensures.buffer_after) _ c.in_default.is)
 
 pub bounds-buffer-end : goal.bounds-buffer-end
 bounds-buffer-end c =
-    let n = get_or c.args.numbers.now c.loop-i.i 0 in
-    let it = told (decimal n) c.loop-i.next c.loop-i.buffer 20 (decimal-le n) (omega arith) _ _ (c.put_number.ensures.value, c.put_number.ensures.buffer_after) _ c.in-At.is in
-    omega (arith, it.1, length-stored c.loop-i.buffer c.loop-i.next (decimal n) _ it.2)
+    let n = get_or c.args.numbers.now c.loop-number.number-index 0 in
+    let it = told (decimal n) c.loop-number.next c.loop-number.buffer 20 (decimal-le n) (omega arith) _ _ (c.put_number.ensures.value, c.put_number.ensures.buffer_after) _ c.in-Ok.is in
+    omega (arith, it.1, length-stored c.loop-number.buffer c.loop-number.next (decimal n) _ it.2)
 
 pub overflow_add-next : goal.overflow_add-next
 overflow_add-next c =
-    let n = get_or c.args.numbers.now c.loop-i.i 0 in
-    let it = told (decimal n) c.loop-i.next c.loop-i.buffer 20 (decimal-le n) (omega arith) _ _ (c.put_number.ensures.value, c.put_number.ensures.buffer_after) _ c.in-At.is in
+    let n = get_or c.args.numbers.now c.loop-number.number-index 0 in
+    let it = told (decimal n) c.loop-number.next c.loop-number.buffer 20 (decimal-le n) (omega arith) _ _ (c.put_number.ensures.value, c.put_number.ensures.buffer_after) _ c.in-Ok.is in
     omega (arith, it.1)
 
-pub loop-i-preserved : goal.loop-i-preserved
-loop-i-preserved c =
+pub loop-number-preserved : goal.loop-number-preserved
+loop-number-preserved c =
     let ns = c.args.numbers.now in
-    let n = get_or ns c.loop-i.i 0 in
-    let it = told (decimal n) c.loop-i.next c.loop-i.buffer 20 (decimal-le n) (omega arith) _ _ (c.put_number.ensures.value, c.put_number.ensures.buffer_after) _ c.in-At.is in (
-      c.loop-i.invariant.0 ∙ store-spaced c.loop-i.buffer ns c.loop-i.next c.loop-i.i (omega (arith, c.requires.0)) _ it.2 _ it.0,
-      omega (arith, c.loop-i.invariant.1, it.0, length-spaced ns c.loop-i.i (omega (arith, c.requires.0))),
-      omega arith,
+    let n = get_or ns c.loop-number.number-index 0 in
+    let it = told (decimal n) c.loop-number.next c.loop-number.buffer 20 (decimal-le n) (omega arith) _ _ (c.put_number.ensures.value, c.put_number.ensures.buffer_after) _ c.in-Ok.is in (
+      c.loop-number.invariant.0 ∙ store-spaced c.loop-number.buffer ns c.loop-number.next c.loop-number.number-index (omega (arith, c.requires.0)) _ it.2 _ it.0,
+      omega (arith, c.loop-number.invariant.1, it.0, length-spaced ns c.loop-number.number-index (omega (arith, c.requires.0))),
       omega (arith, it.1),
-      length_marked c.loop-i.buffer c.loop-i.next (decimal n) _ it.2 c.in-At.end space ∙ c.loop-i.invariant.4,
+      length_marked c.loop-number.buffer c.loop-number.next (decimal n) _ it.2 c.in-Ok.end space ∙ c.loop-number.invariant.3,
     )
 
 pub returns : goal.returns
 unfolding spaced
 returns c =
     let ns = c.args.numbers.now in
-    let all : drop c.loop-i.i ns ≡ [] = drop_of_length-le ns {i = c.loop-i.i} (omega (arith, c.requires.0)) in
-    record { value = (sym (c.loop-i.invariant.1 ∙ ap (λ r. c.loop-i.next + length (spaced r)) all ∙ add-zero c.loop-i.next), omega arith); buffer_after = sym (c.loop-i.invariant.0 ∙ ap (λ r. sets c.loop-i.buffer c.loop-i.next (spaced r)) all) }
-
-pub offset_bounds-numbers-i : goal.offset_bounds-numbers-i
-offset_bounds-numbers-i c = omega arith
-
-pub bounds-numbers-i : goal.bounds-numbers-i
-bounds-numbers-i c = omega arith
-
-pub overflow_add-i : goal.overflow_add-i
-overflow_add-i c = omega arith
-
-pub loop-i-smaller : goal.loop-i-smaller
-loop-i-smaller c = omega arith
+    let all : drop c.loop-number.number-index ns ≡ [] = drop_of_length-le ns {i = c.loop-number.number-index} (omega (arith, c.requires.0)) in
+    record { value = (sym (c.loop-number.invariant.1 ∙ ap (λ r. c.loop-number.next + length (spaced r)) all ∙ add-zero c.loop-number.next), omega arith); buffer_after = sym (c.loop-number.invariant.0 ∙ ap (λ r. sets c.loop-number.buffer c.loop-number.next (spaced r)) all) }
 
 pub shape_of-buffer : goal.shape_of-buffer
-shape_of-buffer c = c.loop-i.invariant.4
+shape_of-buffer c = c.loop-number.invariant.3

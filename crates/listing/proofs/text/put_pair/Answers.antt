@@ -14,20 +14,11 @@ returns c =
     let a = c.args in
     record { value = refl; buffer_after = store-three a.buffer.now a.place (48 + a.carried.d29) (48 + a.carried.d30) 10 }
 
-pub overflow_add-buffer-3 : goal.overflow_add-buffer-3
-overflow_add-buffer-3 c = omega arith
-
 pub bounds-buffer-place-2 : goal.bounds-buffer-place-2
 bounds-buffer-place-2 c = simp length-set (omega arith)
 
-pub overflow_add-buffer-4 : goal.overflow_add-buffer-4
-overflow_add-buffer-4 c = omega arith
-
 pub bounds-buffer-place-3 : goal.bounds-buffer-place-3
 bounds-buffer-place-3 c = simp length-set (omega arith)
-
-pub overflow_add-result : goal.overflow_add-result
-overflow_add-result c = omega arith
 
 pub shape_of-buffer : goal.shape_of-buffer
 shape_of-buffer c = simp length-set

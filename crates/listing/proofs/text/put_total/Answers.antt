@@ -16,5 +16,5 @@ returns c =
     let a = c.args in
     let label = a.label.now in
     let it = told (label ++ decimal a.total) a.place a.buffer.now (length label + 20) (labelled-le label a.total) (omega arith)
-    _ _ (c.put_labelled.ensures.value, c.put_labelled.ensures.buffer_after) _ c.in-At.is in
+    _ _ (c.put_labelled.ensures.value, c.put_labelled.ensures.buffer_after) _ c.in-Ok.is in
     record { value = (it.0, omega (arith, it.1)); buffer_after = it.2 }

@@ -14,5 +14,5 @@ pub returns : goal.returns
 returns c =
     let text = c.args.label.now ++ decimal c.args.n in
     let it = told text c.args.place c.args.buffer.now (length text) (omega arith) c.requires
-    _ _ (c.put_labelled.ensures.value, c.put_labelled.ensures.buffer_after) _ c.in-At.is in
+    _ _ (c.put_labelled.ensures.value, c.put_labelled.ensures.buffer_after) _ c.in-Ok.is in
     record { value = it.0; buffer_after = it.2 }

@@ -13,7 +13,7 @@ use Rattle.profile.proofs.cuts.cut_all.Goals as goal
 
 pub loop-i-init : goal.loop-i-init
 unfolding no_frames
-loop-i-init c = (refl, (ap (λ f. replicate 6 f) c.no_frame-frames.ensures, (omega arith, refl)))
+loop-i-init c = (refl, (ap (λ f. replicate 6 f) c.no_frame-frames.ensures, refl))
 
 pub loop-i-preserved : goal.loop-i-preserved
 loop-i-preserved c =
@@ -21,7 +21,7 @@ loop-i-preserved c =
     let a = c.args in (
       listed_next (made_part a.header (take a.count a.entries)) l.frames l.i c.cut_frame.result
           (omega arith) c.cut_frame.ensures l.invariant.0,
-      (rest-next l.frames no_frames l.i c.cut_frame.result l.invariant.1.0, (omega arith, search rules)),
+      (rest-next l.frames no_frames l.i c.cut_frame.result l.invariant.1.0, search rules),
     )
 
 pub returns : goal.returns
@@ -40,9 +40,3 @@ offset_bounds-frames-i c = omega arith
 
 pub bounds-frames-i : goal.bounds-frames-i
 bounds-frames-i c = omega arith
-
-pub overflow_add-i : goal.overflow_add-i
-overflow_add-i c = omega arith
-
-pub loop-i-smaller : goal.loop-i-smaller
-loop-i-smaller c = omega arith

@@ -3,7 +3,7 @@ use Rattle.std.proofs.Common.{ℕ, ◌+◌, ◌≤◌, List, length, get_or, dro
 use Rattle.bits.specs.Bits.{number}
 use Rattle.line.specs.Line.{six}
 use Rattle.line.proofs.LineLaws.{six-lt, six-bits, six-refused}
-use Rattle.reader.specs.Reading.{step_cells, step_to, FiveIn, Run, spent, run_to}
+use Rattle.reader.specs.Reading.{step_cells, step_to, Run, spent, run_to}
 use Rattle.reader.proofs.Accepted.{Accepted, to-accepted, room-free, length-step, accepted-step}
 use Rattle.reader.proofs.Running.{spent-none, loop-waits, loop-ends, loop-on, loop-over}
 use Rattle.reader.proofs.Ahead.{many-quiet}
@@ -28,40 +28,40 @@ returns-then-c c =
     c.loop-used.cells c.loop-used.c c.loop-used.used c.loop-used.passed c.loop-used.invariant.4 c.if-c.true
 
 -- ---- five bytes at once
-pub five_of-ahead-requires : goal.five_of-ahead-requires
-five_of-ahead-requires c =
+pub five_of-requires : goal.five_of-requires
+five_of-requires c =
     (c.loop-used.invariant.2, room-free c.loop-used.c c.loop-used.invariant.1 c.if-c.false, c.loop-used.invariant.1.few)
 
 pub burst-c-requires : goal.burst-c-requires
 burst-c-requires c =
     let bytes : List ℕ = c.args.bytes.now in
     let k = c.loop-used.invariant.1 in
-    let v = subst (FiveIn c.loop-used.c bytes c.loop-used.used) c.in-Thirty.is c.five_of-ahead.ensures in
+    let v = c.in-Some.ensures in
     let room = room-free c.loop-used.c k c.if-c.false in
     (c.loop-used.invariant.0, v.0, k.low, room, k.few, v.1, v.2)
 
 pub overflow_add-used : goal.overflow_add-used
 overflow_add-used c =
     let bytes : List ℕ = c.args.bytes.now in
-    let enough : c.loop-used.used + 5 ≤ length bytes = let v = subst (FiveIn c.loop-used.c bytes c.loop-used.used) c.in-Thirty.is c.five_of-ahead.ensures in
+    let enough : c.loop-used.used + 5 ≤ length bytes = let v = c.in-Some.ensures in
     omega (arith, v.3.4.4.4.4.0) in
     omega (arith, enough)
 
-pub loop-used-smaller-in-Thirty : goal.loop-used-smaller-in-Thirty
-loop-used-smaller-in-Thirty c =
+pub loop-used-smaller-in-Some : goal.loop-used-smaller-in-Some
+loop-used-smaller-in-Some c =
     let bytes : List ℕ = c.args.bytes.now in
-    let enough : c.loop-used.used + 5 ≤ length bytes = let v = subst (FiveIn c.loop-used.c bytes c.loop-used.used) c.in-Thirty.is c.five_of-ahead.ensures in
+    let enough : c.loop-used.used + 5 ≤ length bytes = let v = c.in-Some.ensures in
     omega (arith, v.3.4.4.4.4.0) in
     omega (arith, enough)
 
-pub loop-used-preserved-in-Thirty : goal.loop-used-preserved-in-Thirty
-loop-used-preserved-in-Thirty c =
+pub loop-used-preserved-in-Some : goal.loop-used-preserved-in-Some
+loop-used-preserved-in-Some c =
     let bytes : List ℕ = c.args.bytes.now in
     let whole : Run = run_to c.args.cells.now c.args.from bytes in
-    let enough : c.loop-used.used + 5 ≤ length bytes = let v = subst (FiveIn c.loop-used.c bytes c.loop-used.used) c.in-Thirty.is c.five_of-ahead.ensures in
+    let enough : c.loop-used.used + 5 ≤ length bytes = let v = c.in-Some.ensures in
     omega (arith, v.3.4.4.4.4.0) in
     let k = c.loop-used.invariant.1 in
-    let v = subst (FiveIn c.loop-used.c bytes c.loop-used.used) c.in-Thirty.is c.five_of-ahead.ensures in
+    let v = c.in-Some.ensures in
     let cells = c.burst-c.ensures.1 in
     let next = c.burst-c.ensures.0 in
     let quiet =
@@ -82,7 +82,7 @@ hold-c-requires c =
     let bytes : List ℕ = c.args.bytes.now in
     let byte : ℕ = get_or bytes c.loop-used.used 0 in
     let k = c.loop-used.invariant.1 in
-    let d = six-bits byte _ (sym c.six_of-line.ensures ∙ c.in-Bits.is) in
+    let d = six-bits byte _ (sym c.six_of-line.ensures ∙ c.in-Ok.is) in
     (c.loop-used.invariant.0, k.top, k.low, room-free c.loop-used.c k c.if-c.false, k.few, omega (arith, d.1, six-lt byte), omega arith)
 
 pub loop-used-preserved-then-c-2 : goal.loop-used-preserved-then-c-2
@@ -91,7 +91,7 @@ loop-used-preserved-then-c-2 c =
     let whole : Run = run_to c.args.cells.now c.args.from bytes in
     let byte : ℕ = get_or bytes c.loop-used.used 0 in
     let w = c.if-c.false in
-    let d = six-bits byte _ (sym c.six_of-line.ensures ∙ c.in-Bits.is) in
+    let d = six-bits byte _ (sym c.six_of-line.ensures ∙ c.in-Ok.is) in
     let cells = c.hold-c.ensures.1 ∙ ap (step_cells c.loop-used.cells c.loop-used.c) d.1 in
     let next = c.hold-c.ensures.0 ∙ ap (step_to c.loop-used.cells c.loop-used.c) d.1 in (
       ap length cells ∙ length-step c.loop-used.cells c.loop-used.invariant.0 c.loop-used.c c.loop-used.invariant.1 w (number (six byte)),
@@ -107,7 +107,7 @@ step-c-requires c =
     let bytes : List ℕ = c.args.bytes.now in
     let byte : ℕ = get_or bytes c.loop-used.used 0 in
     let k = c.loop-used.invariant.1 in
-    let d = six-bits byte _ (sym c.six_of-line.ensures ∙ c.in-Bits.is) in
+    let d = six-bits byte _ (sym c.six_of-line.ensures ∙ c.in-Ok.is) in
     (c.loop-used.invariant.0, k.top, k.low, room-free c.loop-used.c k c.if-c.false, k.few, omega (arith, d.1, six-lt byte))
 
 pub loop-used-preserved-else-c-2 : goal.loop-used-preserved-else-c-2
@@ -116,7 +116,7 @@ loop-used-preserved-else-c-2 c =
     let whole : Run = run_to c.args.cells.now c.args.from bytes in
     let byte : ℕ = get_or bytes c.loop-used.used 0 in
     let w = c.if-c.false in
-    let d = six-bits byte _ (sym c.six_of-line.ensures ∙ c.in-Bits.is) in
+    let d = six-bits byte _ (sym c.six_of-line.ensures ∙ c.in-Ok.is) in
     let cells = c.step-c.ensures.1 ∙ ap (step_cells c.loop-used.cells c.loop-used.c) d.1 in
     let next = c.step-c.ensures.0 ∙ ap (step_to c.loop-used.cells c.loop-used.c) d.1 in (
       ap length cells ∙ length-step c.loop-used.cells c.loop-used.invariant.0 c.loop-used.c c.loop-used.invariant.1 w (number (six byte)),

@@ -1,7 +1,7 @@
 -- `push` meets its contract: with room the six bits are put in, else after the cells have moved down. Assumes nothing.
-use Rattle.std.proofs.Common.{◌-◌, ◌*◌, ◌/◌, length, ap, ◌∙◌, arith}
+use Rattle.std.proofs.Common.{◌-◌, ◌*◌, ◌/◌, ap, ◌∙◌, arith}
 use Rattle.reader.specs.Cells.{put_cells}
-use Rattle.reader.proofs.Pushing.{length-down, push-in, push-over}
+use Rattle.reader.proofs.Pushing.{down-within, push-in, push-over}
 use Rattle.reader.proofs.cells.push.Goals as goal
 
 pub returns-then-end-le1216 : goal.returns-then-end-le1216
@@ -12,8 +12,7 @@ returns-then-end-le1216 c =
 
 pub put-requires-2 : goal.put-requires-2
 put-requires-2 c = (
-  ap length c.lower.ensures
-      ∙ length-down c.args.cells.now ((c.args.end - c.args.held) / 32) c.requires.0 (omega arith),
+  c.copy_within.ensures.len ∙ c.requires.0,
   omega arith,
   c.requires.4,
 )
@@ -22,4 +21,4 @@ pub returns : goal.returns
 returns c =
     let a = c.args in
     let p = push-over a.cells.now a.end a.held a.six c.if-end-le1216.false in
-    (p.0, c.put-2.ensures ∙ ap (λ l. put_cells l (a.end - 32 * ((a.end - a.held) / 32)) a.six) c.lower.ensures ∙ p.1)
+    (p.0, c.put-2.ensures ∙ ap (λ l. put_cells l (a.end - 32 * ((a.end - a.held) / 32)) a.six) (c.copy_within.ensures.after ∙ down-within a.cells.now _ c.requires.0) ∙ p.1)

@@ -3,7 +3,7 @@ use Rattle.reader.proofs.Looking.{none-odd, one-odd}
 use Rattle.reader.proofs.hunt.counted.Goals as goal
 
 pub returns-then-remainder-eq0 : goal.returns-then-remainder-eq0
-returns-then-remainder-eq0 c = rw (c.wrapping_add_u32.ensures.value, none-odd _ c.if-remainder-eq0.true)
+returns-then-remainder-eq0 c = rw (none-odd _ c.if-remainder-eq0.true)
 
 pub returns : goal.returns
-returns c = rw (c.wrapping_add_u32-2.ensures.value, one-odd _ c.if-remainder-eq0.false)
+returns c = rw (one-odd _ c.if-remainder-eq0.false)

@@ -50,11 +50,11 @@ known-good-requires c =
           (omega (arith, c.seek-left.ensures.0, c.loop-good.invariant.1, c.loop-good.invariant.2, c.requires.2)) remembered,
     )
 
-pub position-smaller-in-Wrong : goal.position-smaller-in-Wrong
-position-smaller-in-Wrong c = omega (arith, c.seek-left.ensures.0)
+pub position-smaller-in-Err : goal.position-smaller-in-Err
+position-smaller-in-Err c = omega (arith, c.seek-left.ensures.0)
 
-pub position-preserved-in-Wrong : goal.position-preserved-in-Wrong
-position-preserved-in-Wrong c =
+pub position-preserved-in-Err : goal.position-preserved-in-Err
+position-preserved-in-Err c =
     let from_start : hunt_of c.args.cells.now c.args.end c.args.held c.args.words c.args.ended c.args.tally
     ≡ hunt_of c.args.cells.now c.args.end c.loop-good.left c.loop-good.good c.args.ended c.loop-good.count = c.position.invariant.2 ∙ c.loop-good.invariant.4 in
     let remembered-long : length c.remember.new.fails ≡ 30 = ap length c.remember.ensures ∙ length-remembered c.loop-good.fails _ _ _ ∙ ap length c.loop-good.invariant.5 ∙ c.position.invariant.3 in
@@ -68,7 +68,7 @@ position-preserved-in-Wrong c =
     (eqb c.loop-good.left a.held) c.loop-good.invariant.6) in
     let a = c.args in
     let wrong =
-    looked-wrong c.loop-good.good (bits 32 c.window-w.result) c.loop-good.count c.look-looked.result c.look-looked.ensures _ c.in-Wrong.is in (
+    looked-wrong c.loop-good.good (bits 32 c.window-w.result) c.loop-good.count _ c.in-Err.ensures _ refl in (
       omega (arith, c.seek-left.ensures.0),
       c.known-good.ensures.0,
       from_start
@@ -93,7 +93,7 @@ returns-then-whole c =
     ≡ hunt_of c.args.cells.now c.args.end c.loop-good.left c.loop-good.good c.args.ended c.loop-good.count = c.position.invariant.2 ∙ c.loop-good.invariant.4 in
     let a = c.args in
     let good =
-    looked-right c.loop-good.good (bits 32 c.window-w.result) c.loop-good.count c.look-looked.result c.look-looked.ensures c.in_default.is in
+    looked-right c.loop-good.good (bits 32 c.window-w.result) c.loop-good.count _ c.in_default.ensures refl in
     let d = held_bits a.cells.now a.end c.loop-good.left in
     let all = leb-true (size d) (c.loop-good.good + 1) (sym c.whole.ensures ∙ c.if-whole.true) in (
       sym (from_start
@@ -106,7 +106,7 @@ pub loop-good-preserved : goal.loop-good-preserved
 loop-good-preserved c =
     let a = c.args in
     let good =
-    looked-right c.loop-good.good (bits 32 c.window-w.result) c.loop-good.count c.look-looked.result c.look-looked.ensures c.in_default.is in
+    looked-right c.loop-good.good (bits 32 c.window-w.result) c.loop-good.count _ c.in_default.ensures refl in
     let d = held_bits a.cells.now a.end c.loop-good.left in
     let more = leb-false (size d) (c.loop-good.good + 1) (sym c.whole.ensures ∙ c.if-whole.false) in (
       c.loop-good.invariant.0,

@@ -27,8 +27,8 @@ pub returns : goal.returns
 returns c =
     let a = c.args in
     knows_some a.cells.now c.requires.0 a.end c.requires.1 a.left c.requires.2 a.fails.now c.requires.4 c.window.result
-    c.n_in-n.result c.as_usize-fail.result c.lower.result c.window.ensures
+    c.n_in-n.result c.from-fail.result c.min.result c.window.ensures
     (not-false _ (sym c.lacks_preamble.ensures ∙ c.if-lacks_preamble.false))
     (n-is a.cells.now c.requires.0 a.end c.requires.1 a.left c.requires.2 c.window-2.result c.n_in-n.result (omega arith)
     c.window-2.ensures c.n_in-n.ensures)
-    (omega (arith, c.as_usize-fail.ensures)) (omega (arith, c.lower.ensures.0)) (omega (arith, c.lower.ensures.1))
+    (omega (arith, c.from-fail.ensures)) (omega (arith, c.min.ensures)) (omega (arith, c.min.ensures))

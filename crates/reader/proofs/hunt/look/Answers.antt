@@ -9,11 +9,11 @@ returns-then-lacks_preamble c =
     let a = c.args in
     look-headless a.k (bits 32 a.window) a.tally (sym c.lacks_preamble.ensures ∙ c.if-lacks_preamble.true)
 
-pub returns-in-Failed : goal.returns-in-Failed
-returns-in-Failed c =
+pub returns-in-Err : goal.returns-in-Err
+returns-in-Err c =
     let a = c.args in
     look-wrong a.k (bits 32 a.window) a.tally (sym c.lacks_preamble.ensures ∙ c.if-lacks_preamble.false)
-    c.test-told.result c.test-told.ensures _ c.in-Failed.is c.counted.result c.counted.ensures
+    c.test-told.result c.test-told.ensures _ c.in-Err.is c.counted.result c.counted.ensures
 
 pub returns : goal.returns
 returns c =

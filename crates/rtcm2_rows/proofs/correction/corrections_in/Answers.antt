@@ -1,48 +1,8 @@
--- `corrections_in` meets its contract: by a loop that fills the array entry by entry. Assumes nothing.
-use mathlib.Core.Path.{◌≡◌, sym, ap, ◌∙◌}
-use mathlib.Core.List.{[], ◌∷◌}
-use native.Mathlib.Omega.{arith}
-use lib.ListN.{take}
-use lib.Seq.{take_all}
-use borrow.Author.Rules.{rules}
-use Rattle.rtcm2_rows.specs.Rows.{entries_from}
+-- `corrections_in` meets its contract: by what each call of its closure made. Assumes nothing.
+use Rattle.std.proofs.Common.{rules}
 use Rattle.rtcm2_rows.specs.Corrections.{row}
-use Rattle.rtcm2_rows.proofs.RowLaws.{entry_next}
+use Rattle.rtcm2_rows.proofs.RowLaws.{made_entries}
 use Rattle.rtcm2_rows.proofs.correction.corrections_in.Goals as goal
 
-pub loop-i-init : goal.loop-i-init
-unfolding entries_from
-loop-i-init c = (ap (λ e. e ∷ []) c.entry_from-entries.ensures, (omega arith, search rules))
-
-pub loop-i-preserved : goal.loop-i-preserved
-loop-i-preserved c =
-    let a = c.args in
-    (entry_next (row a.system) c.loop-i.i a.bytes.now c.loop-i.entries _ (omega arith) c.loop-i.invariant.0 c.entry_from.ensures, (omega arith, search rules))
-
 pub returns : goal.returns
-returns c =
-    let a = c.args in
-    let all : c.loop-i.i ≡ 18 = omega arith in
-    sym (take_all 18 c.loop-i.entries (omega arith)) ∙ ap (λ j. take j c.loop-i.entries) (sym all) ∙ c.loop-i.invariant.0
-    ∙ ap (λ j. entries_from (row a.system) j a.bytes.now) all
-
-pub entry_from-entries-requires : goal.entry_from-entries-requires
-entry_from-entries-requires c = omega arith
-
-pub overflow_mul-i : goal.overflow_mul-i
-overflow_mul-i c = omega arith
-
-pub entry_from-requires : goal.entry_from-requires
-entry_from-requires c = omega arith
-
-pub offset_bounds-entries-i : goal.offset_bounds-entries-i
-offset_bounds-entries-i c = omega arith
-
-pub bounds-entries-i : goal.bounds-entries-i
-bounds-entries-i c = omega arith
-
-pub overflow_add-i : goal.overflow_add-i
-overflow_add-i c = omega arith
-
-pub loop-i-smaller : goal.loop-i-smaller
-loop-i-smaller c = omega arith
+returns c = made_entries (row c.args.system) _ _ c.args.bytes.now c.from_fn.result 18 (λ i e q k. search rules) c.from_fn.ensures.items

@@ -1,27 +1,19 @@
 -- `entry_from` meets its contract: the bytes one after the other. Assumes nothing.
-use mathlib.Core.Path.{sym, ◌∙◌}
-use Prim.Native.Nat.{◌+◌, ◌*◌, ◌%◌}
+use mathlib.Core.Path.{◌∙◌}
+use Prim.Native.Nat.{◌%◌, ◌^◌, ◌<◌}
 use native.Mathlib.Omega.{arith}
 use lib.ListN.{take, drop}
 use mir.Syntax.{w16}
 use mir.ValLaws.{to_z-of_z}
+use Rattle.std.proofs.Common.{rules}
 use Rattle.record_fields.proofs.SignedCode.{meant-fits}
-use Rattle.rtcm2_rows.proofs.RowLaws.{byte-first, byte-in}
 use Rattle.rtcm2_rows.proofs.GeneralRows.{entry-law}
 use Rattle.rtcm2_rows.proofs.general.entry_from.Goals as goal
 
 pub returns : goal.returns
 returns c =
     let a = c.args in
-    let bs = a.bytes.now in
-    entry-law (take 7 (drop a.at bs)) c.byte_at-satellite.result c.byte_at-udre.result c.byte_at-iod.result c.byte_at-low.result c.byte_at-high.result
-    c.byte_at-low_delay.result c.byte_at-high_delay.result _
-    (c.byte_at-satellite.ensures.0 ∙ sym (byte-first 7 bs a.at (omega arith)))
-    (c.byte_at-udre.ensures.0 ∙ sym (byte-in 7 bs a.at 1 (omega arith)))
-    (c.byte_at-iod.ensures.0 ∙ sym (byte-in 7 bs a.at 2 (omega arith)))
-    (c.byte_at-low.ensures.0 ∙ sym (byte-in 7 bs a.at 3 (omega arith)))
-    (c.byte_at-high.ensures.0 ∙ sym (byte-in 7 bs a.at 4 (omega arith)))
-    (c.byte_at-low_delay.ensures.0 ∙ sym (byte-in 7 bs a.at 5 (omega arith)))
-    (c.byte_at-high_delay.ensures.0 ∙ sym (byte-in 7 bs a.at 6 (omega arith)))
-    c.byte_at-low.ensures.1 c.byte_at-high.ensures.1
-    (to_z-of_z w16 c.signed16-prc.result (meant-fits w16 _ ((c.byte_at-low.result + 256 * c.byte_at-high.result) % 65536) c.signed16-prc.ensures (omega arith)) ∙ c.signed16-prc.ensures)
+    let n = c.from_le_bytes.result in
+    let small : n < 2 ^ 16 = search rules in
+    entry-law c.row_at.result (take 7 (drop a.at a.bytes.now)) _ n c.from_le_bytes-2.result c.row_at.ensures.each c.from_le_bytes.ensures small
+    (to_z-of_z w16 c.signed16.result (meant-fits w16 _ (n % 65536) c.signed16.ensures (omega arith)) ∙ c.signed16.ensures) c.from_le_bytes-2.ensures

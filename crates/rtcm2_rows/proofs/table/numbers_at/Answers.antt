@@ -3,6 +3,7 @@ use mathlib.Core.Path.{◌≡◌, refl, sym, ◌∙◌}
 use native.Mathlib.Omega.{arith}
 use lib.ListN.{length, length-set}
 use borrow.Author.Rules.{rules}
+use Rattle.rtcm2_rows.proofs.NumberLaws.{few-fit}
 use Rattle.rtcm2_rows.proofs.TableLaws.{span-next, numbers-next, numbers-end}
 use Rattle.rtcm2_rows.proofs.table.numbers_at.Goals as goal
 
@@ -13,7 +14,7 @@ pub number_at-requires : goal.number_at-requires
 number_at-requires c =
     let all : length c.args.sizes ≡ 12 = search rules in
     let on = span-next c.args.sizes c.loop-i.i c.size_of-size.result (omega arith) c.size_of-size.ensures.0 in
-    (omega (arith, on, c.loop-i.invariant.2, c.requires), c.size_of-size.ensures.1)
+    (omega (arith, on, c.loop-i.invariant.2, c.requires), omega (arith, c.size_of-size.ensures.1))
 
 pub loop-i-preserved : goal.loop-i-preserved
 loop-i-preserved c =
@@ -39,8 +40,7 @@ bounds-sizes-i c = omega arith
 pub bounds-numbers-i : goal.bounds-numbers-i
 bounds-numbers-i c = omega arith
 
-pub overflow_add-i : goal.overflow_add-i
-overflow_add-i c = omega arith
-
-pub loop-i-smaller : goal.loop-i-smaller
-loop-i-smaller c = omega arith
+pub overflow_cast-numbers : goal.overflow_cast-numbers
+overflow_cast-numbers c =
+    let small = few-fit c.args.bytes.now c.loop-i.next c.size_of-size.result c.size_of-size.ensures.1 (λ i. (c.type_inv.bytes i).fits) in
+    record { fits = omega (arith, small, c.number_at.ensures) }

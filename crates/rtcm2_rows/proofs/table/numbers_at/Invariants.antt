@@ -1,7 +1,7 @@
 -- `numbers_at` meets its contract: by a loop that reads each number where the one before it ends. Assumes nothing.
 use mathlib.Core.Path.{◌≡◌}
 use mathlib.Core.List.{◌++◌}
-use Prim.Native.Nat.{◌+◌, ◌-◌, ◌≤◌}
+use Prim.Native.Nat.{◌+◌, ◌≤◌}
 use lib.ListN.{length, take, drop}
 use Rattle.bits.specs.Fields.{span}
 use Rattle.rtcm2_rows.specs.Sizes.{sized_in}
@@ -14,6 +14,3 @@ invariant-loop-i l = (l.i ≤ 12)
     × (length l.numbers ≡ 12)
     × (l.next + span (drop l.i (few l.sizes)) ≡ l.at + span (few l.sizes))
     × (sized_in (few l.sizes) (drop l.at l.bytes) ≡ take l.i l.numbers ++ sized_in (drop l.i (few l.sizes)) (drop l.next l.bytes))
-
-abbrev pub decreases-loop-i : goal.decreases-loop-i
-decreases-loop-i l = 12 - l.i

@@ -56,9 +56,3 @@ bounds-numbers-i c = omega arith
 
 pub overflow_add-next : goal.overflow_add-next
 overflow_add-next c = omega arith
-
-pub overflow_add-i : goal.overflow_add-i
-overflow_add-i c = omega arith
-
-pub loop-i-smaller : goal.loop-i-smaller
-loop-i-smaller c = omega arith

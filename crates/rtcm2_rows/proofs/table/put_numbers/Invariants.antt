@@ -1,6 +1,6 @@
 -- `put_numbers` meets its contract: 13, or a loop that puts each number where the one before it ends. Assumes nothing.
 use mathlib.Core.Path.{◌≡◌}
-use Prim.Native.Nat.{◌+◌, ◌-◌, ◌≤◌}
+use Prim.Native.Nat.{◌+◌, ◌≤◌}
 use lib.ListN.{length, drop}
 use lib.Seq.{sets}
 use Rattle.bits.specs.Fields.{span}
@@ -15,6 +15,3 @@ invariant-loop-i l = (l.i ≤ 12)
     × (span (few l.sizes) ≤ length l.initial.bytes)
     × (l.next + span (drop l.i (few l.sizes)) ≡ span (few l.sizes))
     × (sets l.initial.bytes 0 (sized_bytes (few l.sizes) l.numbers) ≡ sets l.bytes l.next (sized_bytes (drop l.i (few l.sizes)) (drop l.i l.numbers)))
-
-abbrev pub decreases-loop-i : goal.decreases-loop-i
-decreases-loop-i l = 12 - l.i

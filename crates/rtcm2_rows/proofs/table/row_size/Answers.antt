@@ -27,9 +27,3 @@ bounds-sizes-i c = omega arith
 
 pub overflow_add-bytes : goal.overflow_add-bytes
 overflow_add-bytes c = omega arith
-
-pub overflow_add-i : goal.overflow_add-i
-overflow_add-i c = omega arith
-
-pub loop-i-smaller : goal.loop-i-smaller
-loop-i-smaller c = omega arith

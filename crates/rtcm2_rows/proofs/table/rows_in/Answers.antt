@@ -14,14 +14,6 @@ loop-i-init c =
     let rows = rows_there a.sizes a.limit a.bytes.now in
     (omega arith, ap (put_rows a.widths.now a.least.now a.most.now rows) (sym c.no_rows-rows.ensures))
 
-pub returns-then-i-count : goal.returns-then-i-count
-returns-then-i-count c =
-    let a = c.args in
-    let few = rows-counted a.sizes a.limit a.bytes.now c.loop-i.i c.row_size-size.result c.count_of-count.result c.row_size-size.ensures.0
-    c.count_of-count.ensures in
-    sym (c.loop-i.invariant.1 ∙ rows_end a.sizes a.limit a.bytes.now c.loop-i.i a.widths.now a.least.now a.most.now c.loop-i.rows
-    (omega (arith, few, c.if-i-count.true)))
-
 pub overflow_mul-i : goal.overflow_mul-i
 overflow_mul-i c =
     let a = c.args in
@@ -31,27 +23,25 @@ overflow_mul-i c =
 pub numbers_at-numbers-requires : goal.numbers_at-numbers-requires
 numbers_at-numbers-requires c =
     let a = c.args in
+    let below : c.loop-i.i < c.count_of-count.result = omega (arith, c.min-i-end.ensures) in
     let there = row-there a.sizes a.limit a.bytes.now c.loop-i.i c.row_size-size.result c.count_of-count.result c.row_size-size.ensures.0
-    c.count_of-count.ensures c.if-i-count.false in
+    c.count_of-count.ensures below in
     there
 
 pub loop-i-preserved : goal.loop-i-preserved
 loop-i-preserved c =
-    let a = c.args in (
+    let a = c.args in
+    let below : c.loop-i.i < c.count_of-count.result = omega (arith, c.min-i-end.ensures) in (
       omega arith,
       c.loop-i.invariant.1 ∙ rows_next a.sizes a.limit a.bytes.now c.loop-i.i c.row_size-size.result c.count_of-count.result c.row_size-size.ensures.0
           c.count_of-count.ensures a.widths.now a.least.now a.most.now c.numbers_at-numbers.result c.loop-i.rows c.put_row-rows.result
-          (omega arith) c.if-i-count.false c.numbers_at-numbers.ensures c.put_row-rows.ensures,
+          (omega arith) below c.numbers_at-numbers.ensures c.put_row-rows.ensures,
     )
 
 pub returns : goal.returns
 returns c =
     let a = c.args in
+    let some = rows-counted a.sizes a.limit a.bytes.now c.loop-i.i c.row_size-size.result c.count_of-count.result c.row_size-size.ensures.0
+    c.count_of-count.ensures in
     sym (c.loop-i.invariant.1 ∙ rows_end a.sizes a.limit a.bytes.now c.loop-i.i a.widths.now a.least.now a.most.now c.loop-i.rows
-    (omega (arith, rows-limited a.sizes a.limit a.bytes.now)))
-
-pub overflow_add-i : goal.overflow_add-i
-overflow_add-i c = omega arith
-
-pub loop-i-smaller : goal.loop-i-smaller
-loop-i-smaller c = omega arith
+    (omega (arith, some, rows-limited a.sizes a.limit a.bytes.now, c.min-i-end.ensures)))

@@ -47,7 +47,7 @@ returns-in_default c =
 
 pub tell-requires : goal.tell-requires
 tell-requires c =
-    let data_is : (is_data c.args.byte ≡ true) × (c.in-Bits.six ≡ number (six c.args.byte)) = six-bits c.args.byte _ (sym c.six_of-line.ensures ∙ c.in-Bits.is) in
+    let data_is : (is_data c.args.byte ≡ true) × (c.in-Ok.six ≡ number (six c.args.byte)) = six-bits c.args.byte _ (sym c.six_of-line.ensures ∙ c.in-Ok.is) in
     let held : holds_state c.args.bytes.now ≡ true = sym c.holds_state.ensures ∙ c.if-not-holds_state.false in
     let bs : List ℕ = c.args.bytes.now in
     let counts : c.candidate_at-c.result ≡ (state_in c.args.bytes.now).candidate = c.candidate_at-c.ensures
@@ -71,7 +71,7 @@ tell-requires c =
 
 pub put_six-requires : goal.put_six-requires
 put_six-requires c =
-    let data_is : (is_data c.args.byte ≡ true) × (c.in-Bits.six ≡ number (six c.args.byte)) = six-bits c.args.byte _ (sym c.six_of-line.ensures ∙ c.in-Bits.is) in
+    let data_is : (is_data c.args.byte ≡ true) × (c.in-Ok.six ≡ number (six c.args.byte)) = six-bits c.args.byte _ (sym c.six_of-line.ensures ∙ c.in-Ok.is) in
     let held : holds_state c.args.bytes.now ≡ true = sym c.holds_state.ensures ∙ c.if-not-holds_state.false in
     let bs : List ℕ = c.args.bytes.now in
     let counts : c.candidate_at-c.result ≡ (state_in c.args.bytes.now).candidate = c.candidate_at-c.ensures
@@ -93,7 +93,7 @@ put_six-requires c =
 
 pub put_six-requires-in-Whole : goal.put_six-requires-in-Whole
 put_six-requires-in-Whole c =
-    let data_is : (is_data c.args.byte ≡ true) × (c.in-Bits.six ≡ number (six c.args.byte)) = six-bits c.args.byte _ (sym c.six_of-line.ensures ∙ c.in-Bits.is) in
+    let data_is : (is_data c.args.byte ≡ true) × (c.in-Ok.six ≡ number (six c.args.byte)) = six-bits c.args.byte _ (sym c.six_of-line.ensures ∙ c.in-Ok.is) in
     let held : holds_state c.args.bytes.now ≡ true = sym c.holds_state.ensures ∙ c.if-not-holds_state.false in
     let bs : List ℕ = c.args.bytes.now in
     let counts : c.candidate_at-c.result ≡ (state_in c.args.bytes.now).candidate = c.candidate_at-c.ensures
@@ -115,7 +115,7 @@ put_six-requires-in-Whole c =
 
 pub returns-in-Known : goal.returns-in-Known
 returns-in-Known c =
-    let data_is : (is_data c.args.byte ≡ true) × (c.in-Bits.six ≡ number (six c.args.byte)) = six-bits c.args.byte _ (sym c.six_of-line.ensures ∙ c.in-Bits.is) in
+    let data_is : (is_data c.args.byte ≡ true) × (c.in-Ok.six ≡ number (six c.args.byte)) = six-bits c.args.byte _ (sym c.six_of-line.ensures ∙ c.in-Ok.is) in
     let held : holds_state c.args.bytes.now ≡ true = sym c.holds_state.ensures ∙ c.if-not-holds_state.false in
     let bytes-are : AreBytes c.args.bytes.now = all-bytes c.args.bytes.now (λ i. search rules) in
     let counts : c.candidate_at-c.result ≡ (state_in c.args.bytes.now).candidate = c.candidate_at-c.ensures
@@ -135,7 +135,7 @@ returns-in-Known c =
 
 pub returns-in-Whole : goal.returns-in-Whole
 returns-in-Whole c =
-    let data_is : (is_data c.args.byte ≡ true) × (c.in-Bits.six ≡ number (six c.args.byte)) = six-bits c.args.byte _ (sym c.six_of-line.ensures ∙ c.in-Bits.is) in
+    let data_is : (is_data c.args.byte ≡ true) × (c.in-Ok.six ≡ number (six c.args.byte)) = six-bits c.args.byte _ (sym c.six_of-line.ensures ∙ c.in-Ok.is) in
     let held : holds_state c.args.bytes.now ≡ true = sym c.holds_state.ensures ∙ c.if-not-holds_state.false in
     let bytes-are : AreBytes c.args.bytes.now = all-bytes c.args.bytes.now (λ i. search rules) in
     let counts : c.candidate_at-c.result ≡ (state_in c.args.bytes.now).candidate = c.candidate_at-c.ensures
@@ -155,7 +155,7 @@ returns-in-Whole c =
 
 pub returns-in-Untold : goal.returns-in-Untold
 returns-in-Untold c =
-    let data_is : (is_data c.args.byte ≡ true) × (c.in-Bits.six ≡ number (six c.args.byte)) = six-bits c.args.byte _ (sym c.six_of-line.ensures ∙ c.in-Bits.is) in
+    let data_is : (is_data c.args.byte ≡ true) × (c.in-Ok.six ≡ number (six c.args.byte)) = six-bits c.args.byte _ (sym c.six_of-line.ensures ∙ c.in-Ok.is) in
     let bs : List ℕ = c.args.bytes.now in
     let held : holds_state c.args.bytes.now ≡ true = sym c.holds_state.ensures ∙ c.if-not-holds_state.false in
     let bytes-are : AreBytes c.args.bytes.now = all-bytes c.args.bytes.now (λ i. search rules) in

@@ -15,16 +15,16 @@ pub returns-then-k-last : goal.returns-then-k-last
 returns-then-k-last c =
     let cells : List ℕ = numbers_in 40 (drop start_size c.args.bytes.now) in
     let full : length cells ≡ 40 = length-numbers 40 (drop start_size c.args.bytes.now) in
-    let first : c.wider-first.result ≡ get_or cells c.args.k 0 = c.wider-first.ensures.0
+    let first : c.from-first.result ≡ get_or cells c.args.k 0 = c.from-first.ensures
     ∙ cell_at c.args.bytes.now c.args.k c.number_at.result (start_size + 4 * c.args.k)
     (omega (arith, c.requires.1, c.requires.2))
     (omega arith) c.number_at.ensures in
     let a = c.args in
-    let second = c.wider.ensures.0
+    let second = c.from.ensures
     ∙ cell_at a.bytes.now (a.k + 1) c.number_at-then-k-last.result (start_size + 4 * a.k + 4) (omega (arith, c.if-k-last.true, c.requires.2))
     (omega arith) c.number_at-then-k-last.ensures in
-    pair-before cells full a.end a.six c.requires.2 a.k c.wider-first.result c.wider.result c.if-k-last.true first
-    c.wider-first.ensures.1 second c.wider.ensures.1
+    pair-before cells full a.end a.six c.requires.2 a.k c.from-first.result c.from.result c.if-k-last.true first
+    (omega (arith, c.from-first.ensures)) second (omega (arith, c.from.ensures))
 
 pub returns-then-k-last-2 : goal.returns-then-k-last-2
 returns-then-k-last-2 c =
@@ -43,7 +43,7 @@ pub returns : goal.returns
 returns c =
     let cells : List ℕ = numbers_in 40 (drop start_size c.args.bytes.now) in
     let full : length cells ≡ 40 = length-numbers 40 (drop start_size c.args.bytes.now) in
-    let first : c.wider-first.result ≡ get_or cells c.args.k 0 = c.wider-first.ensures.0
+    let first : c.from-first.result ≡ get_or cells c.args.k 0 = c.from-first.ensures
     ∙ cell_at c.args.bytes.now c.args.k c.number_at.result (start_size + 4 * c.args.k)
     (omega (arith, c.requires.1, c.requires.2))
     (omega arith) c.number_at.ensures in
@@ -54,5 +54,5 @@ returns c =
     (omega (arith, c.requires.2)) (omega arith)
     c.number_at-2.ensures) in
     let a = c.args in
-    pair-across cells full a.end a.six c.requires.2 a.k c.wider-first.result c.with_six-both.result
-    (omega (arith, c.if-k-last-2.false, c.if-k-last.false, c.requires.1)) first c.wider-first.ensures.1 both
+    pair-across cells full a.end a.six c.requires.2 a.k c.from-first.result c.with_six-both.result
+    (omega (arith, c.if-k-last-2.false, c.if-k-last.false, c.requires.1)) first (omega (arith, c.from-first.ensures)) both

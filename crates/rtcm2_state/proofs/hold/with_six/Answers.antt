@@ -6,18 +6,18 @@ use native.Mathlib.Omega.{arith}
 use Rattle.rtcm2_state.proofs.hold.with_six.Goals as goal
 
 pub overflow_mul-result : goal.overflow_mul-result
-overflow_mul-result c = omega (arith, c.wider.ensures.1, div-le_self c.wider.result (2 ^ (32 - c.args.off)))
+overflow_mul-result c = omega (arith, c.from.ensures, div-le_self c.from.result (2 ^ (32 - c.args.off)))
 
 pub overflow_add-result : goal.overflow_add-result
 overflow_add-result c =
     omega (
       arith,
-      c.wider.ensures.1,
-      c.wider-2.ensures.1,
-      div-le_self c.wider.result (2 ^ (32 - c.args.off)),
+      c.from.ensures,
+      c.from-2.ensures,
+      div-le_self c.from.result (2 ^ (32 - c.args.off)),
     )
 
 pub returns : goal.returns
 returns c =
-    let small : c.args.cell % 2 ^ 32 ≡ c.args.cell = mod-eq_of_lt (omega (arith, c.wider.ensures.0, c.wider.ensures.1)) in
-    rw (c.wider.ensures.0, c.wider-2.ensures.0, small)
+    let small : c.args.cell % 2 ^ 32 ≡ c.args.cell = mod-eq_of_lt (omega arith) in
+    rw (c.from.ensures, c.from-2.ensures, small)

@@ -1,17 +1,15 @@
--- `put_number` meets its contract: four stores, each of the next byte. Assumes nothing.
+-- `put_number` meets its contract: its four low bytes copied. Assumes nothing.
+use mathlib.Core.Path.{◌≡◌, ap, ◌∙◌}
 use native.Mathlib.Omega.{arith}
-use lib.ListN.{length-set}
-use Rattle.rtcm2_state.proofs.StoreLaws.{store-four}
+use lib.ListN.{take}
+use Rattle.reader.proofs.RowLaws.{put-sets}
+use Rattle.rtcm2_state.specs.Numbers.{low_bytes}
+use Rattle.rtcm2_state.proofs.NumberLaws.{length-bytes}
+use Rattle.rtcm2_state.proofs.StoreLaws.{low-four}
 use Rattle.rtcm2_state.proofs.number.put_number.Goals as goal
 
 pub returns : goal.returns
-returns c = store-four c.args.bytes.now c.args.at c.args.n
-
-pub bounds-bytes-at-2 : goal.bounds-bytes-at-2
-bounds-bytes-at-2 c = simp length-set (omega arith)
-
-pub bounds-bytes-at-3 : goal.bounds-bytes-at-3
-bounds-bytes-at-3 c = simp length-set (omega arith)
-
-pub bounds-bytes-at-4 : goal.bounds-bytes-at-4
-bounds-bytes-at-4 c = simp length-set (omega arith)
+returns c =
+    let a = c.args in
+    let low : c.copy_from_slice.new.self ≡ low_bytes 4 a.n = c.copy_from_slice.ensures.after ∙ ap (take 4) c.to_le_bytes.ensures ∙ low-four a.n in
+    rw low (put-sets a.bytes.now a.at _ (low_bytes 4 a.n) (omega (arith, length-bytes 4 a.n)) (omega (arith, length-bytes 4 a.n)))

@@ -2,8 +2,8 @@
 use Rattle.std.proofs.Common.{◌-◌, ◌≡◌, ◌≤◌, length}
 use Rattle.season.proofs.window.fill.Given as goal
 
-abbrev pub invariant-loop-end : goal.invariant-loop-end
-invariant-loop-end l = (l.end ≤ length l.window) × (length l.window ≡ length l.initial.window)
+abbrev pub invariant-loop-held : goal.invariant-loop-held
+invariant-loop-held l = (l.held ≤ length l.window) × (length l.window ≡ length l.initial.window)
 
-abbrev pub decreases-loop-end : goal.decreases-loop-end
-decreases-loop-end l = length l.initial.window - l.end
+abbrev pub decreases-loop-held : goal.decreases-loop-held
+decreases-loop-held l = length l.initial.window - l.held

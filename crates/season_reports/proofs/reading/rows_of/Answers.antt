@@ -22,12 +22,12 @@ loop-i-init c =
 
 pub entry_row-requires : goal.entry_row-requires
 entry_row-requires c =
-    let entry-is : correction_at c.args.frame c.loop-i.i ≡ read.Entry c.in-Entry.e = sym c.correction_at-entry.ensures ∙ c.in-Entry.is in
+    let entry-is : correction_at c.args.frame c.loop-i.i ≡ read.Entry c.in-Entry.e = sym c.correction_at.ensures ∙ c.in-Entry.is in
     entry-scale c.args.frame c.loop-i.i c.in-Entry.e entry-is
 
-pub loop-i-preserved-in-Entry : goal.loop-i-preserved-in-Entry
-loop-i-preserved-in-Entry c =
-    let entry-is : correction_at c.args.frame c.loop-i.i ≡ read.Entry c.in-Entry.e = sym c.correction_at-entry.ensures ∙ c.in-Entry.is in
+pub loop-i-preserved : goal.loop-i-preserved
+loop-i-preserved c =
+    let entry-is : correction_at c.args.frame c.loop-i.i ≡ read.Entry c.in-Entry.e = sym c.correction_at.ensures ∙ c.in-Entry.is in
     let room : c.loop-i.found < 18 = omega (arith, c.requires.0, c.loop-i-test.true, c.loop-i.invariant.1.0) in
     let a = c.args in
     let x = c.in-Entry.e in
@@ -35,7 +35,7 @@ loop-i-preserved-in-Entry c =
     let room : c.loop-i.found < length c.loop-i.rows = omega (arith, c.requires.0, taken) in
     let is : c.entry_row.result ≡ entry_row (entry_under a.frame x) =
     c.entry_row.ensures.value
-    ∙ ap (λ y. reading_row (record { system = y; station = a.frame.header.station; satellite = x.satellite }) (reading_of x)) c.system_of-system.ensures in (
+    ∙ ap (λ y. reading_row (record { system = y; station = a.frame.header.station; satellite = x.satellite }) (reading_of x)) c.system_of.ensures in (
       row-behind c.loop-i.rows c.loop-i.found c.entry_row.result (left_of a.frame a.count (c.loop-i.i + 1))
           (map entry_row (entries_after a.frame a.count 0)) room
           (ap (λ y. take c.loop-i.found c.loop-i.rows ++ (y ∷ left_of a.frame a.count (c.loop-i.i + 1))) is
@@ -53,12 +53,12 @@ loop-i-preserved-in-Entry c =
       ),
     )
 
-pub loop-i-preserved : goal.loop-i-preserved
-loop-i-preserved c =
+pub loop-i-preserved-in_default : goal.loop-i-preserved-in_default
+loop-i-preserved-in_default c =
     let a = c.args in
     let taken = c.loop-i-test.true in (
       ap (λ y. take c.loop-i.found c.loop-i.rows ++ y)
-          (sym (left-refused a.frame a.count c.loop-i.i _ taken (sym c.correction_at-entry.ensures ∙ c.in-Refused.is))) ∙ c.loop-i.invariant.0,
+          (sym (left-refused a.frame a.count c.loop-i.i _ taken (sym c.correction_at.ensures ∙ c.in_default.is))) ∙ c.loop-i.invariant.0,
       (omega arith, (omega arith, (c.loop-i.invariant.1.1.1.0, c.loop-i.invariant.1.1.1.1))),
     )
 
@@ -76,9 +76,6 @@ returns c =
       each = c.loop-i.invariant.1.1.1.1;
     }
 
-pub overflow_add-i : goal.overflow_add-i
-overflow_add-i c = omega (arith, c.loop-i-test.true)
-
 pub offset_bounds-rows-found : goal.offset_bounds-rows-found
 offset_bounds-rows-found c =
     let room : c.loop-i.found < 18 = omega (arith, c.requires.0, c.loop-i-test.true, c.loop-i.invariant.1.0) in
@@ -93,9 +90,3 @@ pub overflow_add-found : goal.overflow_add-found
 overflow_add-found c =
     let room : c.loop-i.found < 18 = omega (arith, c.requires.0, c.loop-i-test.true, c.loop-i.invariant.1.0) in
     omega (arith, room)
-
-pub loop-i-smaller-in-Entry : goal.loop-i-smaller-in-Entry
-loop-i-smaller-in-Entry c = omega arith
-
-pub loop-i-smaller : goal.loop-i-smaller
-loop-i-smaller c = omega arith

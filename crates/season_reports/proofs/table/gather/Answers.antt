@@ -81,9 +81,9 @@ loop-i-preserved c =
     ∙ place_is _ (take b.count b.rows) c.loop-i.codes (table_with c.loop-i.used c.loop-i.rows c.loop-i.over) c.loop-i.i _ c.loop-i.invariant.0 refl inside row_is sound in
     let b = c.args.batch in (
       after_turn _ (take b.count b.rows) c.loop-i.codes (table_with c.loop-i.used c.loop-i.rows c.loop-i.over) c.loop-i.i _ c.loop-i.invariant.0 refl inside row_is sound
-          c.place_of-at.result c.code_of-code.result c.larger-used.result c.merged_row.result c.either-over.result
-          place c.if-at-ge512.false c.code_of-code.ensures c.larger-used.ensures
-          c.merged_row.ensures (c.either-over.ensures ∙ ap (λ t. c.loop-i.over || t) c.is_over.ensures),
+          c.place_of-at.result c.code_of-code.result c.max-used.result c.merged_row.result (c.loop-i.over || c.is_over-over.result)
+          place c.if-at-ge512.false c.code_of-code.ensures c.max-used.ensures
+          c.merged_row.ensures (ap (λ t. c.loop-i.over || t) c.is_over-over.ensures),
       omega (arith, c.loop-i-test.true),
     )
 
@@ -143,9 +143,3 @@ pub overflow_add-at : goal.overflow_add-at
 overflow_add-at c =
     let small : c.place_of-at.result < 512 = c.if-at-ge512.false in
     omega (arith, small)
-
-pub overflow_add-i : goal.overflow_add-i
-overflow_add-i c = omega arith
-
-pub loop-i-smaller : goal.loop-i-smaller
-loop-i-smaller c = omega arith

@@ -41,9 +41,3 @@ offset_bounds-codes-i c = omega arith
 
 pub bounds-codes-i : goal.bounds-codes-i
 bounds-codes-i c = omega arith
-
-pub overflow_add-i : goal.overflow_add-i
-overflow_add-i c = omega arith
-
-pub loop-i-smaller : goal.loop-i-smaller
-loop-i-smaller c = omega arith

@@ -36,7 +36,7 @@ loop-i-preserved c =
 pub returns : goal.returns
 returns c =
     let xs = take c.args.used c.args.codes.now in
-    let size : length xs ≡ c.loop-i.i = omega (arith, length-take c.args.used c.args.codes.now, c.requires) in
+    let size : length xs ≡ c.args.used = omega (arith, length-take c.args.used c.args.codes.now, c.requires) in
     record { value = sym (first-none (eqb c.args.code) xs (sym (ap (any_of (eqb c.args.code)) (take_all c.loop-i.i xs (omega arith))) ∙ c.loop-i.invariant.0) ∙ size); upper_bound = omega arith }
 
 pub offset_bounds-codes-i : goal.offset_bounds-codes-i
@@ -44,9 +44,3 @@ offset_bounds-codes-i c = omega arith
 
 pub bounds-codes-i : goal.bounds-codes-i
 bounds-codes-i c = omega arith
-
-pub overflow_add-i : goal.overflow_add-i
-overflow_add-i c = omega arith
-
-pub loop-i-smaller : goal.loop-i-smaller
-loop-i-smaller c = omega arith

@@ -1,0 +1,23 @@
+// A number of up to eight bytes, the low one first.
+ghost use Rattle.std.specs.Prelude.{◌≡◌, ◌+◌, ◌≤◌, length, take, drop};
+ghost use Rattle.std.proofs.lemmas.List.Edits.{sets};
+ghost use Rattle.rtcm2_state.specs.Numbers.{low_bytes, number_in};
+
+// The number of `size` bytes from `at` on.
+// kept: rtcm2_season has the same two: a public function asks nothing of its callers, and these ask for room
+pub(crate) fn number_at(at: usize, size: usize, bytes: &[u8]) -> u64
+    requires { (at + size ≤ length bytes.now) × (size ≤ 8) }
+    ensures { result ≡ number_in (take size (drop at bytes.now)) }
+{
+    let mut eight = [0; 8];
+    eight[..size].copy_from_slice(&bytes[at..at + size]);
+    u64::from_le_bytes(eight)
+}
+
+// Puts the `size` low bytes of a number from `at` on.
+pub(crate) fn put_number(n: u64, size: usize, at: usize, bytes: &mut [u8])
+    requires { (at + size ≤ length bytes.old) × (size ≤ 8) }
+    ensures { bytes.new ≡ sets bytes.old at (low_bytes size n) }
+{
+    bytes[at..at + size].copy_from_slice(&n.to_le_bytes()[..size]);
+}

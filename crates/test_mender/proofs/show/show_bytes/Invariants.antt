@@ -1,9 +1,0 @@
--- `show_bytes` is safe and ends: by the bytes that are left. Assumes nothing.
-use Rattle.std.proofs.Common.{◌-◌, length}
-use Rattle.test_mender.proofs.show.show_bytes.Given as goal
-
-abbrev pub invariant-loop-i : goal.invariant-loop-i
-invariant-loop-i l = Unit {0}
-
-abbrev pub decreases-loop-i : goal.decreases-loop-i
-decreases-loop-i l = length l.bytes - l.i

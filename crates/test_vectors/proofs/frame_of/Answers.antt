@@ -1,8 +1,0 @@
--- `frame_of` is safe and ends. Assumes nothing.
-use Rattle.test_vectors.proofs.frame_of.Goals as goal
-
-pub loop-i-init : goal.loop-i-init
-loop-i-init c = tt
-
-pub loop-i-preserved : goal.loop-i-preserved
-loop-i-preserved c = tt
