@@ -237,6 +237,8 @@ class Reader:
             for part in split(self.inside("{", "}"), ","):
                 words = [token.text for token in part]
                 if part[0].kind == "ghost":
+                    if public:
+                        self.unread("a ghost field of a public type would ask something of callers, and is not read")
                     continue
                 if word == "enum":
                     variants.append(words[0])
@@ -244,7 +246,8 @@ class Reader:
                     words = words[1:] if words[0] == "pub" else words
                     fields.append((words[0], " ".join(words[2:])))
         else:
-            self.inside("(", ")")
+            if self.peek() == "(":
+                self.inside("(", ")")
             self.expect(";")
         if name in self.crate.types:
             self.unread(f"a second type {name} of the crate is not read")
