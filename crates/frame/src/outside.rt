@@ -2,7 +2,7 @@
 ghost use Rattle.std.specs.Prelude.{◌≡◌, leb};
 ghost use Rattle.frame.specs.Widths.{any_of, state_outside, numbers_outside, header_outside, pair_outside, outside};
 
-use crate::code::FACTORS;
+use crate::code::place_of;
 use crate::{Carried, Frame, Header, State};
 
 // The state has a factor other than the six.
@@ -11,7 +11,7 @@ pub(crate) fn state_outside(state: State) -> bool
     ensures { result ≡ state_outside state }
 {
     match state {
-        State::Factor(factor) => !FACTORS.contains(&factor),
+        State::Factor(factor) => place_of(factor) == 6,
         State::Unmonitored | State::Down => false,
     }
 }
@@ -55,9 +55,11 @@ fn any_from(words: &[u32], least: u32) -> bool
 pub(crate) fn frame_outside(frame: Frame) -> bool
     ensures { result ≡ outside frame }
 {
+    // the words alone are copied: to lend a part of `frame` copies all of it
+    let words = frame.words;
     header_outside(frame.header)
         || frame.n > 31
-        || any_from(&frame.words, 16777216)
-        || any_from(&frame.words[frame.n..], 1)
+        || any_from(&words, 16777216)
+        || any_from(&words[frame.n..], 1)
         || carried_outside(frame.carried)
 }

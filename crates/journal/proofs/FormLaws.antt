@@ -70,13 +70,10 @@ module _ (form k : ℕ) (bs : List ℕ) where
 
     -- what is answered for N and the words after it
     pub start-passed : {A : Type 0} (refuse : ℕ → A) (rest : ℕ → List ℕ → A)
-        → in_order (start_order form k bs) refuse (rest (n_byte bs) (words_after k bs)) ≡ rest n (words_from k (n + 2) (drop 3 bs))
+        → in_order (start_order form k bs) refuse (rest (n_byte bs) (words_after k bs)) ≡ rest n (words_from k (suc (suc n)) (drop 3 bs))
     start-passed refuse rest =
         order-answers refuse (rest (n_byte bs) (words_after k bs)) (start_order form k bs) start-clear
-        ∙ ap (λ m. rest m (words_from k (suc (suc m)) (drop 3 bs))) (sym start-n) ∙ ap (λ m. rest n (words_from k m (drop 3 bs))) two
-      where
-        two : suc (suc n) ≡ n + 2
-        two = omega arith
+        ∙ ap (λ m. rest m (words_from k (suc (suc m)) (drop 3 bs))) (sym start-n)
 
   module _ (clear : NoneApplies (start_order form k bs)) where
     pub start-few : n_byte bs ≤ 31

@@ -1,31 +1,33 @@
 -- The record that keeps the words: the record of a frame within its widths, and the frame of a record by its words as they are read. Assumes nothing.
-use mathlib.Core.Path.{◌≡◌, refl, sym, ap, ap₂, subst, ◌∙◌}
-use mathlib.Core.Bool.{Bool, false}
-use mathlib.Core.List.{List, [], ◌∷◌, ◌++◌}
+use mathlib.Core.Path.{◌≡◌, sym, ap, ap₂, subst, ◌∙◌}
+use mathlib.Core.Bool.{true, false}
+use mathlib.Core.List.{List, ◌∷◌, ◌++◌}
 use Prim.Native.Nat.{ℕ, suc, ◌+◌, ◌-◌, ◌*◌, ◌/◌, ◌%◌, ◌^◌, ◌≤◌, ◌<◌}
 use native.Mathlib.Omega.{arith}
-use lib.ListN.{length, take, drop, get_or, replicate}
-use lib.Seq.{take_at, drop_at, drop-drop}
-use borrow.Author.Tests.{ltb-false, ne_eqb}
+use lib.ListN.{length, take, drop, replicate}
+use lib.Seq.{take_at, drop_at}
+use borrow.Author.Tests.{ltb-false, eq-eqb, ne_eqb}
 use Rattle.bits.specs.Bits.{bits, number}
 use Rattle.word.specs.Word.{data_of}
-use Rattle.frame.specs.Header.{n_of}
+use Rattle.frame.specs.Header.{n_of, preambled, header_of}
 use Rattle.frame.specs.Frames.{Below, after_pair, words_of, frame_of}
 use Rattle.frame.specs.Widths.{pair_outside, outside}
 use Rattle.frame.specs.Answer.{header_words}
 use Rattle.frame.specs.declared.Carried.{Carried}
 use Rattle.frame.specs.declared.Frame.{Frame}
+use Rattle.std.specs.Prelude.{Ok}
 use Rattle.frame.proofs.WidthLaws.{both_false}
 use Rattle.frame.proofs.FrameLaws.{below-words, pair-within}
 use Rattle.journal.specs.Bytes.{word_in, words_from}
 use Rattle.journal.specs.Forms.{record_with}
 use Rattle.journal.specs.Journal.{refused_recall}
 use Rattle.journal.specs.declared.Found.TheVariants.{Record}
-use Rattle.journal.specs.Words.{pair_number, pair_numbered, window_of, windows_from, words_record, data_in, broken_after, carried_in, broken, found_words, live_in}
+use Rattle.journal.specs.Words.{pair_number, pair_numbered, window_of, windows_from, words_record, data_in, broken_after, live_in}
 use Rattle.journal.proofs.FormLaws.{length-with}
 use Rattle.journal.proofs.KeepLaws.{words-told, count-words}
-use Rattle.journal.proofs.WindowLaws.{length-windows}
-use Rattle.std.specs.Prelude.{Ok}
+use Rattle.journal.proofs.DataLaws.{words-at, frame_is}
+use Rattle.journal.proofs.WindowLaws.{length-windows, length-data}
+use Rattle.journal.proofs.WordLaws.{length-words}
 
 -- ---- carried bits
 
@@ -67,43 +69,72 @@ live_words c first second ws {v} {u} ev eu e =
     ap (λ l. v ∷ u ∷ l) e ∙ ap (λ w. v ∷ w ∷ windows_from (w % 4) ws) eu
     ∙ ap (λ w. w ∷ window_of (w % 4) second ∷ windows_from (window_of (w % 4) second % 4) ws) ev
 
--- ---- the frame of a record: its N + 2 kept words in an array, zeros past them
+-- the frame of word 1, word 2 and N data words, after a pair
+live-frame : (k : Carried) (n first second : ℕ) (ws : List ℕ) → length ws ≡ n
+    → record { header = header_of (bits 24 first) (bits 24 second); carried = k; n = n; words = ws ++ replicate (31 - n) 0 }
+    ≡ after_pair k (frame_of (first ∷ second ∷ ws))
+unfolding after_pair
+live-frame k n first second ws l = ap (after_pair k) (frame_is n first second ws l)
 
-module _ (n : ℕ) (vs : List ℕ) (l : length vs ≡ n + 2) {array : List ℕ} (e : array ≡ vs ++ replicate (31 - n) 0) where
-  pub live-taken : take (n + 2) array ≡ vs
-  live-taken = ap (take (n + 2)) e ∙ take_at vs (replicate (31 - n) 0) (n + 2) l
+-- the data words of an array, turned into their data
+pub live-data-array : (n : ℕ) (vs : List ℕ) {array held : List ℕ} → length vs ≡ n → array ≡ vs ++ replicate (31 - n) 0
+    → held ≡ data_in (take n array) → held ++ drop n array ≡ data_in vs ++ replicate (31 - n) 0
+live-data-array n vs l e h =
+    ap₂ ◌++◌ (h ∙ ap data_in (ap (take n) e ∙ take_at vs (replicate (31 - n) 0) n l)) (ap (drop n) e ∙ drop_at vs (replicate (31 - n) 0) n l)
 
-  -- those words turned into their data
-  pub live-data-array : {held : List ℕ} → held ≡ data_in (take (n + 2) array) → held ++ drop (n + 2) array ≡ data_in vs ++ replicate (31 - n) 0
-  live-data-array h = ap₂ ◌++◌ (h ∙ ap data_in live-taken) (ap (drop (n + 2)) e ∙ drop_at vs (replicate (31 - n) 0) (n + 2) l)
+-- ---- the frame of a record, by words 1 and 2 as they are read, v and u, and their data
 
-  pub live-carried : get_or array 0 0 / 2 ^ 30 ≡ carried_in vs
-  live-carried = ap (λ v. v / 2 ^ 30) (ap (λ a. get_or a 0 0) e ∙ go vs l)
+module _ (n : ℕ) (bs : List ℕ) {v u first second : ℕ} (ev : v ≡ word_in (take 4 (drop 3 bs))) (eu : u ≡ word_in (take 4 (drop 7 bs)))
+    (e₁ : first ≡ number (data_of (bits 32 v))) (e₂ : second ≡ number (data_of (bits 32 u))) where
+  read : words_from 4 (suc (suc n)) (drop 3 bs) ≡ v ∷ u ∷ words_from 4 n (drop 11 bs)
+  read = words-at 4 n bs ∙ sym (ap₂ (λ a b. a ∷ b ∷ words_from 4 n (drop 11 bs)) ev eu)
+
+  live_at : live_in n (words_from 4 (suc (suc n)) (drop 3 bs)) ≡ live_in n (v ∷ u ∷ words_from 4 n (drop 11 bs))
+  live_at = ap (live_in n) read
+
+  both : broken_after (v / 2 ^ 30) (words_from 4 (n + 2) (drop 3 bs)) ≡ broken_after (v / 2 ^ 30) (v ∷ u ∷ words_from 4 n (drop 11 bs))
+  both = ap (broken_after (v / 2 ^ 30)) (ap (λ m. words_from 4 m (drop 3 bs)) more ∙ read)
     where
-      go : (vs : List ℕ) → length vs ≡ n + 2 → get_or (vs ++ replicate (31 - n) 0) 0 0 ≡ get_or vs 0 0
-      go [] l = absurd (omega arith)
-      go (v ∷ vs) l = refl
+      more : n + 2 ≡ suc (suc n)
+      more = omega arith
 
-  pub live-broken : {b : Bool} → b ≡ broken_after (get_or array 0 0 / 2 ^ 30) (take (n + 2) array) → broken vs ≡ b
-  live-broken h = sym (h ∙ ap₂ broken_after live-carried live-taken)
-
-  pub live-found : (f : Frame) → frame_of (data_in vs) ≡ f
-      → record {
-        answer = Record (4 * n + 11);
-        frame = record { header = f.header; carried = pair_numbered (get_or array 0 0 / 2 ^ 30); n = f.n; words = f.words };
-      } ≡ found_words n vs
-  unfolding after_pair
-  live-found f h =
-      ap₂ (λ k g. record {
-        answer = Record (4 * n + 11);
-        frame = record { header = g.header; carried = pair_numbered k; n = g.n; words = g.words };
-      }) live-carried (sym h)
-
--- another N in word 2 is told first
-module _ (n : ℕ) (bs : List ℕ) {u second : ℕ} (eu : u ≡ word_in (take 4 (drop 7 bs))) (e₂ : second ≡ number (data_of (bits 32 u))) where
   pub live-unequal : (n ≡ n_of (bits 24 second) → ⊥) → live_in n (words_from 4 (suc (suc n)) (drop 3 bs)) ≡ refused_recall 16
-  unfolding words_from
-  live-unequal h = rw (told, ne_eqb n (n_of (bits 24 second)) h)
-    where
-      told : number (data_of (bits 32 (word_in (take 4 (drop 4 (drop 3 bs)))))) ≡ second
-      told = ap (λ r. number (data_of (bits 32 (word_in (take 4 r))))) (drop-drop 4 3 bs) ∙ ap (λ w. number (data_of (bits 32 w))) (sym eu) ∙ sym e₂
+  live-unequal h = live_at ∙ rw (ne_eqb n (n_of (bits 24 (number (data_of (bits 32 u))))) (λ s. h (s ∙ ap (λ d. n_of (bits 24 d)) (sym e₂))))
+
+  module _ (h : n ≡ n_of (bits 24 second)) where
+    same-n : n ≡ n_of (bits 24 (number (data_of (bits 32 u))))
+    same-n = h ∙ ap (λ d. n_of (bits 24 d)) e₂
+
+    pub live-preamble : preambled (bits 24 first) ≡ false → live_in n (words_from 4 (suc (suc n)) (drop 3 bs)) ≡ refused_recall 16
+    live-preamble p = live_at ∙ rw (eq-eqb n (n_of (bits 24 (number (data_of (bits 32 u))))) same-n, ap (λ d. preambled (bits 24 d)) (sym e₁) ∙ p)
+
+    module _ (p : preambled (bits 24 first) ≡ true) where
+      pub live-broken : broken_after (v / 2 ^ 30) (words_from 4 (n + 2) (drop 3 bs)) ≡ true → live_in n (words_from 4 (suc (suc n)) (drop 3 bs)) ≡ refused_recall 17
+      live-broken b =
+          live_at
+          ∙ rw (eq-eqb n (n_of (bits 24 (number (data_of (bits 32 u))))) same-n, ap (λ d. preambled (bits 24 d)) (sym e₁) ∙ p, sym both ∙ b)
+
+      pub live-found : broken_after (v / 2 ^ 30) (words_from 4 (n + 2) (drop 3 bs)) ≡ false
+          → record {
+            answer = Record (4 * n + 11);
+            frame = record {
+              header = header_of (bits 24 first) (bits 24 second);
+              carried = pair_numbered (v / 2 ^ 30);
+              n = n;
+              words = data_in (words_from 4 n (drop 11 bs)) ++ replicate (31 - n) 0;
+            };
+          } ≡ live_in n (words_from 4 (suc (suc n)) (drop 3 bs))
+      live-found b =
+          ap (λ f. record { answer = Record (4 * n + 11); frame = f }) frame
+          ∙ sym (live_at ∙ rw (eq-eqb n (n_of (bits 24 (number (data_of (bits 32 u))))) same-n, ap (λ d. preambled (bits 24 d)) (sym e₁) ∙ p, sym both ∙ b))
+        where
+          frame : record {
+            header = header_of (bits 24 first) (bits 24 second);
+            carried = pair_numbered (v / 2 ^ 30);
+            n = n;
+            words = data_in (words_from 4 n (drop 11 bs)) ++ replicate (31 - n) 0;
+          } ≡ after_pair (pair_numbered (v / 2 ^ 30)) (frame_of (data_in (v ∷ u ∷ words_from 4 n (drop 11 bs))))
+          frame =
+              live-frame (pair_numbered (v / 2 ^ 30)) n first second (data_in (words_from 4 n (drop 11 bs)))
+              (length-data (words_from 4 n (drop 11 bs)) ∙ length-words 4 n (drop 11 bs))
+              ∙ ap₂ (λ a b. after_pair (pair_numbered (v / 2 ^ 30)) (frame_of (a ∷ b ∷ data_in (words_from 4 n (drop 11 bs))))) e₁ e₂

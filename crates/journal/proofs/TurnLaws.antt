@@ -1,12 +1,12 @@
 -- What one turn of each loop stores or reads. Assumes nothing.
-use mathlib.Core.Path.{◌≡◌, sym, ap, ap₂, ◌∙◌}
+use mathlib.Core.Path.{◌≡◌, refl, sym, ap, ap₂, ◌∙◌}
 use mathlib.Core.List.{List, [], ◌∷◌, ◌++◌, append-nil, append_assoc}
 use Prim.Native.Nat.{ℕ, zero, suc, ◌+◌, ◌-◌, ◌*◌, ◌≤◌, ◌<◌}
 use native.Mathlib.Numerals.{add-one}
 use native.Mathlib.Omega.{arith}
-use lib.ListN.{length, take, drop, get_or, set, replicate, length-drop}
+use lib.ListN.{length, take, drop, get_or, set, replicate, length-drop, drop_of_length-le}
 use lib.Seq.{take-suc, drop-cons, drop-drop, get_or-drop, length-take-le, set_at, append_snoc, sets, sets-eq}
-use Rattle.std.proofs.lemmas.List.{take-replicate, drop-replicate}
+use Rattle.std.proofs.lemmas.List.{drop-replicate}
 use borrow.Rule.Slice.PartMut.{put_mid}
 use Rattle.std.specs.Int.{w32, to_be_bytes, from_be_bytes}
 use Rattle.bits.proofs.Stores.{sets-append}
@@ -42,16 +42,6 @@ next_place k at i = omega arith
 pub store-next : (k : ℕ) (l rest : List ℕ) (i w : ℕ) → sets l i (bytes_of k w ++ rest) ≡ sets (sets l i (bytes_of k w)) (i + k) rest
 store-next k l rest i w = sets-append (bytes_of k w) rest l i ∙ ap (λ j. sets (sets l i (bytes_of k w)) (i + j) rest) (length-bytes k w)
 
--- two lists with the same words left have the same word i, and the same words after it
-pub left_same : (ws vs : List ℕ) (i : ℕ) → drop i ws ≡ drop i vs → get_or ws i 0 ≡ get_or vs i 0
-left_same ws vs i e = ap (λ j. get_or ws j 0) here ∙ sym (get_or-drop i ws 0 0) ∙ ap (λ l. get_or l 0 0) e ∙ get_or-drop i vs 0 0 ∙ ap (λ j. get_or vs j 0) (sym here)
-  where
-    here : i ≡ i + 0
-    here = omega arith
-
-pub left_later : (ws vs : List ℕ) (i : ℕ) → drop i ws ≡ drop i vs → drop (i + 1) ws ≡ drop (i + 1) vs
-left_later ws vs i e = sym (drop-drop 1 i ws) ∙ ap (drop 1) e ∙ drop-drop 1 i vs
-
 -- word i of a list at its place behind those before it
 pub store_turn : (k : ℕ) (l ws : List ℕ) (at i : ℕ) {held : List ℕ} → i < length ws → held ≡ sets l (at + k * i) (bytes_of k (get_or ws i 0))
     → sets l (at + k * i) (written k (drop i ws)) ≡ sets held (at + k * (i + 1)) (written k (drop (i + 1) ws))
@@ -76,6 +66,15 @@ store-record k l form n first second ws {l₁ = l₁} {l₂ = l₂} e₁ e₂ e�
   where
     two : 3 + 2 * k ≡ 3 + k + k
     two = omega arith
+
+-- data words behind a record's mark, N and words 1 and 2
+pub store-behind : (k : ℕ) (l : List ℕ) (form n first second : ℕ) (ws : List ℕ) {started held : List ℕ}
+    → started ≡ sets l 0 (record_with form k n (first ∷ second ∷ [])) → held ≡ sets started (3 + 2 * k) (written k ws)
+    → held ≡ sets l 0 (record_with form k n (first ∷ second ∷ ws))
+unfolding written
+store-behind k l form n first second ws e₁ e₂ =
+    store-record k l form n first second ws refl refl refl
+    (e₂ ∙ ap (λ m. sets m (3 + 2 * k) (written k ws)) (e₁ ∙ sym (store-record k l form n first second [] refl refl refl refl)))
 
 -- ---- reads
 
@@ -122,21 +121,6 @@ filled ws m i v l h =
     lower : m - i ≡ suc (m - (i + 1))
     lower = omega arith
 
--- the first n of an array of zeros, of which none, and then all, are written
-pub fill_start : (m n : ℕ) → n ≤ m → take {A = ℕ} n (replicate m 0) ≡ replicate (n - 0) 0
-fill_start m n few = take-replicate n m 0 few ∙ ap (λ j. replicate j 0) none
-  where
-    none : n ≡ n - 0
-    none = omega arith
-
-pub fill-end : (f : ℕ → List ℕ) (m n i : ℕ) (ws : List ℕ) → i ≡ n → ws ≡ f i ++ replicate (n - i) 0
-    → ws ++ drop {A = ℕ} n (replicate m 0) ≡ f n ++ replicate (m - n) 0
-fill-end f m n i ws all e =
-    ap₂ ◌++◌ (e ∙ ap₂ (λ j k. f j ++ replicate k 0) all none ∙ append-nil (f n)) (drop-replicate n m 0)
-  where
-    none : n - i ≡ 0
-    none = omega arith
-
 -- the next word of such an array
 pub word-filled : (k m i : ℕ) (bs : List ℕ) → i < m
     → set (words_from k i bs ++ replicate (m - i) 0) i (word_in (take k (drop (k * i) bs))) ≡ words_from k (i + 1) bs ++ replicate (m - (i + 1)) 0
@@ -144,8 +128,24 @@ word-filled k m i bs h =
     filled (words_from k i bs) m i (word_in (take k (drop (k * i) bs))) (length-words k i bs) h
     ∙ ap (λ ws. ws ++ replicate (m - (i + 1)) 0) (sym (words_snoc k i bs) ∙ ap (λ j. words_from k j bs) (sym (add-one i)))
 
--- the same in a loop that reads word i from its place behind those before it
-pub fill_turn : (k n at i : ℕ) (bs ws : List ℕ) {w : ℕ} → i < n → ws ≡ words_from k i (drop at bs) ++ replicate (n - i) 0
-    → w ≡ word_in (take k (drop (at + k * i) bs)) → set ws i w ≡ words_from k (i + 1) (drop at bs) ++ replicate (n - (i + 1)) 0
-fill_turn k n at i bs ws h e v =
-    ap₂ (λ r w. set r i w) e (v ∙ ap (λ r. word_in (take k r)) (sym (drop-drop (k * i) at bs))) ∙ word-filled k n i (drop at bs) h
+-- word i read into its place, from where it stands behind those before it
+pub read_turn : (k at i : ℕ) (bs old words : List ℕ) {w : ℕ} → i < length old → words ≡ words_from k i (drop at bs) ++ drop i old
+    → w ≡ word_in (take k (drop (at + k * i) bs)) → set words i w ≡ words_from k (i + 1) (drop at bs) ++ drop (i + 1) old
+read_turn k at i bs old words {w} h e v =
+    let from = drop at bs in
+    let front = words_from k i from in
+    let later = drop (i + 1) old in
+    ap (λ l. set l i w) (e ∙ ap (λ r. front ++ r) (word_next old i h)) ∙ set_at front (get_or old i 0) later w i (length-words k i from)
+    ∙ sym (append_snoc front w later)
+    ∙ ap (λ ws. ws ++ later)
+    (ap (λ w. front ++ (w ∷ [])) (v ∙ ap (λ r. word_in (take k r)) (sym (drop-drop (k * i) at bs)))
+    ∙ sym (words_snoc k i from) ∙ ap (λ j. words_from k j from) (sym (add-one i)))
+
+pub read_all : (k i : ℕ) (bs old words : List ℕ) → i ≡ length old → words ≡ words_from k i bs ++ drop i old → words ≡ words_from k (length old) bs
+read_all k i bs old words all e =
+    e ∙ ap₂ (λ j r. words_from k j bs ++ r) all (drop_of_length-le old {i = i} (omega (arith, all))) ∙ append-nil (words_from k (length old) bs)
+
+-- the first n places of an array of zeros, read
+pub words-read : (k n : ℕ) (bs : List ℕ) {words : List ℕ} → n ≤ 31 → words ≡ words_from k (length (take {A = ℕ} n (replicate 31 0))) bs
+    → words ++ drop {A = ℕ} n (replicate 31 0) ≡ words_from k n bs ++ replicate (31 - n) 0
+words-read k n bs few e = ap₂ ◌++◌ (e ∙ ap (λ m. words_from k m bs) (length-take-le n (replicate 31 0) few)) (drop-replicate n 31 0)

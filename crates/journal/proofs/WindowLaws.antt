@@ -3,13 +3,13 @@
 use mathlib.Core.Path.{◌≡◌, refl, sym, ap, ap₂, ◌∙◌}
 use mathlib.Core.Bool.{true, false}
 use mathlib.Core.List.{List, [], ◌∷◌, ◌++◌, map, append-nil}
-use Prim.Native.Nat.{ℕ, zero, suc, ◌+◌, ◌/◌, ◌%◌, ◌^◌, ◌≤◌, ◌<◌}
+use Prim.Native.Nat.{ℕ, zero, suc, ◌+◌, ◌-◌, ◌*◌, ◌/◌, ◌%◌, ◌^◌, ◌≤◌, ◌<◌}
 use native.Mathlib.Nat.{mod-eq_of_lt}
 use native.Mathlib.Omega.{arith}
 use lib.Dec.{eqb}
 use lib.ListN.{length, take, drop, get_or, set, replicate, drop_of_length-le}
-use lib.Seq.{append_snoc, take_all, length-take-le, drop-set-lt, set_at}
-use Rattle.std.proofs.lemmas.List.{take_more, take_more_set, get_or_at}
+use lib.Seq.{append_snoc, take_all, length-take-le, drop-drop, set_at, sets}
+use Rattle.std.proofs.lemmas.List.{take_more, get_or_at}
 use borrow.Author.Tests.{eqb-true, not-false, eq-eqb, ne_eqb}
 use Rattle.std.specs.Prelude.{Ok}
 use Rattle.bits.specs.Bits.{bits, number}
@@ -21,8 +21,9 @@ use Rattle.word.proofs.Computes.{word-answers}
 use Rattle.word.proofs.Sending.{length-sent, data-number, data-sent, passes-sent, only-sent}
 use Rattle.frame.specs.Frames.{Below}
 use Rattle.frame.proofs.WidthLaws.{both_false}
+use Rattle.journal.specs.Bytes.{bytes_of, word_in, written, words_from}
 use Rattle.journal.specs.Words.{window_of, windows_from, data_in, broken_after}
-use Rattle.journal.proofs.TurnLaws.{word_next}
+use Rattle.journal.proofs.TurnLaws.{word_next, next_place, store-next}
 
 -- ---- one word
 
@@ -86,22 +87,28 @@ window-again v h p =
 
 -- ---- what one turn stores, finds or reads
 
--- the next word of a list sent in its place, after the bits k
-pub send_turn : (ws : List ℕ) (k i : ℕ) {v : ℕ} {sent : List ℕ} → i < length ws → sent ≡ take i ws ++ windows_from k (drop i ws)
-    → v ≡ window_of k (get_or ws i 0) → sent ≡ take (i + 1) (set ws i v) ++ windows_from (v % 4) (drop (i + 1) (set ws i v))
-unfolding windows_from
-send_turn ws k i {v} h e ev =
+-- the next word as it is kept, after the bits c, behind those before it
+pub store-window : (l ws : List ℕ) (c at i : ℕ) {v k : ℕ} {held : List ℕ} → i < length ws → v ≡ window_of c (get_or ws i 0)
+    → held ≡ sets l (at + 4 * i) (bytes_of 4 v) → k ≡ window_of c (get_or ws i 0) % 4
+    → sets l (at + 4 * i) (written 4 (windows_from c (drop i ws))) ≡ sets held (at + 4 * (i + 1)) (written 4 (windows_from k (drop (i + 1) ws)))
+unfolding written windows_from
+store-window l ws c at i {v} {k} h ev e ek =
     let later = drop (i + 1) ws in
-    let first = window_of k (get_or ws i 0) in
-    e ∙ ap (λ r. take i ws ++ windows_from k r) (word_next ws i h)
-    ∙ sym (append_snoc (take i ws) first (windows_from (first % 4) later))
-    ∙ ap (λ w. (take i ws ++ (w ∷ [])) ++ windows_from (w % 4) later) (sym ev)
-    ∙ ap₂ (λ a b. a ++ windows_from (v % 4) b) (sym (take_more_set ws i v h)) (sym (drop-set-lt (i + 1) ws i v (omega arith)))
+    ap (λ r. sets l (at + 4 * i) (written 4 (windows_from c r))) (word_next ws i h)
+    ∙ ap₂ (λ w p. sets l (at + 4 * i) (bytes_of 4 w ++ written 4 (windows_from p later))) (sym ev) (sym ek)
+    ∙ store-next 4 l (written 4 (windows_from k later)) (at + 4 * i) v
+    ∙ ap₂ (λ b j. sets b j (written 4 (windows_from k later))) (sym e) (next_place 4 at i)
 
-pub send_all : (ws : List ℕ) (k i : ℕ) {sent : List ℕ} → length ws ≤ i → sent ≡ take i ws ++ windows_from k (drop i ws) → ws ≡ sent
-unfolding windows_from
-send_all ws k i h e =
-    sym (e ∙ ap₂ (λ a b. a ++ windows_from k b) (take_all i ws h) (drop_of_length-le ws {i = i} h) ∙ append-nil ws)
+-- the next of the kept words that are left
+pub left-first : (n i : ℕ) (bs : List ℕ) → i < n
+    → words_from 4 (n - i) (drop (3 + 4 * i) bs) ≡ word_in (take 4 (drop (3 + 4 * i) bs)) ∷ words_from 4 (n - (i + 1)) (drop (3 + 4 * (i + 1)) bs)
+unfolding words_from
+left-first n i bs h =
+    ap (λ j. words_from 4 j (drop (3 + 4 * i) bs)) lower
+    ∙ ap (λ r. word_in (take 4 (drop (3 + 4 * i) bs)) ∷ words_from 4 (n - (i + 1)) r) (drop-drop 4 (3 + 4 * i) bs ∙ ap (λ j. drop j bs) (next_place 4 3 i))
+  where
+    lower : n - i ≡ suc (n - (i + 1))
+    lower = omega arith
 
 module _ (c v : ℕ) (vs : List ℕ) where
   pub pair-differs : (v / 2 ^ 30 ≡ c → ⊥) → broken_after c (v ∷ vs) ≡ true

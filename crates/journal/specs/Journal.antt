@@ -4,8 +4,9 @@ use Rattle.std.specs.Prelude.{not, Option, None, Some, List, [], ◌∷◌, ◌+
 use Rattle.answer.specs.Order.{Says, refuses, answers, Check, in_order}
 use Rattle.bits.specs.Bits.{bits}
 use Rattle.frame.specs.Header.{n_of, preambled, header_of}
-use Rattle.frame.specs.Frames.{words_of, built_of, frame_of, blank}
+use Rattle.frame.specs.Frames.{words_of, frame_of, blank}
 use Rattle.frame.specs.Widths.{header_outside, outside}
+use Rattle.frame.specs.declared.Header.{Header}
 use Rattle.frame.specs.declared.Frame.{Frame}
 use Rattle.journal.specs.Forms.{record_with, n_byte, words_after, start_order}
 use Rattle.journal.specs.declared.Kept.{Kept}
@@ -64,9 +65,10 @@ recall_order bs = start_order 0x32 3 bs ++ data_order (n_byte bs) (words_after 3
 abbrev pub recalled_by : List ℕ → Recalled
 recalled_by bs = in_order (recall_order bs) refused_recall (recalled (n_byte bs) (words_after 3 bs))
 
--- the frame of N and an array of these words, zeros past them; none where the last 16 applies
-abbrev pub frame_found : ℕ → List ℕ → Option Frame
-frame_found n ws = in_order (data_order n ws) (λ number. None) (Some (built_of (header_of (bits 24 (get_or ws 0 0)) (bits 24 (get_or ws 1 0))) n (drop 2 ws)))
+-- the header of words 1 and 2; none where the last 16 applies
+abbrev pub header_found : ℕ → ℕ → ℕ → Option Header
+header_found n first second =
+    in_order (data_order n (first ∷ second ∷ [])) (λ number. None) (Some (header_of (bits 24 first) (bits 24 second)))
 
 -- its part once the record is known to be whole
 abbrev pub frame_in : ℕ → List ℕ → Recalled

@@ -1,5 +1,5 @@
 // What every form of record shares: a mark, N, and bytes for each of the N + 2 words.
-ghost use Rattle.std.specs.Prelude.{◌≡◌, ◌∷◌, ◌++◌, ◌+◌, ◌-◌, ◌≤◌, length, take, drop, replicate};
+ghost use Rattle.std.specs.Prelude.{◌≡◌, [], ◌∷◌, ◌+◌, ◌*◌, ◌-◌, ◌≤◌, length, take, drop};
 ghost use Rattle.std.proofs.lemmas.List.Edits.{sets};
 ghost use Rattle.journal.specs.Bytes.{bytes_of, word_in, words_from};
 ghost use Rattle.journal.specs.Forms.{record_with, length_with, unmarked, start_by};
@@ -35,7 +35,7 @@ pub(crate) enum Start {
 const MARK: u8 = 0x52;
 
 // Writes a word's lowest bytes from `at` on, highest bits first.
-fn put_word(word: u32, size: usize, at: usize, buffer: &mut [u8])
+pub(crate) fn put_word(word: u32, size: usize, at: usize, buffer: &mut [u8])
     requires { (size ≤ 4) × (at + size ≤ length buffer.old) }
     ensures { buffer.new ≡ sets buffer.old at (bytes_of size word) }
 {
@@ -53,6 +53,17 @@ fn word_at(size: usize, at: usize, bytes: &[u8]) -> u32
 }
 
 impl Form {
+    // Writes a record's mark, N and words 1 and 2 from the buffer's start on.
+    pub(crate) fn put_start(self, n: usize, first: u32, second: u32, buffer: &mut [u8])
+        requires { (n ≤ 31) × (length_with self.size 0 ≤ length buffer.old) }
+        ensures { buffer.new ≡ sets buffer.old 0 (record_with self.byte self.size n (first ∷ second ∷ [])) }
+    {
+        let size = self.size;
+        buffer[..3].copy_from_slice(&[MARK, self.byte, n as u8]);
+        put_word(first, size, 3, buffer);
+        put_word(second, size, 3 + size, buffer);
+    }
+
     // Writes a record of N and its words from the buffer's start on.
     pub(crate) fn put(self, first: u32, second: u32, words: &[u32], buffer: &mut [u8])
         requires { (length words.now ≤ 31) × (length_with self.size (length words.now) ≤ length buffer.old) }
@@ -60,9 +71,7 @@ impl Form {
             ≡ sets buffer.old 0 (record_with self.byte self.size (length words.now) (first ∷ second ∷ words.now)) }
     {
         let size = self.size;
-        buffer[..3].copy_from_slice(&[MARK, self.byte, words.len() as u8]);
-        put_word(first, size, 3, buffer);
-        put_word(second, size, 3 + size, buffer);
+        self.put_start(words.len(), first, second, buffer);
         for (i, word) in words.iter().enumerate() {
             put_word(*word, size, 3 + 2 * size + size * i, buffer);
         }
@@ -95,16 +104,22 @@ impl Form {
         Start::N(n)
     }
 
-    // The N + 2 words of a whole record; zeros past them.
-    pub(crate) fn words_at(self, n: usize, bytes: &[u8]) -> [u32; 33]
-        requires { (n ≤ 31) × (length_with self.size n ≤ length bytes.now) }
-        ensures { result ≡ words_from self.size (n + 2) (drop 3 bytes.now) ++ replicate (31 - n) 0 }
+    // Word i of a whole record.
+    pub(crate) fn word(self, i: usize, bytes: &[u8]) -> u32
+        requires { (i ≤ 32) × (3 + self.size * i + self.size ≤ length bytes.now) }
+        ensures { result ≡ word_in (take self.size (drop (3 + self.size * i) bytes.now)) }
+    {
+        word_at(self.size, 3 + self.size * i, bytes)
+    }
+
+    // The data words of a whole record, one for each place.
+    pub(crate) fn words_at(self, bytes: &[u8], words: &mut [u32])
+        requires { (length words.old ≤ 31) × (length_with self.size (length words.old) ≤ length bytes.now) }
+        ensures { words.new ≡ words_from self.size (length words.old) (drop (3 + 2 * self.size) bytes.now) }
     {
         let size = self.size;
-        let mut words = [0; 33];
-        for (i, word) in words[..n + 2].iter_mut().enumerate() {
-            *word = word_at(size, 3 + size * i, bytes);
+        for (i, word) in words.iter_mut().enumerate() {
+            *word = word_at(size, 3 + 2 * size + size * i, bytes);
         }
-        words
     }
 }

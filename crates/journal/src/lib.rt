@@ -4,13 +4,13 @@
 mod form;
 mod words;
 
-ghost use Rattle.std.specs.Prelude.{◌≡◌, length};
-ghost use Rattle.journal.specs.Journal.{recorded_by, recorded_to, kept_by, held_by, refused_recall, frame_found, recalled_by};
+ghost use Rattle.std.specs.Prelude.{◌≡◌};
+ghost use Rattle.journal.specs.Journal.{recorded_by, recorded_to, kept_by, held_by, refused_recall, header_found, recalled_by};
 ghost use Rattle.journal.specs.Words.{kept_words, held_words, recalled_words, recalled_either};
 
 use crate::form::{DATA, Start, WORDS};
-use crate::words::{CARRIED, is_broken, pair_of, receive, send, window_of};
-use frame::Frame;
+use crate::words::{CARRIED, is_broken, pair_of, put_windows, receive, window_of};
+use frame::{Frame, Header};
 
 // The length of the record that was written, or the refusal's number.
 #[derive(Clone, Copy)]
@@ -72,12 +72,10 @@ fn refusal(number: u8) -> Recalled
     }
 }
 
-// The frame of N and the data of the N + 2 words, zeros past them; none for another N in word 2 or a wrong preamble, which is 16.
-fn frame_in(n: usize, words: &[u32; 33]) -> Option<Frame>
-    requires { length words.now ≡ 33 }
-    ensures { result ≡ frame_found n words.now }
+// The header of words 1 and 2 by their data; none for another N in word 2 or a wrong preamble, which is 16.
+fn header_in(n: usize, first: u32, second: u32) -> Option<Header>
+    ensures { result ≡ header_found n first second }
 {
-    let [first, second, ..] = *words;
     let told = frame::n_of(second);
     if n != told {
         return None;
@@ -85,9 +83,7 @@ fn frame_in(n: usize, words: &[u32; 33]) -> Option<Frame>
     if !frame::has_preamble(first) {
         return None;
     }
-    let mut data = [0; 31];
-    data.copy_from_slice(&words[2..]);
-    Some(frame::built(frame::header_of(first, second), n, data))
+    Some(frame::header_of(first, second))
 }
 
 // Recalls the record at the start of the bytes, its frame after 00; what follows it is ignored. Order 14, 15, 16, 15, 16.
@@ -98,13 +94,16 @@ pub fn recall(bytes: &[u8]) -> Recalled
         Start::N(n) => n,
         Start::Refused(number) => return refusal(number),
     };
-    let words = DATA.words_at(n, bytes);
-    let Some(frame) = frame_in(n, &words) else {
+    let first = DATA.word(0, bytes);
+    let second = DATA.word(1, bytes);
+    let Some(header) = header_in(n, first, second) else {
         return refusal(16);
     };
+    let mut words = [0; 31];
+    DATA.words_at(bytes, &mut words[..n]);
     Recalled {
         answer: Found::Record(3 * n + 9),
-        frame,
+        frame: frame::built(header, n, words),
     }
 }
 
@@ -128,9 +127,8 @@ pub fn keep_words(frame: Frame, buffer: &mut [u8]) -> Kept
     let pair = frame.carried.d29 as u32 * 2 + frame.carried.d30 as u32;
     let first = window_of(pair, first);
     let second = window_of(first % 4, second);
-    let mut words = frame.words;
-    send(second % 4, &mut words[..n]);
-    WORDS.put(first, second, &words[..n], buffer);
+    WORDS.put_start(n, first, second, buffer);
+    put_windows(&frame.words[..n], second % 4, 11, buffer);
     Kept::Done(length)
 }
 
@@ -142,21 +140,26 @@ pub fn recall_words(bytes: &[u8]) -> Recalled
         Start::N(n) => n,
         Start::Refused(number) => return refusal(number),
     };
-    let windows = WORDS.words_at(n, bytes);
-    let mut words = windows;
-    receive(&mut words[..n + 2]);
-    let Some(frame) = frame_in(n, &words) else {
+    let window = WORDS.word(0, bytes);
+    let first = word::data_of(window);
+    let second = word::data_of(WORDS.word(1, bytes));
+    let Some(header) = header_in(n, first, second) else {
         return refusal(16);
     };
-    let carried = windows[0] / CARRIED;
-    if is_broken(carried, &windows[..n + 2]) {
+    let carried = window / CARRIED;
+    if is_broken(n + 2, carried, bytes) {
         return refusal(17);
     }
+    let mut words = [0; 31];
+    WORDS.words_at(bytes, &mut words[..n]);
+    receive(&mut words[..n]);
     Recalled {
         answer: Found::Record(4 * n + 11),
         frame: Frame {
+            header,
             carried: pair_of(carried),
-            ..frame
+            n,
+            words,
         },
     }
 }

@@ -3,15 +3,15 @@
 use mathlib.Core.Path.{◌≡◌, refl, sym, ap, ap₂, ◌∙◌}
 use mathlib.Core.Bool.{Bool, true, false, ◌||◌, cond, or_assoc, or-false}
 use mathlib.Core.List.{List, [], ◌∷◌, ◌++◌, map, append-nil}
-use Prim.Native.Nat.{ℕ, zero, suc, ◌+◌, ◌-◌, ◌%◌, ◌^◌, ◌≤◌, ◌<◌}
+use Prim.Native.Nat.{ℕ, zero, suc, ◌+◌, ◌-◌, ◌%◌, ◌^◌, ◌≤◌, ◌<◌, min}
 use native.Mathlib.Nat.{add-zero, mod-mod}
 use native.Mathlib.Numerals.{add-one}
 use native.Mathlib.Omega.{arith}
 use lib.Dec.{ltb}
 use lib.Pow.{pow_pos}
-use lib.ListN.{length, take, drop, set, get_or, drop_of_length-le}
-use lib.Seq.{drop-nil, drop-cons, drop-drop, get_or-drop, take_all, take-suc-set, append_snoc}
-use borrow.Author.Tests.{lt-ltb, le-ltb, ltb-false}
+use lib.ListN.{length, take, drop, set, get_or, drop_of_length-le, take-append-drop}
+use lib.Seq.{drop-nil, drop-cons, drop-drop, get_or-drop, take_all, take-suc-set, drop-set-lt, append_snoc}
+use borrow.Author.Tests.{lt-ltb, le-ltb, ltb-true, ltb-false}
 use Rattle.std.specs.Prelude.{fold}
 use Rattle.bits.specs.Fields.{field_at, fields_at, span}
 use Rattle.bits.specs.Rows.{data_bits}
@@ -52,6 +52,19 @@ fields-next ds ws out i o w v h l ew ev =
     rest : List ℕ
     rest = padded (12 - (i + 1)) (fields_in ds (drop (i + 1) ws) (o + w))
 
+-- past the table there are zeros
+pub fields-none : (ds ws out : List ℕ) (i o : ℕ) → length ws ≤ i → drop i out ≡ padded (12 - i) []
+    → take i out ++ padded (12 - i) (fields_in ds (drop i ws) o) ≡ out
+fields-none ds ws out i o h e =
+    ap (λ l. take i out ++ padded (12 - i) (fields_in ds l o)) (drop_of_length-le ws h) ∙ ap (λ l. take i out ++ l) (sym e) ∙ take-append-drop i out
+
+pub zeros-next : (out : List ℕ) (i v : ℕ) → i < 12 → drop i out ≡ padded (12 - i) [] → drop (i + 1) (set out i v) ≡ padded (12 - (i + 1)) []
+zeros-next out i v h e =
+    drop-set-lt (i + 1) out i v (omega arith) ∙ sym (drop-drop 1 i out) ∙ ap (drop 1) (e ∙ ap (λ k. padded k []) less)
+  where
+    less : 12 - i ≡ suc (12 - (i + 1))
+    less = omega arith
+
 -- a row is full at its twelfth place
 pub fields-end : (ds ws out : List ℕ) (i o : ℕ) → i ≤ 12 → 12 ≤ i → length out ≡ 12
     → take i out ++ padded (12 - i) (fields_in ds (drop i ws) o) ≡ out
@@ -60,6 +73,15 @@ fields-end ds ws out i o h k l =
   where
     none : 12 - i ≡ 0
     none = omega arith
+
+-- a row is done at the table's end, or at the twelfth place
+pub fields-done : (ds ws out : List ℕ) (i o : ℕ) → min (length ws) 12 ≤ i → i ≤ 12 → length out ≡ 12 → drop i out ≡ padded (12 - i) []
+    → take i out ++ padded (12 - i) (fields_in ds (drop i ws) o) ≡ out
+fields-done ds ws out i o h k l e = go (ltb i 12) refl
+  where
+    go : (t : Bool) → ltb i 12 ≡ t → take i out ++ padded (12 - i) (fields_in ds (drop i ws) o) ≡ out
+    go true q = let b = ltb-true i 12 q in fields-none ds ws out i o (omega arith) e
+    go false q = fields-end ds ws out i o k (ltb-false i 12 q) l
 
 -- fields that lie in the words
 pub fields_in_lem : (ds ws : List ℕ) (o : ℕ) → Narrow ws → o + span ws ≤ 744 → fields_in ds ws o ≡ fields_at ws o (data_bits ds)

@@ -64,9 +64,10 @@ pub fn fields(words: [u32; 31], at: u32, widths: &[u32]) -> [u32; 12]
 {
     let mut out = [0u32; 12];
     let mut next = at as usize;
-    for (i, value) in out.iter_mut().enumerate() {
-        let width = item(widths, i);
-        *value = field_of(&words, next, width);
+    // the widths alone are gone through: the places past the last stay 0
+    let taken = &widths[..widths.len().min(12)];
+    for (i, &width) in taken.iter().enumerate() {
+        out[i] = field_of(&words, next, width);
         next += width as usize;
     }
     out

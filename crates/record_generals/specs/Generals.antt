@@ -1,7 +1,9 @@
 -- Types 41 and 42, the general corrections, over the width of the delay: the head and the satellite's part as data, what their codes mean, and
 -- the answers in their orders. Assumes nothing.
-use Rattle.std.specs.Prelude.{Bool, cond, not, ◌||◌, ◌&&◌, List, [], ◌∷◌, ℕ, ◌+◌, ◌-◌, ◌^◌, eqb, leb, take, get_or}
+use Rattle.std.specs.Prelude.{Result, Bool, cond, not, ◌||◌, ◌&&◌, List, [], ◌∷◌, ℕ, ◌+◌, ◌-◌, ◌^◌, eqb, leb, take, get_or}
 use Rattle.answer.specs.Order.{Says, refuses, answers, Check, in_order}
+use Rattle.answer.specs.Table.{refused, granted}
+use Rattle.answer.specs.declared.Refusal.{Refusal}
 use Rattle.bits.specs.Fields.{fields_at, packed}
 use Rattle.bits.specs.Signed.{signed}
 use Rattle.frame.specs.Widths.{any_of}
@@ -29,6 +31,9 @@ use Rattle.record_generals.specs.declared.GeneralRead.TheVariants as read
 
 unfoldable pub other_system : ℕ → Bool
 other_system s = not (any_of (eqb s) (1 ∷ 2 ∷ 5 ∷ 6 ∷ []))
+
+abbrev pub known_of : ℕ → Result (Unit {0}) Refusal
+known_of s = cond (other_system s) (refused 23) granted
 
 -- ---- THE HEAD, 13 bits: system 4, signal 4, ephemeris type 2, period of use 2, ionosphere 1
 
@@ -116,6 +121,9 @@ fill = 0xAAAAAA
 -- the first 8: no data word, or one of type 41; one word of type 42 is null
 abbrev pub too_short : ℕ → ℕ → Bool
 too_short kind n = eqb n 0 || (eqb kind 41 && eqb n 1)
+
+abbrev pub list_size : ℕ → ℕ → Result (Unit {0}) Refusal
+list_size kind n = cond (too_short kind n) (refused 8) granted
 
 -- the width of the delay that a frame's head says
 abbrev pub delay_in : Frame → ℕ

@@ -14,9 +14,9 @@ ghost use Rattle.record_generals.specs.Generals.{count_generals, read_head, gene
 ghost use Rattle.record_generals.specs.GeneralNulls.{read_general_null, make_general_null};
 
 use crate::rows::{rows_of, system_rows};
-use crate::stages::{delay_width, head_from, other_system, staged_of};
+use crate::stages::{delay_width, head_from, known_of, staged_of};
 use frame::{Frame, Header, Layout};
-use record_stages::{Asked, Count, Made, Making, Place};
+use record_stages::{Asked, Count, Made, Making, Place, Size};
 
 // The head: system, signal, ephemeris type, period of use, and whether every satellite has its ionosphere delay.
 #[derive(Clone, Copy)]
@@ -177,9 +177,9 @@ pub fn make_generals(
     let Ok(()) = frame::clock_of(header.z) else {
         return refused(7);
     };
-    if other_system(head.system) {
+    let Ok(()) = known_of(head.system) else {
         return refused(23);
-    }
+    };
     let delay = delay_width(head.ionosphere);
     let rows = rows_of(delay, head, entries, count);
     record_stages::make_frame(Layout::General, most_of(delay), FILL, header, count, rows)
@@ -199,14 +199,14 @@ pub fn read_general_null(frame: Frame) -> GeneralNullRead
     let Ok(()) = frame::clock_of(header.z) else {
         return GeneralNullRead::Refused(7);
     };
-    if frame.n != 1 {
+    let Size::Right = record_stages::size_of(1, frame.n) else {
         return GeneralNullRead::Refused(8);
-    }
+    };
     let words = frame.words;
     let system = record_fields::field(words, 0, 4) as u8;
-    if other_system(system) {
+    let Ok(()) = known_of(system) else {
         return GeneralNullRead::Refused(23);
-    }
+    };
     GeneralNullRead::Null(frame.n, system)
 }
 
@@ -223,11 +223,11 @@ pub fn make_general_null(header: Header, n: usize, system: u8) -> Made
     let Ok(()) = frame::clock_of(header.z) else {
         return refused(7);
     };
-    if other_system(system) {
+    let Ok(()) = known_of(system) else {
         return refused(23);
-    }
-    if n != 1 {
+    };
+    let Size::Right = record_stages::size_of(1, n) else {
         return refused(12);
-    }
+    };
     record_stages::make_frame(Layout::General, 1, FILL, header, 1, system_rows(system))
 }

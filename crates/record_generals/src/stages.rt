@@ -2,26 +2,33 @@
 ghost use Rattle.std.specs.Prelude.{◌≡◌, ◌≤◌};
 ghost use Rattle.bits.specs.Fields.{fields_at};
 ghost use Rattle.bits.specs.Rows.{data_bits};
-ghost use Rattle.record_generals.specs.Generals.{other_system, too_short, delay_width, head_widths, head_meant, staged_by};
+ghost use Rattle.record_generals.specs.Generals.{known_of, list_size, delay_width, head_widths, head_meant, staged_by};
 
 use crate::rows::HEAD_WIDTHS;
 use crate::{GeneralHead, Staged};
+use answer::Refusal;
 use frame::{Frame, Layout};
 use record_stages::Asked;
 
-// A system is none of the four: 1 GPS, 2 GLONASS, 5 QZSS, 6 BDS.
+// Whether a system is one of the four: 1 GPS, 2 GLONASS, 5 QZSS, 6 BDS.
 #[tactic(auto, unfolding(crate::specs::Generals::other_system))]
-pub(crate) fn other_system(system: u8) -> bool
-    ensures { result ≡ other_system system }
+pub(crate) fn known_of(system: u8) -> Result<(), Refusal>
+    ensures { result ≡ known_of system }
 {
-    !matches!(system, 1 | 2 | 5 | 6)
+    match system {
+        1 | 2 | 5 | 6 => Ok(()),
+        _ => Err(Refusal::OtherSystem),
+    }
 }
 
-// N words are too few for a list: none, or one of type 41.
-fn too_short(kind: u8, n: usize) -> bool
-    ensures { result ≡ too_short kind n }
+// Whether N words may be a list at all: not without a word, and not with one of type 41.
+fn list_size(kind: u8, n: usize) -> Result<(), Refusal>
+    ensures { result ≡ list_size kind n }
 {
-    n == 0 || (kind == 41 && n == 1)
+    if n == 0 || (kind == 41 && n == 1) {
+        return Err(Refusal::WordCount);
+    }
+    Ok(())
 }
 
 // The width of the delay: all that differs in the two layouts.
@@ -59,13 +66,13 @@ pub(crate) fn staged_of(frame: Frame) -> Staged
     let Ok(()) = frame::clock_of(header.z) else {
         return Staged::Refused(7);
     };
-    if too_short(header.kind, frame.n) {
+    let Ok(()) = list_size(header.kind, frame.n) else {
         return Staged::Refused(8);
-    }
+    };
     let words = frame.words;
     let head = head_from(words);
-    if other_system(head.system) {
+    let Ok(()) = known_of(head.system) else {
         return Staged::Refused(23);
-    }
+    };
     Staged::List(delay_width(head.ionosphere))
 }

@@ -1,7 +1,9 @@
 -- Types 18 and 19, over the edition and over what the type measures: the layout as data, what its codes mean, and the answers in their
 -- orders. Assumes nothing.
-use Rattle.std.specs.Prelude.{◌≡◌, Bool, false, ◌||◌, List, [], ◌∷◌, ℕ, ◌+◌, ◌*◌, ◌-◌, ◌^◌, ◌≤◌, ◌<◌, ltb, length, take, get_or}
+use Rattle.std.specs.Prelude.{◌≡◌, Result, Bool, false, ◌||◌, cond, List, [], ◌∷◌, ℕ, ◌+◌, ◌*◌, ◌-◌, ◌^◌, ◌≤◌, ◌<◌, ltb, length, take, get_or}
 use Rattle.answer.specs.Order.{Says, refuses, answers, in_order}
+use Rattle.answer.specs.Table.{refused, granted}
+use Rattle.answer.specs.declared.Refusal.{Refusal}
 use Rattle.bits.specs.Fields.{fields_at, packed}
 use Rattle.frame.specs.Widths.{any_of, outside}
 use Rattle.frame.specs.declared.Header.{Header}
@@ -59,6 +61,9 @@ epoch_out a = row_out epoch_least epoch_most (epoch_numbers a)
 
 abbrev pub late_time : Epoch → Bool
 late_time a = ltb 599999 a.time
+
+abbrev pub time_of : Epoch → Result (Unit {0}) Refusal
+time_of a = cond (late_time a) (refused 10) granted
 
 abbrev pub epoch_rows : Epoch → Rows
 epoch_rows a = put_row epoch_widths epoch_least epoch_most (epoch_numbers a) no_rows

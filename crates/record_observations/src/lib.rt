@@ -10,11 +10,12 @@ ghost use Rattle.std.specs.Prelude.{◌≡◌, ◌+◌, ◌≤◌};
 ghost use Rattle.bits.specs.Fields.{fields_at};
 ghost use Rattle.bits.specs.Rows.{data_bits};
 ghost use Rattle.record_observations.specs.Editions.{quantity_of};
-ghost use Rattle.record_observations.specs.Observations.{epoch_meant, epoch_widths, late_time, widths, meant};
+ghost use Rattle.record_observations.specs.Observations.{epoch_meant, epoch_widths, time_of, widths, meant};
 ghost use Rattle.record_observations.specs.Observations.{count_observations, read_epoch, observation_at, make_observations};
 
 use crate::marks::{mark_of, measured_of};
 use crate::rows::{HEAD_WIDTHS, rows_of, widths_of};
+use answer::Refusal;
 use frame::{Frame, Header, Layout};
 use record_stages::{Count, Made, Place};
 
@@ -115,11 +116,14 @@ fn epoch_from(words: [u32; 31]) -> Epoch
     }
 }
 
-// The time is past its range, which is all that refuses a head that is read.
-fn is_late(epoch: Epoch) -> bool
-    ensures { result ≡ late_time epoch }
+// Whether the time is in its range, which is all that refuses a head that is read.
+fn time_of(epoch: Epoch) -> Result<(), Refusal>
+    ensures { result ≡ time_of epoch }
 {
-    epoch.time > 599999
+    if epoch.time > 599999 {
+        return Err(Refusal::Field);
+    }
+    Ok(())
 }
 
 // The head of a frame: 5, 6, 7, 8, 10.
@@ -131,9 +135,9 @@ pub fn read_epoch(frame: Frame) -> EpochRead
     match counted {
         Count::Of(_) => {
             let epoch = epoch_from(words);
-            if is_late(epoch) {
+            let Ok(()) = time_of(epoch) else {
                 return EpochRead::Refused(10);
-            }
+            };
             EpochRead::At(epoch)
         }
         Count::Refused(n) => EpochRead::Refused(n),
@@ -169,9 +173,9 @@ pub fn observation_at(edition: Edition, frame: Frame, index: usize) -> Observati
     let place = record_stages::entry_place(Layout::Observation, 24, 48, frame, index);
     match place {
         Place::At(at) => {
-            if is_late(epoch_from(words)) {
+            let Ok(()) = time_of(epoch_from(words)) else {
                 return ObservationRead::Refused(10);
-            }
+            };
             ObservationRead::Entry(entry_from(edition, quantity, words, at))
         }
         Place::Refused(n) => ObservationRead::Refused(n),

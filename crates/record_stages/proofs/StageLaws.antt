@@ -26,10 +26,19 @@ use Rattle.record_stages.specs.declared.checks.Suited.{Suited}
 use Rattle.record_stages.specs.declared.checks.Suited.TheVariants as suited
 use Rattle.record_stages.specs.declared.Count.TheVariants as count
 use Rattle.record_stages.specs.Stages.{other_layout, asked_of, ranged_of, read_order, make_order, refused_made, done_made}
-use Rattle.answer.specs.Table.{granted}
+use Rattle.answer.specs.Table.{refused, granted}
 use Rattle.answer.specs.declared.Refusal.{Refusal}
 
 -- ---- what a stage's answer says of its check
+
+-- of a stage that grants, or refuses with number n
+pub told-refused : {e : Refusal} (n : ℕ) (b : Bool) → Err e ≡ cond b (refused n) granted → b ≡ true
+told-refused n true is = refl
+told-refused n false is = let q : ◌≡◌ {A = ℕ} 0 1 = cc in absurd (omega arith)
+
+pub told-granted : (n : ℕ) (b : Bool) → granted ≡ cond b (refused n) granted → b ≡ false
+told-granted n true is = let q : ◌≡◌ {A = ℕ} 0 1 = cc in absurd (omega arith)
+told-granted n false is = refl
 
 pub told-other : (b : Bool) → Other ≡ cond b Other Same → b ≡ true
 told-other true e = refl

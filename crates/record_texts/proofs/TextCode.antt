@@ -1,9 +1,9 @@
 -- Facts that the proofs of the text functions cite: characters and their number, the loops over them, and the answers of reading.
 -- Assumes nothing.
-use mathlib.Core.Path.{◌≡◌, refl, ap, ap₂, ◌∙◌}
+use mathlib.Core.Path.{◌≡◌, refl, sym, ap, ap₂, ◌∙◌}
 use mathlib.Core.Bool.{Bool, true, false, cond}
 use mathlib.Core.List.{List, [], ◌∷◌, ◌++◌, map}
-use Prim.Native.Nat.{ℕ, zero, suc, ◌+◌, ◌*◌, ◌-◌, ◌≤◌, ◌<◌}
+use Prim.Native.Nat.{ℕ, zero, suc, ◌+◌, ◌*◌, ◌-◌, ◌/◌, ◌%◌, ◌^◌, ◌≤◌, ◌<◌}
 use native.Mathlib.Nat.{zero-add}
 use native.Mathlib.Omega.{arith}
 use lib.Dec.{ltb, eqb}
@@ -21,6 +21,7 @@ use Rattle.frame.specs.declared.Layout.TheVariants as layout
 use Rattle.frame.proofs.WidthLaws.{both_false, told-within}
 use Rattle.record_fields.specs.Coding.{frame_bits, entry_in}
 use Rattle.record_fields.proofs.Making.{fields-frame, rows_frame}
+use Rattle.record_fields.proofs.PackCode.{field-law}
 use Rattle.record_stages.specs.declared.Asked.TheVariants.{Same, Other}
 use Rattle.record_stages.specs.declared.Count.{Count}
 use Rattle.record_stages.specs.declared.Count.TheVariants as count
@@ -48,6 +49,44 @@ character-at m i bs h =
     mapped [] j l = absurd (omega arith)
     mapped (r ∷ rs) zero l = refl
     mapped (r ∷ rs) (suc j) l = mapped rs j (omega arith)
+
+-- eight bits of three words as one number, where they end within the first: that word alone says them
+first : (w y : ℕ) → y < 2 ^ 40 → w / 2 ^ 16 % 256 ≡ (w % 2 ^ 24 * 2 ^ 40 + y) / 2 ^ 56 % 2 ^ 8
+first w y h = omega arith
+
+second : (w y : ℕ) → y < 2 ^ 40 → w / 2 ^ 8 % 256 ≡ (w % 2 ^ 24 * 2 ^ 40 + y) / 2 ^ 48 % 2 ^ 8
+second w y h = omega arith
+
+last_eight : (w y : ℕ) → y < 2 ^ 40 → w / 2 ^ 0 % 256 ≡ (w % 2 ^ 24 * 2 ^ 40 + y) / 2 ^ 40 % 2 ^ 8
+last_eight w y h = omega arith
+
+-- it lies in one word, as the first, second or third eight of its 24 bits
+module _ (ws : List ℕ) (i : ℕ) (full : length ws ≡ 31) (few : i < 93) where
+  abbrev word : ℕ
+  word = get_or ws (i / 3) 0
+
+  abbrev rest : ℕ
+  rest = get_or ws (i / 3 + 1) 0 % 2 ^ 24 * 2 ^ 16 + get_or ws (i / 3 + 2) 0 % 2 ^ 24 / 2 ^ 8
+
+  small : rest < 2 ^ 40
+  small = omega arith
+
+  -- the field by its own word and the two behind it
+  long : (k : ℕ) → 64 - (i * 8 % 24 + 8) ≡ k → (word % 2 ^ 24 * 2 ^ 40 + rest) / 2 ^ k % 2 ^ 8 ≡ entry_in coding i (data_bits ws)
+  long k e =
+      let at : i * 8 / 24 ≡ i / 3 = omega arith in
+      field-law ws (i * 8) 8 _ _ _ (2 ^ k) (2 ^ 8) full (omega arith) (omega arith)
+      (ap (λ j. get_or ws j 0 % 2 ^ 24) (sym at)) (ap (λ j. get_or ws (j + 1) 0 % 2 ^ 24) (sym at)) (ap (λ j. get_or ws (j + 2) 0 % 2 ^ 24) (sym at))
+      (ap (λ n. 2 ^ n) (sym e)) refl
+
+  by_place : (r : ℕ) → i % 3 ≡ r → word / 2 ^ (16 - 8 * r) % 256 ≡ entry_in coding i (data_bits ws)
+  by_place zero e = first word rest small ∙ long 56 (omega arith)
+  by_place (suc zero) e = second word rest small ∙ long 48 (omega arith)
+  by_place (suc (suc zero)) e = last_eight word rest small ∙ long 40 (omega arith)
+  by_place (suc (suc (suc r))) e = absurd (omega arith)
+
+  pub third : word / 2 ^ (16 - 8 * (i % 3)) % 256 ≡ entry_in coding i (data_bits ws)
+  third = by_place (i % 3) refl
 
 -- ---- how many are text
 

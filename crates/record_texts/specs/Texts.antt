@@ -1,6 +1,8 @@
 -- Types 16 and 36, over the system: the layout as data, which of its characters are text, and the answers in their orders. Assumes nothing.
-use Rattle.std.specs.Prelude.{◌≡◌, Bool, ◌||◌, cond, false, List, [], ◌∷◌, ◌++◌, map, ℕ, ◌*◌, ◌-◌, ◌+◌, ◌/◌, ◌≤◌, ◌<◌, ltb, eqb, length, drop, get_or, replicate}
+use Rattle.std.specs.Prelude.{◌≡◌, Result, Bool, ◌||◌, cond, false, List, [], ◌∷◌, ◌++◌, map, ℕ, ◌*◌, ◌-◌, ◌+◌, ◌/◌, ◌≤◌, ◌<◌, ltb, eqb, length, drop, get_or, replicate}
 use Rattle.answer.specs.Order.{Check, in_order}
+use Rattle.answer.specs.Table.{refused, granted}
+use Rattle.answer.specs.declared.Refusal.{Refusal}
 use Rattle.bits.specs.Rows.{rows_at, FillAfter}
 use Rattle.frame.specs.Widths.{any_of, outside}
 use Rattle.frame.specs.declared.Header.{Header}
@@ -55,6 +57,9 @@ text_in f = characters (length_in f) (frame_bits f)
 abbrev pub wrong_words : ℕ → Bool
 wrong_words n = wrong_count 30 n
 
+abbrev pub words_size : ℕ → Result (Unit {0}) Refusal
+words_size n = cond (wrong_words n) (refused 8) granted
+
 -- THE LAST CODE: 1 to 127 are ASCII; GLONASS has the Russian letters of annex G too, 128 to 191
 unfoldable pub last_code : System → ℕ
 last_code Gps = 127
@@ -69,6 +74,13 @@ most s = last_code s ∷ []
 -- REFUSAL 11: a character not 1 to its system's last code
 abbrev pub forbidden : System → ℕ → Bool
 forbidden s c = ltb c 1 || ltb (last_code s) c
+
+abbrev pub characters_of : System → List ℕ → Result (Unit {0}) Refusal
+characters_of s t = cond (any_of (forbidden s) t) (refused 11) granted
+
+-- REFUSAL 13: a buffer shorter than the text
+abbrev pub room_of : ℕ → ℕ → Result (Unit {0}) Refusal
+room_of size count = cond (ltb size count) (refused 13) granted
 
 -- ---- the answers; a frame's system is that of its type
 

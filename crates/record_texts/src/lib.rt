@@ -3,13 +3,13 @@
 
 ghost use Rattle.std.specs.Prelude.{◌≡◌, map, ◌*◌, ◌≤◌, ◌<◌, length, take};
 ghost use Rattle.bits.specs.Rows.{data_bits};
-ghost use Rattle.frame.specs.Widths.{any_of};
 ghost use Rattle.record_fields.specs.Tables.{no_rows, put_rows};
 ghost use Rattle.record_fields.specs.Coding.{entry_in};
-ghost use Rattle.record_texts.specs.Texts.{widths, coding, least, most, numbers, characters, text_length, wrong_words};
-ghost use Rattle.record_texts.specs.Texts.{last_code, forbidden};
+ghost use Rattle.record_texts.specs.Texts.{widths, coding, least, most, numbers, characters, text_length, words_size};
+ghost use Rattle.record_texts.specs.Texts.{last_code, forbidden, characters_of, room_of};
 ghost use Rattle.record_texts.specs.Texts.{read_text, buffer_after, make_text};
 
+use answer::Refusal;
 use frame::{Frame, Header, Layout, System};
 use record_fields::Rows;
 use record_stages::{Asked, Count, Made};
@@ -37,19 +37,22 @@ fn is_forbidden(system: System, character: u32) -> bool
     character < 1 || character > last_code(system)
 }
 
-// A text does not have N words: N is not 1 to 30.
-fn wrong_words(n: usize) -> bool
-    ensures { result ≡ wrong_words n }
+// Whether a text has N words: 1 to 30.
+fn words_size(n: usize) -> Result<(), Refusal>
+    ensures { result ≡ words_size n }
 {
-    n == 0 || n > 30
+    if n == 0 || n > 30 {
+        return Err(Refusal::WordCount);
+    }
+    Ok(())
 }
 
-// Character number `i` of the data.
-fn character(words: [u32; 31], i: usize) -> u32
+// Character number `i` of the data, one of the three of a word.
+fn character(words: &[u32; 31], i: usize) -> u32
     requires { i < 93 }
-    ensures { (result ≡ entry_in coding i (data_bits words)) × (result < 256) }
+    ensures { (result ≡ entry_in coding i (data_bits words.now)) × (result < 256) }
 {
-    record_fields::field(words, i * 8, 8)
+    (words[i / 3] >> (16 - 8 * (i % 3))) % 256
 }
 
 // How many of the characters of N words are text; zeros that close the last word are not.
@@ -58,26 +61,36 @@ fn text_length(words: [u32; 31], n: usize) -> usize
     ensures { result ≡ text_length (3 * n) (data_bits words) }
 {
     let all = 3 * n;
-    if character(words, all - 1) != 0 {
+    if character(&words, all - 1) != 0 {
         return all;
     }
-    if character(words, all - 2) != 0 {
+    if character(&words, all - 2) != 0 {
         return all - 1;
     }
     all - 2
 }
 
-// One of the first `count` characters of the data is not allowed.
-fn any_forbidden(system: System, words: [u32; 31], count: usize) -> bool
+// Whether the first `count` characters of the data are allowed.
+fn characters_of(system: System, words: [u32; 31], count: usize) -> Result<(), Refusal>
     requires { count ≤ 93 }
-    ensures { result ≡ any_of (forbidden system) (characters count (data_bits words)) }
+    ensures { result ≡ characters_of system (characters count (data_bits words)) }
 {
     for i in 0..count {
-        if is_forbidden(system, character(words, i)) {
-            return true;
+        if is_forbidden(system, character(&words, i)) {
+            return Err(Refusal::Character);
         }
     }
-    false
+    Ok(())
+}
+
+// Whether a buffer of this length has room for `count` characters.
+fn room_of(length: usize, count: usize) -> Result<(), Refusal>
+    ensures { result ≡ room_of length count }
+{
+    if length < count {
+        return Err(Refusal::ShortBuffer);
+    }
+    Ok(())
 }
 
 // The first characters of the data fill a text.
@@ -86,7 +99,7 @@ fn write_text(words: [u32; 31], text: &mut [u8])
     ensures { text.new ≡ characters (length text.old) (data_bits words) }
 {
     for (i, c) in text.iter_mut().enumerate() {
-        *c = character(words, i) as u8;
+        *c = character(&words, i) as u8;
     }
 }
 
@@ -104,17 +117,17 @@ pub fn read_text(frame: Frame, buffer: &mut [u8]) -> Count
     let Ok(()) = frame::clock_of(header.z) else {
         return Count::Refused(7);
     };
-    if wrong_words(frame.n) {
+    let Ok(()) = words_size(frame.n) else {
         return Count::Refused(8);
-    }
+    };
     let words = frame.words;
     let count = text_length(words, frame.n);
-    if any_forbidden(frame::system_of(header.kind), words, count) {
+    let Ok(()) = characters_of(frame::system_of(header.kind), words, count) else {
         return Count::Refused(11);
-    }
-    if count > buffer.len() {
+    };
+    let Ok(()) = room_of(buffer.len(), count) else {
         return Count::Refused(13);
-    }
+    };
     write_text(words, &mut buffer[..count]);
     Count::Of(count)
 }
@@ -124,12 +137,13 @@ fn rows_of(system: System, text: &[u8]) -> Rows
     ensures { result ≡ put_rows widths least (most system) (map numbers (take 90 text.now)) no_rows }
 {
     let most = [last_code(system)];
-    text.iter()
-        .take(90)
-        .fold(record_fields::no_rows(), |rows, c| {
-            let row = [u32::from(*c), 0, 0, 0, 0, 0, 0, 0, 0, 0, 0, 0];
-            record_fields::put_row(rows, row, &WIDTHS, &LEAST, &most)
-        })
+    let mut rows = record_fields::no_rows();
+    // A loop: a fold copies the rows once more at each character.
+    for c in text.iter().take(90) {
+        let row = [u32::from(*c), 0, 0, 0, 0, 0, 0, 0, 0, 0, 0, 0];
+        rows = record_fields::put_row(rows, row, &WIDTHS, &LEAST, &most);
+    }
+    rows
 }
 
 // A frame of text: 5, 6, 7, 12, 11.

@@ -25,7 +25,7 @@ fn print_signed(z: i64) {
     if z < 0 {
         print(b"-");
     }
-    io::print_decimal(STDOUT, z.unsigned_abs());
+    io::print_decimal(STDOUT, printing::magnitude(z));
 }
 
 // Writes the name of a system.

@@ -1,5 +1,7 @@
 // Totals over all rows of a report. A sum over all rows may pass 64 bits, and has 128; what is above 0 and what is below are added apart.
-ghost use Rattle.std.specs.Prelude.{◌+◌, ◌*◌, ◌^◌, ◌<◌, ◌≤◌};
+ghost use Rattle.std.specs.Prelude.{◌≡◌, ◌+◌, ◌*◌, ◌^◌, ◌<◌, ◌≤◌};
+ghost use Rattle.season_reports.specs.Reports.{rows_in};
+ghost use Rattle.season.specs.Sums.{above_of, below_of, usable_in, stops_in, above_in, below_in};
 
 use season_reports::{Extremes, Report, Row};
 
@@ -29,9 +31,10 @@ fn widest_of(a: Extremes, b: Extremes) -> Extremes {
 // What is above 0 and what is below, with a sum more.
 fn with_sum(above: u128, below: u128, sum: i64) -> (u128, u128)
     requires { (above < 2 ^ 73) × (below < 2 ^ 73) }
-    ensures { (result.0 ≤ above + 2 ^ 63) × (result.1 ≤ below + 2 ^ 63) }
+    ensures sums { (result.0 ≡ above + above_of sum) × (result.1 ≡ below + below_of sum) }
+    ensures sums_bound { (result.0 ≤ above + 2 ^ 63) × (result.1 ≤ below + 2 ^ 63) }
 {
-    let size = u128::from(sum.unsigned_abs());
+    let size = u128::from(printing::magnitude(sum));
     if sum < 0 {
         return (above, below + size);
     }
@@ -42,6 +45,8 @@ fn with_sum(above: u128, below: u128, sum: i64) -> (u128, u128)
 fn with_row(totals: Totals, i: usize, row: Row) -> Totals
     requires counts_bound { (i < 512) × (totals.usable ≤ i * 2 ^ 32) × (totals.stops ≤ i * 2 ^ 32) }
     requires sums_bound { (totals.above ≤ i * 2 ^ 63) × (totals.below ≤ i * 2 ^ 63) }
+    ensures counts { (result.usable ≡ totals.usable + row.usable) × (result.stops ≡ totals.stops + row.stops) }
+    ensures sums { (result.above ≡ totals.above + above_of row.sum) × (result.below ≡ totals.below + below_of row.sum) }
     ensures counts_bound_2 { (result.usable ≤ (i + 1) * 2 ^ 32) × (result.stops ≤ (i + 1) * 2 ^ 32) }
     ensures sums_bound_2 { (result.above ≤ (i + 1) * 2 ^ 63) × (result.below ≤ (i + 1) * 2 ^ 63) }
 {
@@ -57,7 +62,9 @@ fn with_row(totals: Totals, i: usize, row: Row) -> Totals
 
 // The totals of a report.
 pub(crate) fn totals_of(report: Report) -> Totals
-    ensures { (result.above < 2 ^ 74) × (result.below < 2 ^ 74) }
+    ensures counts { (result.usable ≡ usable_in (rows_in report)) × (result.stops ≡ stops_in (rows_in report)) }
+    ensures sums { (result.above ≡ above_in (rows_in report)) × (result.below ≡ below_in (rows_in report)) }
+    ensures sums_bound { (result.above < 2 ^ 74) × (result.below < 2 ^ 74) }
 {
     let mut totals = Totals {
         usable: 0,

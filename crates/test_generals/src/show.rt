@@ -2,7 +2,7 @@
 use frame::Frame;
 use record_generals::{General, GeneralHead, GeneralNullRead, GeneralRead, HeadRead};
 use record_stages::Count;
-use test_vectors::{print, print_each, print_number, print_refusal, print_signed};
+use test_vectors::{entries_to_write, print, print_number, print_refusal, print_signed};
 
 // Writes a head's numbers.
 fn print_numbers(head: GeneralHead) {
@@ -76,8 +76,7 @@ pub(crate) fn print_null(name: &[u8], frame: Frame) {
 // Writes the head of a frame, and every satellite.
 pub(crate) fn print_record(frame: Frame) {
     print_head(frame);
-    print_each(
-        record_generals::count_generals(frame),
-        |i| print_at(frame, i),
-    );
+    for i in 0..entries_to_write(record_generals::count_generals(frame)) {
+        print_at(frame, i);
+    }
 }

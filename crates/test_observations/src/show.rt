@@ -3,7 +3,9 @@ use frame::Frame;
 use record_observations::{
     Edition, Epoch, EpochRead, Mark, Measured, Observation, ObservationRead,
 };
-use test_vectors::{print, print_count, print_each, print_number, print_refusal, print_signed};
+use test_vectors::{
+    entries_to_write, print, print_count, print_number, print_refusal, print_signed,
+};
 
 // Writes the head of a frame.
 fn print_epoch(epoch: Epoch) {
@@ -82,8 +84,7 @@ fn print_both(frame: Frame, index: usize) {
 // Writes the head of a frame, and every satellite in both editions.
 pub(crate) fn print_record(frame: Frame) {
     print_head(frame);
-    print_each(
-        record_observations::count_observations(frame),
-        |i| print_both(frame, i),
-    );
+    for i in 0..entries_to_write(record_observations::count_observations(frame)) {
+        print_both(frame, i);
+    }
 }

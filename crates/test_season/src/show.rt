@@ -12,7 +12,7 @@ fn print_sum(sum: i64) {
     if sum < 0 {
         print(b"-");
     }
-    io::print_decimal(STDOUT, sum.unsigned_abs());
+    io::print_decimal(STDOUT, printing::magnitude(sum));
 }
 
 // Writes the number of a system.

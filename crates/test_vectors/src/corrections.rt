@@ -1,5 +1,5 @@
 // Corrections in print, with PRC and RRC in whole units.
-use crate::{print, print_each, print_number, print_refusal, print_signed};
+use crate::{entries_to_write, print, print_number, print_refusal, print_signed};
 use frame::Frame;
 use record_corrections::{Correction, CorrectionRead, Issue};
 use record_values::{Distance, Rate};
@@ -95,8 +95,7 @@ pub fn print_at(frame: Frame, index: usize) {
 
 // Writes every entry of a frame.
 pub fn print_entries(frame: Frame) {
-    print_each(
-        record_corrections::count_corrections(frame),
-        |i| print_at(frame, i),
-    );
+    for i in 0..entries_to_write(record_corrections::count_corrections(frame)) {
+        print_at(frame, i);
+    }
 }

@@ -1,5 +1,5 @@
 // Satellite health in print.
-use crate::{print, print_each, print_number, print_refusal};
+use crate::{entries_to_write, print, print_number, print_refusal};
 use frame::Frame;
 use record_healths::{Condition, HealthRead, SatelliteHealth};
 
@@ -40,5 +40,7 @@ fn print_at(frame: Frame, index: usize) {
 
 // Writes every entry of a frame.
 pub fn print_entries(frame: Frame) {
-    print_each(record_healths::count_healths(frame), |i| print_at(frame, i));
+    for i in 0..entries_to_write(record_healths::count_healths(frame)) {
+        print_at(frame, i);
+    }
 }

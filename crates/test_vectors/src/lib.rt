@@ -72,17 +72,14 @@ pub fn print_count(name: &[u8], count: Count) {
     }
 }
 
-// Writes each of so many entries by its index, or the refusal's number.
-pub fn print_each<F: Fn(usize)>(count: Count, print_at: F)
-    requires { F.IsAlwaysCallable print_at }
-{
+// How many entries there are to write: none of a refusal, whose number is written.
+pub fn entries_to_write(count: Count) -> usize {
     match count {
-        Count::Of(count) => {
-            for i in 0..count {
-                print_at(i);
-            }
+        Count::Of(count) => count,
+        Count::Refused(number) => {
+            print_refusal(number);
+            0
         }
-        Count::Refused(number) => print_refusal(number),
     }
 }
 
@@ -102,10 +99,13 @@ pub fn print_bytes(bytes: &[u8]) {
     }
 }
 
-// Writes the 24 bits of a word with a space before them.
+// Writes the 24 bits of a word with a space before them: of seven digits the first is 0, and gives its place to the space.
 fn print_word(word: u32) {
-    print(b" ");
-    print_hex(u64::from(word % 0x1000000), 6);
+    let mut text = [0u8; 16];
+    io::hex(u64::from(word % 0x1000000), 7, &mut text);
+    text.make_ascii_uppercase();
+    text[0] = b' ';
+    print(&text[..7]);
 }
 
 // Writes the first `n` of the data words.

@@ -2,22 +2,25 @@
 #![tactic(auto)]
 
 use frame::{Carried, Frame};
-use test_vectors::{header_with, print, print_hex};
+use test_vectors::{header_with, print};
 use writer::{Opened, Written};
 
 // A byte, two digits and what ends it.
-fn print_byte(byte: u8, end: &[u8]) {
-    print_hex(u64::from(byte), 2);
-    print(end);
+fn print_byte(byte: u8, end: u8) {
+    let mut text = [0u8; 16];
+    io::hex(u64::from(byte), 2, &mut text);
+    text.make_ascii_uppercase();
+    text[2] = end;
+    print(&text[..3]);
 }
 
 // A line of bytes.
 fn print_line(bytes: &[u8]) {
     if let Some((last, others)) = bytes.split_last() {
         for byte in others {
-            print_byte(*byte, b" ");
+            print_byte(*byte, b' ');
         }
-        print_byte(*last, b"\n");
+        print_byte(*last, b'\n');
     }
 }
 

@@ -19,6 +19,7 @@ use Rattle.record_fields.proofs.TableLaws.{push-codes}
 use Rattle.record_stages.specs.declared.Made.{Made}
 use Rattle.record_stages.specs.Stages.{other_layout, wrong_size, made_order, made_by, refused_made, done_made}
 use Rattle.record_stages.proofs.ListLaws.{rows-after}
+use Rattle.record_stages.proofs.StageLaws.{told-refused, told-granted, told-wrong, told-right}
 use Rattle.record_generals.specs.Generals.{other_system, widths, coding, least, most, numbers, out_of_range, fill}
 use Rattle.record_generals.specs.GeneralNulls.{system_bits, system_rows, other_than_null, make_general_null}
 use Rattle.record_generals.proofs.LayoutLaws.{narrow, system-long, system-held}
@@ -92,9 +93,9 @@ returns-in_default-clock_of c =
     ∙ passed_here refused_made (done h a.system) (other_than_null h.kind) 6 (from7 h a.n a.system) (kind-null h.kind kind-is)
     ∙ passed_here refused_made (done h a.system) (header_outside h) 5 (from6 h a.n a.system) inside
 
-pub returns-then-other_system : goal.returns-then-other_system
+pub returns-in_default-known_of : goal.returns-in_default-known_of
 unfolding make_general_null
-returns-then-other_system c =
+returns-in_default-known_of c =
     let inside : header_outside c.args.header ≡ false = told-within _ (sym c.in-Ok.is ∙ c.header_widths.ensures) in
     let kind-is : c.args.header.kind ≡ 42 = c.if-header-ne42.false in
     let hour : late c.args.header.z ≡ false = told-hour _ (sym c.in-Ok-clock_of.is ∙ c.clock_of.ensures) in
@@ -106,14 +107,14 @@ returns-then-other_system c =
     ∙ passed_here refused_made (done h a.system) (header_outside h) 5 (from6 h a.n a.system) inside in
     let a = c.args in
     decides _
-    (c.refused-then-other_system.ensures
+    (c.refused-in_default-known_of.ensures
     ∙ refused-here refused_made (done a.header a.system) (other_system a.system) 23 (from12 a.n)
-    (sym c.other_system.ensures ∙ c.if-other_system.true))
+    (told-refused 23 _ (sym c.in_default-known_of.is ∙ c.known_of.ensures)))
 
-pub returns-then-n-ne1 : goal.returns-then-n-ne1
+pub returns-in_default-size_of : goal.returns-in_default-size_of
 unfolding make_general_null
-returns-then-n-ne1 c =
-    let known : other_system c.args.system ≡ false = sym c.other_system.ensures ∙ c.if-other_system.false in
+returns-in_default-size_of c =
+    let known : other_system c.args.system ≡ false = told-granted 23 _ (sym c.in-Ok-known_of.is ∙ c.known_of.ensures) in
     let inside : header_outside c.args.header ≡ false = told-within _ (sym c.in-Ok.is ∙ c.header_widths.ensures) in
     let kind-is : c.args.header.kind ≡ 42 = c.if-header-ne42.false in
     let hour : late c.args.header.z ≡ false = told-hour _ (sym c.in-Ok-clock_of.is ∙ c.clock_of.ensures) in
@@ -125,9 +126,9 @@ returns-then-n-ne1 c =
     ∙ passed_here refused_made (done h a.system) (header_outside h) 5 (from6 h a.n a.system) inside in
     let a = c.args in
     decides _
-    (c.refused-then-n-ne1.ensures
+    (c.refused-in_default-size_of.ensures
     ∙ refused-here refused_made (done a.header a.system) (wrong_size 1 a.n) 12 []
-    (ap not (ne_eqb a.n 1 c.if-n-ne1.true))
+    (told-wrong _ (sym c.in_default-size_of.is ∙ c.size_of.ensures))
     ∙ passed_here refused_made (done a.header a.system) (other_system a.system) 23 (from12 a.n) known)
 
 pub returns : goal.returns
@@ -136,7 +137,7 @@ returns c =
     let inside : header_outside c.args.header ≡ false = told-within _ (sym c.in-Ok.is ∙ c.header_widths.ensures) in
     let kind-is : c.args.header.kind ≡ 42 = c.if-header-ne42.false in
     let hour : late c.args.header.z ≡ false = told-hour _ (sym c.in-Ok-clock_of.is ∙ c.clock_of.ensures) in
-    let known : other_system c.args.system ≡ false = sym c.other_system.ensures ∙ c.if-other_system.false in
+    let known : other_system c.args.system ≡ false = told-granted 23 _ (sym c.in-Ok-known_of.is ∙ c.known_of.ensures) in
     let decides : (m : Made) → let a = c.args in
     m ≡ in_order (from23 a.n a.system) refused_made (done a.header a.system) → m ≡ make_general_null a.header a.n a.system = λ m e. let a = c.args in
     let h = a.header in
@@ -148,5 +149,5 @@ returns c =
     (made a.header a.system c.system_rows.result c.make_frame.result c.make_frame.ensures c.system_rows.ensures
     inside kind-is hour
     ∙ passed_here refused_made (done a.header a.system) (wrong_size 1 a.n) 12 []
-    (ap not (eq-eqb a.n 1 c.if-n-ne1.false))
+    (told-right _ (sym c.in-Right.is ∙ c.size_of.ensures))
     ∙ passed_here refused_made (done a.header a.system) (other_system a.system) 23 (from12 a.n) known)

@@ -17,7 +17,7 @@ use Rattle.record_stages.specs.declared.Asked.TheVariants.{Same}
 use Rattle.record_stages.specs.declared.Made.{Made}
 use Rattle.record_stages.specs.Stages.{asked_of, wrong_count, made_by, refused_made, done_made}
 use Rattle.record_stages.proofs.ListLaws.{entries-after}
-use Rattle.record_stages.proofs.StageLaws.{make5, make6, make7, make-on}
+use Rattle.record_stages.proofs.StageLaws.{told-refused, told-granted, make5, make6, make7, make-on}
 use Rattle.record_generals.specs.declared.General.{General}
 use Rattle.record_generals.specs.declared.GeneralHead.{GeneralHead}
 use Rattle.record_generals.specs.Generals.{other_system, head_out, head_bits, head_rows, delay_width, widths, coding, least, most, numbers}
@@ -80,18 +80,18 @@ returns-in_default-clock_of c =
     ∙ make7 layout.General c.args.header asked refused_made answer within same
     (sym c.in_default-clock_of.is ∙ c.clock_of.ensures)
 
-pub returns-then-other_system : goal.returns-then-other_system
+pub returns-in_default-known_of : goal.returns-in_default-known_of
 unfolding make_generals
-returns-then-other_system c =
+returns-in_default-known_of c =
     let within : granted ≡ header_widths c.args.header = sym c.in-Ok.is ∙ c.header_widths.ensures in
     let same : Same ≡ asked_of layout.General c.args.header.kind = sym c.in-Same.is ∙ c.asked_of.ensures in
     let hour : granted ≡ clock_of c.args.header.z = sym c.in-Ok-clock_of.is ∙ c.clock_of.ensures in
     let asked : List Check = let a = c.args in own (delay_width a.head.ionosphere) a.head a.entries a.count in
     let answer : Made = let a = c.args in done (delay_width a.head.ionosphere) a.header a.head a.entries a.count in
     let a = c.args in
-    c.refused-then-other_system.ensures
+    c.refused-in_default-known_of.ensures
     ∙ refused-here refused_made answer (other_system a.head.system) 23 (twelve (delay_width a.head.ionosphere) a.head a.entries a.count)
-    (sym c.other_system.ensures ∙ c.if-other_system.true)
+    (told-refused 23 _ (sym c.in_default-known_of.is ∙ c.known_of.ensures))
     ∙ make-on layout.General a.header asked refused_made answer within same hour
 
 pub returns : goal.returns
@@ -107,4 +107,4 @@ returns c =
     (c.rows_of-rows.ensures
     ∙ ap (λ d. put_rows (widths d) least (most d) (map numbers (take a.count a.entries)) (head_rows a.head)) c.delay_width-delay.ensures.0)
     within same hour
-    (sym c.other_system.ensures ∙ c.if-other_system.false)
+    (told-granted 23 _ (sym c.in-Ok-known_of.is ∙ c.known_of.ensures))

@@ -4,9 +4,10 @@ use mathlib.Core.Bool.{false, not}
 use mathlib.Core.List.{List, [], ◌∷◌}
 use Prim.Native.Nat.{ℕ}
 use native.Mathlib.Omega.{arith}
+use lib.Dec.{eqb}
 use lib.ListN.{length}
 use borrow.Author.Rules.{rules}
-use borrow.Author.Tests.{eq-eqb, ne_eqb}
+use borrow.Author.Tests.{eq-eqb, ne_eqb, eqb-true, not-false}
 use Rattle.answer.specs.Order.{Check, in_order}
 use Rattle.bits.specs.Fields.{field_at}
 use Rattle.bits.specs.Rows.{data_bits}
@@ -16,6 +17,7 @@ use Rattle.frame.proofs.WidthLaws.{told-outside, told-within, told-late, told-ho
 use Rattle.record_fields.specs.Packing.{field_in}
 use Rattle.record_stages.specs.Stages.{wrong_size}
 use Rattle.record_stages.proofs.HeadLaws.{head-is}
+use Rattle.record_stages.proofs.StageLaws.{told-refused, told-granted, told-wrong, told-right}
 use Rattle.record_generals.specs.declared.GeneralNullRead.{GeneralNullRead}
 use Rattle.record_generals.specs.declared.GeneralNullRead.TheVariants as null
 use Rattle.record_generals.specs.Generals.{other_system}
@@ -69,9 +71,9 @@ returns-in_default-clock_of c =
     ∙ passed_here null.Refused (found f) (other_than_null f.header.kind) 6 (from7 f) kind-null
     ∙ passed_here null.Refused (found f) (outside f) 5 (from6 f) inside
 
-pub returns-then-frame-ne1 : goal.returns-then-frame-ne1
+pub returns-in_default-size_of : goal.returns-in_default-size_of
 unfolding read_general_null
-returns-then-frame-ne1 c =
+returns-in_default-size_of c =
     let asked : Frame = c.args.frame in
     let inside : outside c.args.frame ≡ false = told-within _ (sym c.in-Ok.is ∙ c.frame_widths.ensures) in
     let kind-null : other_than_null c.args.frame.header.kind ≡ false = ap not (eq-eqb _ 42 c.if-header-ne42.false) in
@@ -82,13 +84,13 @@ returns-then-frame-ne1 c =
     ∙ passed_here null.Refused (found f) (outside f) 5 (from6 f) inside in
     let f = asked in
     decides _
-    (refused-here null.Refused (found f) (wrong_size 1 f.n) 8 (from23 f) (ap not (ne_eqb f.n 1 c.if-frame-ne1.true)))
+    (refused-here null.Refused (found f) (wrong_size 1 f.n) 8 (from23 f) (told-wrong _ (sym c.in_default-size_of.is ∙ c.size_of.ensures)))
 
-pub returns-then-other_system : goal.returns-then-other_system
+pub returns-in_default-known_of : goal.returns-in_default-known_of
 unfolding read_general_null
-returns-then-other_system c =
+returns-in_default-known_of c =
     let asked : Frame = c.args.frame in
-    let right : wrong_size 1 asked.n ≡ false = ap not (eq-eqb asked.n 1 c.if-frame-ne1.false) in
+    let right : wrong_size 1 asked.n ≡ false = told-right _ (sym c.in-Right.is ∙ c.size_of.ensures) in
     let inside : outside c.args.frame ≡ false = told-within _ (sym c.in-Ok.is ∙ c.frame_widths.ensures) in
     let kind-null : other_than_null c.args.frame.header.kind ≡ false = ap not (eq-eqb _ 42 c.if-header-ne42.false) in
     let hour : late asked.header.z ≡ false = told-hour _ (sym c.in-Ok-clock_of.is ∙ c.clock_of.ensures) in
@@ -101,18 +103,18 @@ returns-then-other_system c =
     c.field-system.ensures.0 ∙ four f.words
     ∙ ap system_coding.meant
     (head-is system_coding.widths f inside full
-    (omega (arith, c.if-frame-ne1.false))) in
+    (omega (arith, eqb-true f.n 1 (not-false (eqb f.n 1) right)))) in
     let f = asked in
     decides _
     (refused-here null.Refused (found f) (other_system (system_in f)) 23 []
-    (ap other_system (sym is) ∙ sym c.other_system.ensures ∙ c.if-other_system.true)
+    (ap other_system (sym is) ∙ told-refused 23 _ (sym c.in_default-known_of.is ∙ c.known_of.ensures))
     ∙ passed_here null.Refused (found f) (wrong_size 1 f.n) 8 (from23 f) right)
 
 pub returns : goal.returns
 unfolding read_general_null
 returns c =
     let asked : Frame = c.args.frame in
-    let right : wrong_size 1 asked.n ≡ false = ap not (eq-eqb asked.n 1 c.if-frame-ne1.false) in
+    let right : wrong_size 1 asked.n ≡ false = told-right _ (sym c.in-Right.is ∙ c.size_of.ensures) in
     let inside : outside c.args.frame ≡ false = told-within _ (sym c.in-Ok.is ∙ c.frame_widths.ensures) in
     let kind-null : other_than_null c.args.frame.header.kind ≡ false = ap not (eq-eqb _ 42 c.if-header-ne42.false) in
     let hour : late asked.header.z ≡ false = told-hour _ (sym c.in-Ok-clock_of.is ∙ c.clock_of.ensures) in
@@ -125,10 +127,10 @@ returns c =
     c.field-system.ensures.0 ∙ four f.words
     ∙ ap system_coding.meant
     (head-is system_coding.widths f inside full
-    (omega (arith, c.if-frame-ne1.false))) in
+    (omega (arith, eqb-true f.n 1 (not-false (eqb f.n 1) right)))) in
     let f = asked in
     decides _
     (ap (null.Null f.n) is
     ∙ passed_here null.Refused (found f) (other_system (system_in f)) 23 []
-    (ap other_system (sym is) ∙ sym c.other_system.ensures ∙ c.if-other_system.false)
+    (ap other_system (sym is) ∙ told-granted 23 _ (sym c.in-Ok-known_of.is ∙ c.known_of.ensures))
     ∙ passed_here null.Refused (found f) (wrong_size 1 f.n) 8 (from23 f) right)

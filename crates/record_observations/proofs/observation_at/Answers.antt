@@ -10,7 +10,7 @@ use Rattle.frame.specs.declared.Layout.TheVariants as layout
 use Rattle.frame.specs.declared.Frame.{Frame}
 use Rattle.record_stages.proofs.ListLaws.{not-placed, placed_on, placed-inside, placed-head, placed-room, placed-is}
 use Rattle.record_stages.proofs.HeadLaws.{head-is}
-use Rattle.record_stages.proofs.StageLaws.{last-wrong, last-fine}
+use Rattle.record_stages.proofs.StageLaws.{told-refused, told-granted, last-wrong, last-fine}
 use Rattle.record_observations.specs.declared.ObservationRead.TheVariants as read
 use Rattle.record_observations.specs.Editions.{quantity_of}
 use Rattle.record_observations.specs.Observations.{epoch_widths, epoch_meant, epoch_in, late_time, widths, meant, coding, satellite_in, observation_at}
@@ -20,9 +20,9 @@ use Rattle.record_observations.proofs.observation_at.Goals as goal
 abbrev last : Frame → List Check
 last g = (late_time (epoch_in g), 10) ∷ []
 
-pub returns-then-is_late : goal.returns-then-is_late
+pub returns-in_default : goal.returns-in_default
 unfolding observation_at
-returns-then-is_late c =
+returns-in_default c =
     let full : length c.args.frame.words ≡ 31 = search rules in
     let is : c.epoch_from.result ≡ epoch_in c.args.frame = let a = c.args in
     c.epoch_from.ensures
@@ -33,7 +33,7 @@ returns-then-is_late c =
     (placed-head layout.Observation 24 48 a.frame a.index c.entry_place-place.result c.entry_place-place.ensures _ c.in-At.is)) in
     let a = c.args in
     last-wrong read.Refused (read.Entry (satellite_in a.edition a.frame a.index)) (late_time (epoch_in a.frame)) 10
-    (ap late_time (sym is) ∙ sym c.is_late.ensures ∙ c.if-is_late.true)
+    (ap late_time (sym is) ∙ told-refused 10 _ (sym c.in_default.is ∙ c.time_of.ensures))
     ∙ placed_on layout.Observation 24 48 a.frame a.index c.entry_place-place.result c.entry_place-place.ensures (last a.frame) read.Refused
     (read.Entry (satellite_in a.edition a.frame a.index)) _ c.in-At.is
 
@@ -42,9 +42,9 @@ entry_from-requires c =
     let a = c.args in
     placed-room layout.Observation 24 48 a.frame a.index c.entry_place-place.result c.entry_place-place.ensures _ c.in-At.is
 
-pub returns-else-is_late : goal.returns-else-is_late
+pub returns-in-Ok : goal.returns-in-Ok
 unfolding observation_at
-returns-else-is_late c =
+returns-in-Ok c =
     let full : length c.args.frame.words ≡ 31 = search rules in
     let is : c.epoch_from.result ≡ epoch_in c.args.frame = let a = c.args in
     c.epoch_from.ensures
@@ -60,7 +60,7 @@ returns-else-is_late c =
     ∙ placed-is layout.Observation 24 48 a.frame a.index c.entry_place-place.result c.entry_place-place.ensures _ c.in-At.is
     (coding a.edition q) (span-48 q) full)
     ∙ last-fine read.Refused (read.Entry (satellite_in a.edition a.frame a.index)) (late_time (epoch_in a.frame)) 10
-    (ap late_time (sym is) ∙ sym c.is_late.ensures ∙ c.if-is_late.false)
+    (ap late_time (sym is) ∙ told-granted 10 _ (sym c.in-Ok.is ∙ c.time_of.ensures))
     ∙ placed_on layout.Observation 24 48 a.frame a.index c.entry_place-place.result c.entry_place-place.ensures (last a.frame) read.Refused
     (read.Entry (satellite_in a.edition a.frame a.index)) _ c.in-At.is
 

@@ -1,9 +1,8 @@
--- `character` meets its contract. Assumes nothing.
-use mathlib.Core.Path.{◌∙◌}
-use Prim.Native.Nat.{◌*◌}
+-- `character` meets its contract: eight bits of one word. Assumes nothing.
+use native.Mathlib.Nat.{mod-lt}
 use native.Mathlib.Omega.{arith}
-use Rattle.record_fields.proofs.PackCode.{field_in_lem}
+use Rattle.record_texts.proofs.TextCode.{third}
 use Rattle.record_texts.proofs.character.Goals as goal
 
 pub returns : goal.returns
-returns c = (c.field.ensures.0 ∙ field_in_lem c.args.words (c.args.i * 8) 8 (omega arith) (omega arith), c.field.ensures.1)
+returns c = (third c.args.words.now c.args.i c.told-words c.requires, mod-lt _ (omega arith))

@@ -12,7 +12,7 @@ use Rattle.frame.specs.Widths.{outside}
 use Rattle.frame.proofs.WidthLaws.{told-within}
 use Rattle.record_stages.specs.declared.Asked.TheVariants.{Same}
 use Rattle.record_stages.specs.Stages.{asked_of}
-use Rattle.record_stages.proofs.StageLaws.{read5, read6, read7, read8, read-on, last-wrong, last-fine}
+use Rattle.record_stages.proofs.StageLaws.{read5, read6, read7, read8, read-on, last-wrong, last-fine, told-refused, told-granted}
 use Rattle.record_stages.proofs.HeadLaws.{head-is}
 use Rattle.record_generals.specs.declared.Staged.{Staged}
 use Rattle.record_generals.specs.declared.Staged.TheVariants as staged
@@ -51,19 +51,19 @@ returns-in_default-clock_of c =
     read7 layout.General f (eight f) (last f) staged.Refused (found f)
     within same (sym c.in_default-clock_of.is ∙ c.clock_of.ensures)
 
-pub returns-then-too_short : goal.returns-then-too_short
-returns-then-too_short c =
+pub returns-in_default-list_size : goal.returns-in_default-list_size
+returns-in_default-list_size c =
     let within : granted ≡ frame_widths c.args.frame = sym c.in-Ok.is ∙ c.frame_widths.ensures in
     let same : Same ≡ asked_of layout.General c.args.frame.header.kind = sym c.in-Same.is ∙ c.asked_of.ensures in
     let hour : granted ≡ clock_of c.args.frame.header.z = sym c.in-Ok-clock_of.is ∙ c.clock_of.ensures in
     let f = c.args.frame in
     read8 layout.General f (eight f) (last f) staged.Refused (found f) within same hour
-    (sym c.too_short.ensures ∙ c.if-too_short.true)
+    (told-refused 8 _ (sym c.in_default-list_size.is ∙ c.list_size.ensures))
 
-pub returns-then-other_system : goal.returns-then-other_system
-returns-then-other_system c =
+pub returns-in_default-known_of : goal.returns-in_default-known_of
+returns-in_default-known_of c =
     let within : granted ≡ frame_widths c.args.frame = sym c.in-Ok.is ∙ c.frame_widths.ensures in
-    let right : eight c.args.frame ≡ false = sym c.too_short.ensures ∙ c.if-too_short.false in
+    let right : eight c.args.frame ≡ false = told-granted 8 _ (sym c.in-Ok-list_size.is ∙ c.list_size.ensures) in
     let full : length c.args.frame.words ≡ 31 = search rules in
     let is : c.head_from-head.result ≡ head_in c.args.frame = let f = c.args.frame in
     c.head_from-head.ensures
@@ -77,12 +77,12 @@ returns-then-other_system c =
     let f = c.args.frame in
     last-decides (staged.Refused 23)
     (last-wrong staged.Refused (found f) (other_system (head_in f).system) 23
-    (ap (λ (a : GeneralHead). other_system a.system) (sym is) ∙ sym c.other_system.ensures ∙ c.if-other_system.true))
+    (ap (λ (a : GeneralHead). other_system a.system) (sym is) ∙ told-refused 23 _ (sym c.in_default-known_of.is ∙ c.known_of.ensures)))
 
 pub returns : goal.returns
 returns c =
     let within : granted ≡ frame_widths c.args.frame = sym c.in-Ok.is ∙ c.frame_widths.ensures in
-    let right : eight c.args.frame ≡ false = sym c.too_short.ensures ∙ c.if-too_short.false in
+    let right : eight c.args.frame ≡ false = told-granted 8 _ (sym c.in-Ok-list_size.is ∙ c.list_size.ensures) in
     let full : length c.args.frame.words ≡ 31 = search rules in
     let is : c.head_from-head.result ≡ head_in c.args.frame = let f = c.args.frame in
     c.head_from-head.ensures
@@ -97,4 +97,4 @@ returns c =
     last-decides (staged.List c.delay_width.result)
     (ap staged.List (c.delay_width.ensures.0 ∙ ap (λ (a : GeneralHead). delay_width a.ionosphere) is)
     ∙ last-fine staged.Refused (found f) (other_system (head_in f).system) 23
-    (ap (λ (a : GeneralHead). other_system a.system) (sym is) ∙ sym c.other_system.ensures ∙ c.if-other_system.false))
+    (ap (λ (a : GeneralHead). other_system a.system) (sym is) ∙ told-granted 23 _ (sym c.in-Ok-known_of.is ∙ c.known_of.ensures)))

@@ -1,4 +1,4 @@
--- `put` meets its contract: the start, word 1, word 2 and the data words, one after the other. Assumes nothing.
+-- `put` meets its contract: the start, then the data words one after the other. Assumes nothing.
 use mathlib.Core.Path.{◌≡◌}
 use Prim.Native.Nat.{◌+◌, ◌*◌}
 use lib.ListN.{drop}

@@ -1,27 +1,23 @@
--- `words_at` meets its contract: by a loop that fills the array word by word. Assumes nothing.
-use mathlib.Core.Path.{◌≡◌, ap, ◌∙◌}
-use mathlib.Core.List.{◌++◌}
-use Prim.Native.Nat.{ℕ, ◌+◌, ◌-◌, ◌<◌}
+-- `words_at` meets its contract: by a loop that reads each word into its place. Assumes nothing.
+use mathlib.Core.Path.{◌≡◌, refl}
+use Prim.Native.Nat.{◌+◌, ◌*◌}
 use native.Mathlib.Omega.{arith}
-use lib.ListN.{drop, length-take, replicate}
+use lib.ListN.{length, drop}
 use Rattle.journal.specs.Bytes.{words_from}
-use Rattle.journal.proofs.TurnLaws.{fill_start, fill_turn, fill-end}
+use Rattle.journal.proofs.TurnLaws.{read_turn, read_all}
 use Rattle.journal.proofs.form.Form.words_at.Goals as goal
 
 pub loop-i-init : goal.loop-i-init
 unfolding words_from
-loop-i-init c = fill_start 33 (c.args.n + 2) (omega arith)
+loop-i-init c = refl
 
 pub loop-i-preserved : goal.loop-i-preserved
 loop-i-preserved c =
     let a = c.args in
-    let inside : c.loop-i.i < a.n + 2 = omega (arith, length-take {A = ℕ} (a.n + 2) (replicate 33 0)) in
-    fill_turn a.self.size (a.n + 2) 3 c.loop-i.i a.bytes.now c.loop-i.word-items inside c.loop-i.invariant c.word_at.ensures
+    read_turn a.self.size (3 + 2 * a.self.size) c.loop-i.i a.bytes.now a.words.now c.loop-i.words c.loop-i-test.true c.loop-i.invariant c.word_at.ensures
 
 pub returns : goal.returns
 returns c =
     let a = c.args in
-    let all : c.loop-i.i ≡ a.n + 2 = omega (arith, length-take {A = ℕ} (a.n + 2) (replicate 33 0)) in
-    let left : 33 - (a.n + 2) ≡ 31 - a.n = omega arith in
-    fill-end (λ j. words_from a.self.size j (drop 3 a.bytes.now)) 33 (a.n + 2) c.loop-i.i c.loop-i.word-items all c.loop-i.invariant
-    ∙ ap (λ j. words_from a.self.size (a.n + 2) (drop 3 a.bytes.now) ++ replicate j 0) left
+    let all : c.loop-i.i ≡ length a.words.now = omega arith in
+    read_all a.self.size c.loop-i.i (drop (3 + 2 * a.self.size) a.bytes.now) a.words.now c.loop-i.words all c.loop-i.invariant

@@ -1,10 +1,10 @@
--- `any_forbidden` meets its contract: what is left decides. Assumes nothing.
+-- `characters_of` meets its contract: what is left decides. Assumes nothing.
 use mathlib.Core.Path.{◌≡◌}
 use lib.ListN.{drop}
 use Rattle.bits.specs.Rows.{data_bits}
 use Rattle.frame.specs.Widths.{any_of}
 use Rattle.record_texts.specs.Texts.{characters, forbidden}
-use Rattle.record_texts.proofs.any_forbidden.Given as goal
+use Rattle.record_texts.proofs.characters_of.Given as goal
 
 abbrev pub invariant-loop-i : goal.invariant-loop-i
 invariant-loop-i l =
